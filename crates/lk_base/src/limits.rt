@@ -1,0 +1,7 @@
+//! The ranges of the numbers that peers share.
+
+/// The greatest magnitude of a beat in microbeats, of a time or of a stamp in microseconds: 2^60.
+pub const LIMIT: i64 = 1_152_921_504_606_846_976;
+
+/// The greatest moment, in microseconds of host time: 2^55, more than a thousand years.
+pub const MOMENT_MAX: i64 = 36_028_797_018_963_968;
