@@ -1,0 +1,13 @@
+use Rattle.std.proofs.Common.{◌≡◌, ◌<◌, ◌+◌, ◌-◌, vec_len}
+use Rattle.lk_outside.specs.Source.{Takes}
+use Rattle.lk_outside.proofs.transfer.read_all.Given as goal
+
+abbrev pub invariant-loop-source : goal.invariant-loop-source
+invariant-loop-source g l = record {
+  room : 0 < vec_len l.piece;
+  taken : Takes (g.S.Source.left l.initial.source) l.bytes.items (g.S.Source.left l.source);
+  faults : g.S.Source.faults l.source ≡ g.S.Source.faults l.initial.source;
+}
+
+abbrev pub decreases-loop-source : goal.decreases-loop-source
+decreases-loop-source g l = l.limit + 1 - vec_len l.bytes

@@ -1,0 +1,98 @@
+//! Reading a whole text from a source, and writing one to a sink.
+
+ghost use Rattle.std.specs.Prelude.{◌≡◌, ◌≤◌, [], length, IfOk, IsErrOf, IsTrue};
+ghost use Rattle.std.specs.Bool.{OnTrue, OnFalse};
+ghost use Rattle.lk_outside.specs.Faults.{Rose};
+ghost use Rattle.lk_outside.specs.Sink.{Appends};
+ghost use Rattle.lk_outside.specs.Transfer.{ReadsWhole, TakesMoreThan, TakesWithin, AppendsPrefix};
+
+use crate::{Put, Sink, Source, Taken};
+use std::alloc::{AllocError, Global};
+
+// The most bytes that a read is asked for.
+const PIECE: usize = 65_536;
+
+/// Why a whole text was not read.
+#[derive(Clone, Copy, Debug, PartialEq, Eq)]
+pub enum InputFault {
+    /// The source failed.
+    Failed,
+    /// The text has more bytes than the limit.
+    TooLong,
+    /// There was no memory for the text.
+    Memory(AllocError),
+}
+
+/// Reads a source to its end.
+///
+/// `Ok` has all bytes taken, in order, once the source has answered that nothing is left. `Failed` is
+/// the source's failure, before which at most `limit` bytes were taken. `TooLong` comes as soon as
+/// more than `limit` bytes were taken: at most `limit` and a piece of 65,536. `Memory` is want of
+/// memory, and no failure of the source.
+///
+/// Waits: in the source's reads alone. Memory: a piece, before the first read, and the text.
+pub fn read_all<S: Source>(
+    alloc: Global,
+    source: &mut S,
+    limit: usize,
+) -> Result<Vec<u8>, InputFault>
+    ensures whole { IfOk result
+        (λ bytes. ReadsWhole (S.left source.old) bytes.items (S.left source.new)) }
+    ensures within { IfOk result (λ bytes. length bytes.items ≤ limit) }
+    ensures too_long { IsErrOf result InputFault.TooLong
+        → TakesMoreThan limit (S.left source.old) (S.left source.new) }
+    ensures failed { IsErrOf result InputFault.Failed
+        → TakesWithin limit (S.left source.old) (S.left source.new) }
+
+    // The count rises with the answer `Failed`, and stays with any other.
+    ensures cause { IsErrOf result InputFault.Failed
+        → Rose (S.faults source.old) (S.faults source.new) }
+    ensures quiet { ¬ (IsErrOf result InputFault.Failed)
+        → S.faults source.new ≡ S.faults source.old }
+{
+    let mut piece = zeros(alloc, PIECE).map_err(InputFault::Memory)?;
+    let mut bytes = Vec::new(alloc);
+    while bytes.len() <= limit {
+        match source.read(&mut piece) {
+            Taken::Got(count) => {
+                bytes
+                    .extend_from_slice(&piece[..count])
+                    .map_err(InputFault::Memory)?;
+            }
+            Taken::End => return Ok(bytes),
+            Taken::Failed => return Err(InputFault::Failed),
+        }
+    }
+    Err(InputFault::TooLong)
+}
+
+// So many bytes, each of them 0.
+fn zeros(alloc: Global, count: usize) -> Result<Vec<u8>, AllocError>
+    ensures { IfOk result (λ bytes. length bytes.items ≡ count) }
+{
+    vec![in alloc; 0u8; count]
+}
+
+/// Writes all of `bytes` to a sink.
+///
+/// True where all of them were appended. False is the sink's failure, before which a prefix was
+/// appended. With empty bytes the sink isn't called, and the answer is true.
+///
+/// Waits: in the sink's writes alone. Memory: none.
+pub fn write_whole<K: Sink>(sink: &mut K, bytes: &[u8]) -> bool
+    ensures whole { OnTrue result (Appends (K.written sink.old) bytes.now (K.written sink.new)) }
+    ensures part { OnFalse result
+        (AppendsPrefix (K.written sink.old) bytes.now (K.written sink.new)) }
+    ensures quiet { OnTrue result (K.faults sink.new ≡ K.faults sink.old) }
+    ensures cause { OnFalse result (Rose (K.faults sink.old) (K.faults sink.new)) }
+    ensures empty { bytes.now ≡ [] → IsTrue result × (sink.new ≡ sink.old) }
+{
+    let mut done = 0;
+    while done < bytes.len() {
+        match sink.write(&bytes[done..]) {
+            Put::Took(count) => done += count,
+            Put::Failed => return false,
+        }
+    }
+    true
+}
