@@ -1,0 +1,6 @@
+pub mod Spelling
+pub mod Datagram
+pub use Rattle.link_payload.specs.Entries
+pub use Rattle.link_payload.specs.Spelling as Payload
+pub use Rattle.link_payload.specs.Fields
+pub use Rattle.link_payload.specs.Ranges

@@ -1,0 +1,20 @@
+-- How discovery messages are spelled.
+use Rattle.std.specs.Prelude.{ℕ, List, ◌∷◌, ◌++◌, codes}
+use Rattle.byteorder.specs.Endian.{big_bytes}
+use Rattle.lk_base.specs.declared.ids.NodeId.{NodeId}
+use Rattle.link_payload.specs.declared.fields.PeerFields.{PeerFields}
+use Rattle.link_payload.specs.Spelling.{spelled_state_of}
+use Rattle.asdp_messages.specs.declared.message.StateMsg.{StateMsg}
+
+-- `_asdp_v`, 1, the kind, the time to live, the group in two bytes, the sender's id: 20 bytes
+unfoldable pub spelled_header_of : ℕ → ℕ → ℕ → NodeId → List ℕ
+spelled_header_of kind ttl group from =
+    codes "_asdp_v" ++ 1 ∷ kind ∷ ttl ∷ (big_bytes 2 group ++ from.0)
+
+-- kind 2 and a time to live of 5 seconds
+unfoldable pub spelled_response_of : NodeId → ℕ → PeerFields → List ℕ
+spelled_response_of from group fields = spelled_header_of 2 5 group from ++ spelled_state_of fields
+
+-- kind 1, whatever its time to live
+unfoldable pub spelled_alive_of : StateMsg → List ℕ
+spelled_alive_of msg = spelled_header_of 1 msg.ttl msg.group msg.from ++ spelled_state_of msg.fields

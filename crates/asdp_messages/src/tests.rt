@@ -1,0 +1,270 @@
+use crate::{StateMsg, read_plain_alive, write_response};
+use link_payload::PeerFields;
+use lk_base::{Endpoint, NodeId, SessionStart, Timeline, Wire};
+
+const HEADER: &[u8] = b"_asdp_v\x01\x01\x05\0\0ABCDEFGH";
+
+const TIMELINE: &[u8] = b"tmln\0\0\0\x18\0\0\0\0\0\x07\xa1\x20\0\0\0\0\0\0\0\0\0\0\0\0\0\0\0\0";
+
+const SESSION: &[u8] = b"sess\0\0\0\x08ABCDEFGH";
+
+const START: &[u8] = b"stst\0\0\0\x11\0\0\0\0\0\0\0\0\0\0\0\0\0\0\0\0\0";
+
+const ENDPOINT: &[u8] = b"mep4\0\0\0\x06\x7f\0\0\x01\x51\x48";
+
+const MESSAGE: StateMsg = StateMsg {
+    from: NodeId(*b"ABCDEFGH"),
+    ttl: 5,
+    group: 0,
+    fields: PeerFields {
+        timeline: Timeline {
+            mpb: 500_000,
+            beat: 0,
+            time: 0,
+        },
+        session: NodeId(*b"ABCDEFGH"),
+        start: SessionStart {
+            playing: false,
+            beats: 0,
+            stamp: 0,
+        },
+        endpoint: Some(Endpoint {
+            addr: 0x7f00_0001,
+            port: 20_808,
+        }),
+    },
+};
+
+// What stands before a beat origin, and before a tempo.
+const BEAT_HEAD: &[u8] = b"tmln\0\0\0\x18\0\0\0\0\0\x07\xa1\x20";
+
+const MPB_HEAD: &[u8] = b"tmln\0\0\0\x18";
+
+const ZERO: &[u8] = &[0; 8];
+
+fn joined(parts: &[&[u8]]) -> Wire {
+    let mut out = Wire::new();
+    for part in parts {
+        let _appended = out.try_extend_from_slice(part);
+    }
+    out
+}
+
+fn with_beat(beat: &[u8]) -> Wire {
+    joined(&[HEADER, BEAT_HEAD, beat, ZERO, SESSION, START, ENDPOINT])
+}
+
+fn with_mpb(mpb: &[u8]) -> Wire {
+    joined(&[HEADER, MPB_HEAD, mpb, ZERO, ZERO, SESSION, START, ENDPOINT])
+}
+
+fn with_header(header: &[u8]) -> Wire {
+    joined(&[header, TIMELINE, SESSION, START, ENDPOINT])
+}
+
+fn message_at(mpb: i64, beat: i64) -> StateMsg {
+    let timeline = Timeline { mpb, beat, time: 0 };
+    let fields = PeerFields {
+        timeline,
+        ..MESSAGE.fields
+    };
+    StateMsg { fields, ..MESSAGE }
+}
+
+#[test]
+fn an_alive_is_read_field_by_field(rt: HostRuntime) {
+    assert_eq!(rt; read_plain_alive(&with_header(HEADER)), Some(MESSAGE));
+    let other: &[&[u8]] = &[
+        HEADER,
+        b"tmln\0\0\0\x18\0\0\0\0\0\0\x01\x01\0\0\0\0\0\0\x02\x02\xff\xff\xff\xff\xff\xff\xff\xfe",
+        b"sess\0\0\0\x08QRSTUVWX",
+        b"stst\0\0\0\x11\x01\0\0\0\0\0\0\0\x03\0\0\0\0\0\0\0\x04",
+        b"mep4\0\0\0\x06\x01\x02\x03\x04\x05\x06",
+    ];
+    let fields = PeerFields {
+        timeline: Timeline {
+            mpb: 257,
+            beat: 514,
+            time: -2,
+        },
+        session: NodeId(*b"QRSTUVWX"),
+        start: SessionStart {
+            playing: true,
+            beats: 3,
+            stamp: 4,
+        },
+        endpoint: Some(Endpoint {
+            addr: 0x0102_0304,
+            port: 0x0506,
+        }),
+    };
+    assert_eq!(rt;
+        read_plain_alive(&joined(other)),
+        Some(StateMsg { fields, ..MESSAGE })
+    );
+}
+
+#[test]
+fn a_damaged_alive_is_not_read(rt: HostRuntime) {
+    let damaged: &[(&str, Wire)] = &[
+        (
+            "three bytes less",
+            joined(&[HEADER, TIMELINE, SESSION, START, b"mep4\0\0\0\x06\x7f\0\0"]),
+        ),
+        (
+            "one byte more",
+            joined(&[HEADER, TIMELINE, SESSION, START, ENDPOINT, b"\0"]),
+        ),
+        (
+            "a response",
+            with_header(b"_asdp_v\x01\x02\x05\0\0ABCDEFGH"),
+        ),
+        (
+            "another version",
+            with_header(b"_asdp_v\x02\x01\x05\0\0ABCDEFGH"),
+        ),
+        (
+            "another protocol",
+            with_header(b"_link_v\x01\x01\x05\0\0ABCDEFGH"),
+        ),
+        (
+            "a timeline of 25 bytes",
+            joined(&[
+                HEADER,
+                b"tmln\0\0\0\x19\0\0\0\0\0\x07\xa1\x20",
+                ZERO,
+                ZERO,
+                SESSION,
+                START,
+                ENDPOINT,
+            ]),
+        ),
+        (
+            "session before timeline",
+            joined(&[HEADER, SESSION, TIMELINE, START, ENDPOINT]),
+        ),
+        (
+            "a playing byte of 2",
+            joined(&[
+                HEADER,
+                TIMELINE,
+                SESSION,
+                b"stst\0\0\0\x11\x02",
+                ZERO,
+                ZERO,
+                ENDPOINT,
+            ]),
+        ),
+        ("a tempo of 0", with_mpb(ZERO)),
+        ("a tempo above 2^31", with_mpb(b"\0\0\0\0\x80\0\0\x01")),
+        ("a beat above 2^60", with_beat(b"\x10\0\0\0\0\0\0\x01")),
+        (
+            "a beat below -2^60",
+            with_beat(b"\xef\xff\xff\xff\xff\xff\xff\xff"),
+        ),
+        ("no endpoint", joined(&[HEADER, TIMELINE, SESSION, START])),
+        ("nothing", Wire::new()),
+    ];
+    for (damage, bytes) in damaged {
+        assert_eq!(rt; read_plain_alive(bytes), None, "{damage}");
+    }
+}
+
+#[test]
+fn the_ends_of_each_range_are_read(rt: HostRuntime) {
+    let limit = 1_152_921_504_606_846_976;
+    let edges: &[(Wire, StateMsg)] = &[
+        (with_mpb(b"\0\0\0\0\0\0\0\x01"), message_at(1, 0)),
+        (
+            with_mpb(b"\0\0\0\0\x80\0\0\0"),
+            message_at(2_147_483_648, 0),
+        ),
+        (with_beat(b"\x10\0\0\0\0\0\0\0"), message_at(500_000, limit)),
+        (
+            with_beat(b"\xf0\0\0\0\0\0\0\0"),
+            message_at(500_000, -limit),
+        ),
+        (
+            with_header(b"_asdp_v\x01\x01\0\0\0ABCDEFGH"),
+            StateMsg { ttl: 0, ..MESSAGE },
+        ),
+        (
+            with_header(b"_asdp_v\x01\x01\xff\0\0ABCDEFGH"),
+            StateMsg {
+                ttl: 255,
+                ..MESSAGE
+            },
+        ),
+        (
+            with_header(b"_asdp_v\x01\x01\x05\xff\xffABCDEFGH"),
+            StateMsg {
+                group: 65_535,
+                ..MESSAGE
+            },
+        ),
+    ];
+    for (bytes, message) in edges {
+        assert_eq!(rt; read_plain_alive(bytes), Some(*message));
+    }
+    let no_port = joined(&[
+        HEADER,
+        TIMELINE,
+        SESSION,
+        START,
+        b"mep4\0\0\0\x06\x7f\0\0\x01\0\0",
+    ]);
+    let endpoint = Some(Endpoint {
+        addr: 0x7f00_0001,
+        port: 0,
+    });
+    let fields = PeerFields {
+        endpoint,
+        ..MESSAGE.fields
+    };
+    assert_eq!(rt;
+        read_plain_alive(&no_port),
+        Some(StateMsg { fields, ..MESSAGE })
+    );
+}
+
+#[test]
+fn a_response_is_written_byte_for_byte(rt: HostRuntime) {
+    let from = NodeId(*b"QRSTUVWX");
+    let endpoint = Some(Endpoint {
+        addr: 0x7f00_0001,
+        port: 20_809,
+    });
+    let fields = PeerFields {
+        session: from,
+        endpoint,
+        ..MESSAGE.fields
+    };
+    let header = b"_asdp_v\x01\x02\x05\0\0QRSTUVWX";
+    let session = b"sess\0\0\0\x08QRSTUVWX";
+    let whole = joined(&[
+        header,
+        TIMELINE,
+        session,
+        START,
+        b"mep4\0\0\0\x06\x7f\0\0\x01\x51\x49",
+    ]);
+    assert_eq!(rt;
+        write_response(from, 0, &fields).as_slice(),
+        whole.as_slice()
+    );
+    let unreachable = PeerFields {
+        endpoint: None,
+        ..fields
+    };
+    let three = joined(&[
+        b"_asdp_v\x01\x02\x05\x12\x34QRSTUVWX",
+        TIMELINE,
+        session,
+        START,
+    ]);
+    assert_eq!(rt;
+        write_response(from, 0x1234, &unreachable).as_slice(),
+        three.as_slice()
+    );
+    assert_eq!(rt; three.len(), 93);
+}
