@@ -12,3 +12,7 @@ IsWithinLimit z = IsWithin (2 ^ 60) z
 -- a host time that an event may carry
 abbrev pub IsMoment : ℤ → Type 0
 IsMoment z = (pos 0 ≤ℤ z) × (z ≤ℤ pos (2 ^ 55))
+
+-- a length in microbeats that phases are counted in; 0 is none
+abbrev pub IsQuantum : ℤ → Type 0
+IsQuantum z = (pos 0 ≤ℤ z) × (z ≤ℤ pos (2 ^ 40))

@@ -1,19 +1,25 @@
-//! The types and ranges that every crate of the runtime shares: node ids, endpoints, timelines,
-//! session starts and the bytes of one datagram.
+//! The types, ranges and roundings that every crate of the runtime shares: node ids and their source,
+//! endpoints, timelines, starts, blocks of audio time and the bytes of one datagram.
 //!
-//! In reading order: `limits`, `ids`, `endpoint`, `timeline`, `start`, `wire`.
+//! In reading order: `limits`, `rounding`, `ids`, `endpoint`, `timeline`, `start`, `block`, `wire`.
 #![tactic(auto)]
 
+mod block;
 mod endpoint;
 mod ids;
 mod limits;
+mod rounding;
 mod start;
+#[cfg(test)]
+mod tests;
 mod timeline;
 mod wire;
 
-pub use endpoint::{Endpoint, Gate};
-pub use ids::NodeId;
+pub use block::{Block, Click, Clicks};
+pub use endpoint::{Endpoint, Gate, Target};
+pub use ids::{IdSource, NodeId};
 pub use limits::{LIMIT, MOMENT_MAX};
-pub use start::SessionStart;
+pub use rounding::{clip, near, one_nearest};
+pub use start::{ClientStart, SessionStart};
 pub use timeline::Timeline;
 pub use wire::Wire;

@@ -1,0 +1,11 @@
+-- Timelines whose numbers are in their ranges.
+use Rattle.std.specs.Prelude.{pos, ◌^◌, ◌≤ℤ◌}
+use Rattle.lk_base.specs.Ranges.{IsWithin}
+use Rattle.lk_base.specs.declared.timeline.Timeline.{Timeline}
+
+-- the tempo is in its range, and both origins are within the limit
+pub record IsTidy (tl : Timeline) : Type 0 where
+  pub slowest : tl.mpb ≤ℤ pos 3_000_000
+  pub fastest : pos 60_060 ≤ℤ tl.mpb
+  pub beat : IsWithin (2 ^ 60) tl.beat
+  pub time : IsWithin (2 ^ 60) tl.time
