@@ -1,0 +1,13 @@
+mod WordLemmas
+mod LineLemmas
+mod NumberLemmas
+mod EndpointLemmas
+mod HeadLemmas
+mod ArrivalLemmas
+mod ScriptLemmas
+mod DigitLemmas
+mod OutletLemmas
+mod ReplayLemmas
+mod CommandLemmas
+mod StatusLemmas
+mod OneStatusLemmas

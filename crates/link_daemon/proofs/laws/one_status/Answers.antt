@@ -1,0 +1,5 @@
+use Rattle.link_daemon.proofs.OneStatusLemmas.{one_status}
+use Rattle.link_daemon.proofs.laws.one_status.Goals as goal
+
+pub returns : goal.returns
+returns c = one_status

@@ -1,0 +1,9 @@
+pub mod Words
+pub mod Lines
+pub mod Script
+pub mod Reading
+pub mod Faults
+pub mod Outlet
+pub mod ReplayText
+pub mod Statuses
+pub mod OneStatus

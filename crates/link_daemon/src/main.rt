@@ -1,0 +1,58 @@
+//! The program: its commands, and the real things that it reads from and writes to.
+//!
+//! In reading order: `top` (the top call), `command_line`, `status`, `laws`; `replay`, `replay_lines`, `line_buffer`, `outlet`; the reader of a script,
+//! `script`, `head`, `arrival`, `line`, `word`, `number`, `truth`, `node_id`, `endpoint`, `hex_word`; `adapters`.
+#![tactic(auto)]
+
+mod adapters;
+mod arrival;
+mod command_line;
+mod endpoint;
+mod head;
+mod hex_word;
+mod laws;
+mod line;
+mod line_buffer;
+mod node_id;
+mod number;
+mod outlet;
+mod replay;
+mod replay_lines;
+mod script;
+mod status;
+#[cfg(test)]
+mod tests;
+mod top;
+mod truth;
+mod word;
+
+use crate::adapters::{StdSink, StdSource};
+use crate::status::Status;
+use crate::top::link_main;
+use std::env;
+use std::io::ErrorKind;
+use std::process::ExitCode;
+
+fn main(rt: HostRuntime) -> ExitCode {
+    let status = run(&rt);
+    if status != Status::Done {
+        let _printed = eprintln!(rt; "jorazhil: {status}");
+    }
+    ExitCode::from(status.number())
+}
+
+// Runs the command of the words after the program's name over the standard streams.
+fn run(rt: &HostRuntime) -> Status {
+    let args = match env::args(rt) {
+        Ok(args) => args,
+        Err(error) if error.kind() == ErrorKind::OutOfMemory => return Status::Memory,
+        // A word that is no text is no word of a command.
+        Err(_) => return Status::Words,
+    };
+    let Ok(words) = args.skip(1).collect::<Vec<String>>(rt.alloc()) else {
+        return Status::Memory;
+    };
+    let mut input = StdSource::new(rt.stdin());
+    let mut out = StdSink::new(rt.stdout());
+    link_main(rt.alloc(), &words, &mut input, &mut out)
+}

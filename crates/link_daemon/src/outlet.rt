@@ -1,0 +1,79 @@
+//! Lines on their way to a sink, which gets them in large pieces.
+
+ghost use Rattle.std.specs.Prelude.{◌≡◌, ◌≤◌, ◌+◌, ◌++◌, [], length, IfOk};
+ghost use Rattle.std.specs.Bool.{OnTrue, OnFalse};
+ghost use Rattle.std.specs.Vec.{vec_capacity};
+ghost use Rattle.lk_outside.specs.Faults.{Rose};
+ghost use Rattle.lk_outside.specs.Sink.{Appends};
+ghost use Rattle.lk_outside.specs.Transfer.{AppendsPrefix};
+ghost use Rattle.link_daemon.specs.Outlet.{HandsOver, HandsPart};
+
+use lk_outside::{Sink, write_whole};
+use std::alloc::{AllocError, Global};
+
+/// How many bytes are gathered at most.
+const ROOM: usize = 65_536;
+
+/// The longest line that may be handed over, as `LineBuf` holds it.
+const LONGEST_LINE: usize = 1200;
+
+/// Bytes that were handed over and aren't written yet.
+#[derive(Debug, Drop)]
+pub struct Outlet {
+    pub kept: Vec<u8>,
+    ghost reserved: { 65_536 ≤ vec_capacity kept },
+    ghost within: { length kept.items ≤ 65_536 },
+}
+
+impl Outlet {
+    /// An empty outlet. It takes the memory that it will ever need.
+    pub fn new(alloc: Global) -> Result<Self, AllocError>
+        ensures { IfOk result (λ outlet. outlet.kept.items ≡ []) }
+    {
+        Ok(Outlet {
+            kept: Vec::with_capacity(alloc, ROOM)?,
+        })
+    }
+
+    /// Hands over a line. Where there might be no room for it, what is kept is written first. False is the sink's failure.
+    pub fn put_line<K: Sink>(&mut self, out: &mut K, line: &[u8]) -> bool
+        requires { length line.now ≤ 1200 }
+        ensures kept { OnTrue result (HandsOver line.now (K.written out.old) self.old.kept.items (K.written out.new) self.new.kept.items) }
+        ensures part { OnFalse result (HandsPart line.now (K.written out.old) self.old.kept.items (K.written out.new)) }
+        ensures quiet { OnTrue result (K.faults out.new ≡ K.faults out.old) }
+        ensures cause { OnFalse result (Rose (K.faults out.old) (K.faults out.new)) }
+    {
+        if self.kept.len() <= ROOM - LONGEST_LINE {
+            self.keep(line);
+            return true;
+        }
+        if !self.flush(out) {
+            return false;
+        }
+        self.keep(line);
+        true
+    }
+
+    // Keeps a line for which there is room.
+    fn keep(&mut self, line: &[u8])
+        requires { length self.old.kept.items + length line.now ≤ 65_536 }
+        ensures { self.new.kept.items ≡ self.old.kept.items ++ line.now }
+    {
+        self.kept.extend_from_slice(line).unwrap();
+    }
+
+    /// Writes what is kept. False is the sink's failure.
+    pub fn flush<K: Sink>(&mut self, out: &mut K) -> bool
+        ensures emptied { OnTrue result (self.new.kept.items ≡ []) }
+        ensures whole { OnTrue result (Appends (K.written out.old) self.old.kept.items (K.written out.new)) }
+        ensures part { OnFalse result (AppendsPrefix (K.written out.old) self.old.kept.items (K.written out.new)) }
+        ensures quiet { OnTrue result (K.faults out.new ≡ K.faults out.old) }
+        ensures cause { OnFalse result (Rose (K.faults out.old) (K.faults out.new)) }
+    {
+        if !write_whole(out, &self.kept) {
+            return false;
+        }
+        self.kept.clear();
+        true
+    }
+}

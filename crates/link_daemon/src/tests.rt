@@ -1,0 +1,97 @@
+//! Whole runs over objects in memory.
+
+mod faults;
+mod grammar;
+mod runs;
+
+ghost use Rattle.std.specs.Prelude.{◌<◌};
+
+use crate::status::Status;
+use crate::top::link_main;
+use lk_outside::{BytesSink, BytesSource};
+use std::alloc::{AllocError, Global};
+
+/// The three lines of a head, as a node of its own.
+pub const HEAD: &str = "replay 1\nnode QRSTUVWX 1 500000 1 1000000\ngate 127.0.0.1:20809\n";
+
+/// An alive of the node ABCDEFGH in its own session: 500000 microseconds per beat from beat 0 at time 0, no start, the endpoint 127.0.0.1:20808.
+pub const ALIVE: &str =
+    "5f617364705f7601010500004142434445464748746d6c6e00000018000000000007a1200000000000000000000000000000000073657373000000084142434445464748737473740000001100000000000000000000000000000000006d657034000000067f0000015148";
+
+/// What the node of the head answers.
+pub const RESPONSE: &str =
+    "5f617364705f7601020500005152535455565758746d6c6e00000018000000000007a1200000000000000000000000000000000073657373000000085152535455565758737473740000001100000000000000000000000000000000006d657034000000067f0000015149";
+
+/// What a run came to, and what it wrote.
+#[derive(Debug, Drop)]
+pub struct Outcome {
+    pub status: Status,
+    pub written: Vec<u8>,
+}
+
+/// How the objects of a run behave: how many bytes a call moves at most, and which calls fail.
+#[derive(Clone, Copy)]
+pub struct Objects {
+    pub most: usize,
+    /// The number of the read that fails, from 1; 0 for none.
+    pub bad_read: u64,
+    /// The number of the write that fails, from 1; 0 for none.
+    pub bad_write: u64,
+    ghost moves: { 0 < most },
+}
+
+/// Objects that move a byte a call, where a read or a write fails.
+pub fn slow(bad_read: u64, bad_write: u64) -> Objects {
+    Objects {
+        most: 1,
+        bad_read,
+        bad_write,
+    }
+}
+
+/// Objects that never fail.
+pub fn sound() -> Objects {
+    Objects {
+        most: 4096,
+        bad_read: 0,
+        bad_write: 0,
+    }
+}
+
+/// Runs the program on these words and this input.
+pub fn run(
+    alloc: Global,
+    words: &[&str],
+    input: &[u8],
+    objects: Objects,
+) -> Result<Outcome, AllocError> {
+    let mut spelled = Vec::new(alloc);
+    for word in words {
+        spelled.push(String::from_str(alloc, word)?)?;
+    }
+    let mut source = BytesSource::new(
+        Vec::from_slice(alloc, input)?,
+        objects.most,
+        failing(alloc, objects.bad_read)?,
+    );
+    let mut sink = BytesSink::new(
+        alloc,
+        100_000,
+        objects.most,
+        failing(alloc, objects.bad_write)?,
+    )?;
+    let status = link_main(alloc, &spelled, &mut source, &mut sink);
+    Ok(Outcome {
+        status,
+        written: Vec::from_slice(alloc, sink.bytes())?,
+    })
+}
+
+// The list of the one call that fails: reads and writes are each the first kind of their object.
+fn failing(alloc: Global, call: u64) -> Result<Vec<(u8, u64)>, AllocError> {
+    let mut calls = Vec::new(alloc);
+    if call > 0 {
+        calls.push((0, call))?;
+    }
+    Ok(calls)
+}
