@@ -1,0 +1,9 @@
+pub mod Beats
+pub mod Tidying
+pub mod Quantum
+pub mod Encoding
+pub mod Clicks
+pub mod Metronome
+pub use Rattle.lk_base.specs.Ranges
+pub use Rattle.lk_base.specs.Rounding
+pub use Rattle.lk_base.specs.Timeline

@@ -1,0 +1,48 @@
+//! What holds of the definitions: each law is the contract of a function with an empty body.
+
+ghost use Rattle.std.specs.Prelude.{◌≡◌, pos, ◌+◌, ◌*◌, ◌≤◌, ◌+ℤ◌, ◌-ℤ◌, ◌≤ℤ◌, ◌↔◌, IsTrue, unsigned_abs};
+ghost use Rattle.lk_base.specs.Ranges.{IsQuantum};
+ghost use Rattle.lk_base.specs.Timeline.{IsTidy};
+ghost use Rattle.timeline_math.specs.Beats.{beat_at, time_at};
+ghost use Rattle.timeline_math.specs.Clicks.{clicks_at, Passes};
+ghost use Rattle.timeline_math.specs.Encoding.{encoded_beat};
+ghost use Rattle.timeline_math.specs.Quantum.{phase_of};
+ghost use Rattle.timeline_math.specs.Tidying.{tidy_of};
+
+use lk_base::Timeline;
+
+/// A later time has no earlier beat.
+pub fn beats_rise(tl: &Timeline, earlier: i64, later: i64)
+    requires tidy { IsTidy tl.now }
+    requires order { earlier ≤ℤ later }
+    ensures { beat_at tl.now earlier ≤ℤ beat_at tl.now later }
+{}
+
+/// A later beat has no earlier time.
+pub fn times_rise(tl: &Timeline, earlier: i64, later: i64)
+    requires tidy { IsTidy tl.now }
+    requires order { earlier ≤ℤ later }
+    ensures { time_at tl.now earlier ≤ℤ time_at tl.now later }
+{}
+
+/// A tidied timeline is tidy, and tidying it again changes nothing.
+pub fn tidying_settles(tl: &Timeline)
+    ensures tidy { IsTidy (tidy_of tl.now) }
+    ensures again { tidy_of (tidy_of tl.now) ≡ tidy_of tl.now }
+{}
+
+/// An encoded beat has the phase of the beat's place past the origin, and lies at most half a quantum,
+/// rounded up, from the beat.
+pub fn encoded_beats_keep_phase(tl: &Timeline, time: i64, quantum: i64)
+    requires { IsQuantum quantum }
+    ensures phase { phase_of (encoded_beat tl.now time quantum) quantum
+        ≡ phase_of (beat_at tl.now time -ℤ tl.now.beat) quantum }
+    ensures near { pos (2 * unsigned_abs (encoded_beat tl.now time quantum -ℤ beat_at tl.now time))
+        ≤ℤ (quantum +ℤ pos 1) }
+{}
+
+/// A click stands exactly where a whole beat is passed.
+pub fn clicks_pass_beats(tl: &Timeline, time: i64)
+    requires { IsTidy tl.now }
+    ensures { IsTrue (clicks_at tl.now time) ↔ Passes tl.now time }
+{}

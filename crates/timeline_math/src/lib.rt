@@ -1,0 +1,23 @@
+//! What a timeline says: beats and times, tidied numbers, phases and matches within a quantum, encoded
+//! beats, and the clicks of a block of audio time.
+//!
+//! In reading order: `beats`, `tidying`, `quantum`, `encoding`, `metronome`, `laws`.
+#![tactic(auto)]
+
+mod beats;
+mod encoding;
+mod laws;
+mod metronome;
+mod quantum;
+#[cfg(test)]
+mod tests;
+mod tidying;
+
+pub use beats::{beat_at, time_at};
+pub use encoding::{encoded_beat, encoded_time};
+pub use laws::{
+    beats_rise, clicks_pass_beats, encoded_beats_keep_phase, tidying_settles, times_rise,
+};
+pub use metronome::clicks;
+pub use quantum::{closest_match, next_match, phase};
+pub use tidying::tidy;
