@@ -183,3 +183,18 @@ closest_match_of-near x y q h =
     closest-near x q half (x -ℤ half +ℤ phase_of gap q) (half-low q h) (half-high q h)
     (omega (arith, ints, phase_of-low gap q))
     (omega (arith, ints, phase_of-high gap q h))
+
+-- a closest match has the phase, in a window as long as the quantum
+pub closest_match_of-phase : (x y q : ℤ) → pos 0 ≤ℤ q → phase_of (closest_match_of x y q) q ≡ phase_of y q
+unfolding closest_match_of
+closest_match_of-phase x y q h = (next_match_of-IsNextMatch (x -ℤ nearest_of q (pos 2)) y q h).phase
+
+pub closest_match_of-low : (x y q : ℤ) → (x -ℤ nearest_of q (pos 2)) ≤ℤ closest_match_of x y q
+unfolding closest_match_of next_match_of
+closest_match_of-low x y q =
+    omega (arith, ints, phase_of-low (y -ℤ (x -ℤ nearest_of q (pos 2))) q)
+
+pub closest_match_of-below : (x y q : ℤ) → pos 0 <ℤ q → closest_match_of x y q <ℤ (x -ℤ nearest_of q (pos 2) +ℤ q)
+unfolding closest_match_of next_match_of
+closest_match_of-below x y q lt =
+    omega (arith, ints, phase_of-below (y -ℤ (x -ℤ nearest_of q (pos 2))) q lt)

@@ -12,8 +12,9 @@ use crate::beats::{beat_at, time_at};
 use crate::quantum::{closest_match, phase};
 use lk_base::{Timeline, clip};
 
-/// The beat near the beat at `time` whose phase counts from the timeline's origin, in microbeats. So peers
-/// whose origins differ agree on phases. It isn't clipped. The term is Link 3's (`Phase.hpp`).
+/// A beat near the one at `time`, in microbeats, whose own phase says how far the beat at `time` is into a
+/// quantum, where a quantum begins at the timeline's beat origin. It isn't clipped. After Link 3 (`Phase.hpp`,
+/// `toPhaseEncodedBeats`).
 #[tactic(auto, unfolding(crate::specs::Encoding::encoded_beat))]
 pub fn encoded_beat(tl: &Timeline, time: i64, quantum: i64) -> i64
     requires tidy { IsTidy tl.now }
@@ -29,7 +30,8 @@ pub fn encoded_beat(tl: &Timeline, time: i64, quantum: i64) -> i64
     closest_match(beat, beat - tl.beat, quantum)
 }
 
-/// The time at which an encoded beat stands, in microseconds, clipped.
+/// The time of an encoded beat, in microseconds, clipped: that of the beat that it was made from. After Link 3
+/// (`Phase.hpp`, `fromPhaseEncodedBeats`).
 #[tactic(auto, unfolding(crate::specs::Encoding::encoded_time))]
 pub fn encoded_time(tl: &Timeline, beat: i64, quantum: i64) -> i64
     requires tidy { IsTidy tl.now }

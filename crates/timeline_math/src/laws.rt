@@ -5,7 +5,7 @@ ghost use Rattle.lk_base.specs.Ranges.{IsQuantum};
 ghost use Rattle.lk_base.specs.Timeline.{IsTidy};
 ghost use Rattle.timeline_math.specs.Beats.{beat_at, time_at};
 ghost use Rattle.timeline_math.specs.Clicks.{clicks_at, Passes};
-ghost use Rattle.timeline_math.specs.Encoding.{encoded_beat};
+ghost use Rattle.timeline_math.specs.Encoding.{encoded_beat, encoded_time};
 ghost use Rattle.timeline_math.specs.Quantum.{phase_of};
 ghost use Rattle.timeline_math.specs.Tidying.{tidy_of};
 
@@ -39,6 +39,13 @@ pub fn encoded_beats_keep_phase(tl: &Timeline, time: i64, quantum: i64)
         ≡ phase_of (beat_at tl.now time -ℤ tl.now.beat) quantum }
     ensures near { pos (2 * unsigned_abs (encoded_beat tl.now time quantum -ℤ beat_at tl.now time))
         ≤ℤ (quantum +ℤ pos 1) }
+{}
+
+/// An encoded beat has the time of the beat that it was made from.
+pub fn encoded_times_undo_encoded_beats(tl: &Timeline, time: i64, quantum: i64)
+    requires { IsQuantum quantum }
+    ensures { encoded_time tl.now (encoded_beat tl.now time quantum) quantum
+        ≡ time_at tl.now (beat_at tl.now time) }
 {}
 
 /// A click stands exactly where a whole beat is passed.

@@ -19,7 +19,8 @@ pub fn phase(beat: i64, quantum: i64) -> i64
     rest_of(beat, quantum)
 }
 
-/// The least beat at or above `beat` that has the phase of `target`; `beat` where the quantum is 0.
+/// The least beat at or above `beat` that has the phase of `target`; `beat` where the quantum is 0. After
+/// Link 3 (`Phase.hpp`, `nextPhaseMatch`).
 pub fn next_match(beat: i64, target: i64, quantum: i64) -> i64
     requires beat { IsWithin (2 ^ 62 - 2 ^ 41) beat }
     requires target { IsWithin (2 ^ 62 - 2 ^ 41) target }
@@ -34,7 +35,8 @@ pub fn next_match(beat: i64, target: i64, quantum: i64) -> i64
 }
 
 /// The first beat with the phase of `target` from half a quantum, rounded up, before `beat` on; `beat` where
-/// the quantum is 0. Of two matches as far from `beat` it is the lesser. The term is Link 3's (`Phase.hpp`).
+/// the quantum is 0. Of two matches as far from `beat` it is the lesser; for an odd quantum it may lie a
+/// microbeat farther than another. After Link 3 (`Phase.hpp`, `closestPhaseMatch`).
 pub fn closest_match(beat: i64, target: i64, quantum: i64) -> i64
     requires beat { IsWithin (2 ^ 62 - 2 ^ 42) beat }
     requires target { IsWithin (2 ^ 62 - 2 ^ 42) target }
