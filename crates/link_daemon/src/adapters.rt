@@ -2,6 +2,8 @@
 
 mod std_sink;
 mod std_source;
+#[cfg(test)]
+mod tests;
 
 pub use std_sink::StdSink;
 pub use std_source::StdSource;

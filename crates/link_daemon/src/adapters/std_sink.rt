@@ -1,6 +1,6 @@
 //! A sink over a writer, as standard output.
 
-ghost use Rattle.std.specs.Prelude.{None};
+ghost use Rattle.std.specs.Prelude.{◌≡◌, None};
 
 use lk_outside::{Put, Sink};
 use std::io::Write;
@@ -14,8 +14,19 @@ pub struct StdSink<W: Write + Drop> {
 
 impl<W: Write + Drop> StdSink<W> {
     /// A sink that no write of has failed yet.
-    pub fn new(inner: W) -> Self {
+    pub fn new(inner: W) -> Self
+        ensures inner { result.inner ≡ inner }
+        ensures faultless { result.faults ≡ 0 }
+    {
         StdSink { inner, faults: 0 }
+    }
+
+    /// How many writes have failed.
+    #[cfg(test)]
+    pub fn fault_count(&self) -> u64
+        ensures { result ≡ self.now.faults }
+    {
+        self.faults
     }
 }
 

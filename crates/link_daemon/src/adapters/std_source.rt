@@ -1,6 +1,6 @@
 //! A source over a reader, as standard input.
 
-ghost use Rattle.std.specs.Prelude.{None};
+ghost use Rattle.std.specs.Prelude.{◌≡◌, None};
 
 use lk_outside::{Source, Taken};
 use std::io::Read;
@@ -14,8 +14,19 @@ pub struct StdSource<R: Read + Drop> {
 
 impl<R: Read + Drop> StdSource<R> {
     /// A source that no read of has failed yet.
-    pub fn new(inner: R) -> Self {
+    pub fn new(inner: R) -> Self
+        ensures inner { result.inner ≡ inner }
+        ensures faultless { result.faults ≡ 0 }
+    {
         StdSource { inner, faults: 0 }
+    }
+
+    /// How many reads have failed.
+    #[cfg(test)]
+    pub fn fault_count(&self) -> u64
+        ensures { result ≡ self.now.faults }
+    {
+        self.faults
     }
 }
 

@@ -1,8 +1,37 @@
 //! Calls that fail, and words that name no command.
 
+ghost use Rattle.std.specs.Prelude.{None};
+
 use super::{ALIVE, HEAD, RESPONSE, run, slow, sound};
 use crate::status::Status;
+use crate::top::link_main;
+use lk_outside::{BytesSink, Source, Taken};
 use std::test::Fail;
+
+/// A source without an end, which fills each piece.
+#[derive(Drop)]
+struct Endless;
+
+impl Source for Endless {
+    ghost left = { λ _. None };
+
+    ghost faults = { λ _. 0 };
+
+    fn read(&mut self, buf: &mut [u8]) -> Taken {
+        Taken::Got(buf.len())
+    }
+}
+
+#[test]
+fn an_input_over_the_limit_writes_nothing(rt: HostRuntime) -> Result<(), Fail> {
+    let mut words = Vec::new(rt.alloc());
+    words.push(String::from_str(rt.alloc(), "replay")?)?;
+    let mut out = BytesSink::new(rt.alloc(), 100, 100, Vec::new(rt.alloc()))?;
+    let status = link_main(rt.alloc(), &words, &mut Endless, &mut out);
+    assert_eq!(rt; status, Status::TooLong);
+    assert!(rt; out.bytes().is_empty());
+    Ok(())
+}
 
 #[test]
 fn a_read_that_fails_writes_nothing(rt: HostRuntime) -> Result<(), Fail> {
