@@ -1,0 +1,12 @@
+//! The cells through which one thread hands whole rows of words to another, and what every such cell promises.
+//!
+//! In reading order: `cell`, `seq_state`, and of it `plays`, `steps`.
+#![tactic(auto)]
+
+mod cell;
+mod seq_state;
+#[cfg(test)]
+mod tests;
+
+pub use cell::{Read, StateCell};
+pub use seq_state::{SeqNote, SeqReader, SeqState, SeqWriter};
