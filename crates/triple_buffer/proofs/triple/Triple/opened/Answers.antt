@@ -1,0 +1,16 @@
+use Rattle.std.proofs.Common.{rules, ◌++◌, ◌∷◌, ◌∙◌, [], ap, inl, refl}
+use Rattle.triple_buffer.proofs.OpeningStep.{opens}
+use Rattle.triple_buffer.proofs.triple.Triple.opened.Goals as goal
+
+pub of_words-requires : goal.of_words-requires
+of_words-requires g c =
+    let row = c.args.row.now in
+    let first = c.in_ok-push.ensures.items ∙ ap (λ l. l ++ 1 ∷ []) c.new-words.ensures.items in
+    let second = c.in_ok-extend_from_slice.ensures.items ∙ ap (λ l. l ++ row) first in
+    let third = c.in_ok-extend_from_slice-2.ensures.items ∙ ap (λ l. l ++ row) second in
+    inl record { words = c.as_slice.ensures.value ∙ (c.in_ok-extend_from_slice-3.ensures.items ∙ ap (λ l. l ++ row) third); seat = refl }
+
+pub split_seat-reader-requires : goal.split_seat-reader-requires
+split_seat-reader-requires g c =
+    let made = c.in_ok-table.ensures {u = tt} in
+    (made.2, search rules, opens _ _ _ _ made.5 (ap (λ m. m.0) made.4))

@@ -1,0 +1,17 @@
+//! A cell whose calls never wait: three rows of words, of which the writer has one, the reader has one, and one is
+//! handed over by a swap of the state word.
+//!
+//! In reading order: `word`, `views`, `plays`, `tokens`, `triple`, and of its calls `steps`, `publish`, `read`, `notes`,
+//! `settle`.
+#![tactic(auto)]
+
+mod plays;
+#[cfg(test)]
+mod tests;
+mod tokens;
+mod triple;
+mod views;
+mod word;
+
+pub use tokens::{TripleNote, TripleReader, TripleWriter};
+pub use triple::Triple;
