@@ -143,6 +143,7 @@ pub record RestsAsWriter (made : ℕ) (view : Known) : Type 0 where
   pub is : view ≡ Writes (rows_in view)
   pub made_is : length (rows_in view) ≡ made
   pub some_made : 0 < made
+  pub made_fits : made ≤ 2 ^ 60
 
 pub record RestsAsReader (number : ℕ) (view : Known) : Type 0 where
   pub is : view ≡ Reads (reader_in view)

@@ -1,5 +1,6 @@
 //! What a cell is: one writer makes rows, and one reader reads the rows made.
 ghost use Rattle.std.specs.Prelude.{◌≡◌, ℕ, ◌+◌, ◌^◌, ◌<◌, ◌≤◌, ◌⊎◌, ◌↔◌, Bool, true, [], ◌∷◌, ◌++◌, length, max, IfOk, IfErr, IsTrue};
+ghost use Rattle.std.specs.Bool.{OnFalse};
 ghost use Rattle.atomic_table.specs.Seated.{TableId};
 ghost use Rattle.audio_handoff.specs.Cell.{WriterView, ReaderView, NoteView, Grows, IsLast, IsLawful, HasSameReads, HasSameRows, IsOneRead};
 
@@ -69,7 +70,8 @@ pub trait StateCell<const W: usize>: Sized {
     /// Whether no number is left for a further row. Waits: no. Memory: none.
     fn is_spent(&self, writer: &Self::Writer) -> bool
         requires { (writing writer.now).cell ≡ cell self.now }
-        ensures { IsTrue result ↔ (length (writing writer.now).made ≡ 2 ^ 60) };
+        ensures spent { IsTrue result ↔ (length (writing writer.now).made ≡ 2 ^ 60) }
+        ensures room { OnFalse result (length (writing writer.now).made < 2 ^ 60) };
 
     /// Reads a row made, which is no older than the row last read, than each row told of, and than the last row made
     /// at the step of this call that looked. Memory: none.

@@ -23,6 +23,7 @@ pub record RestsAsWriter (place made : ℕ) (me : Sat) : Type 0 where
   pub place_fits : place < 3
   pub made_is : length (writer_in me.0).made ≡ made
   pub some_made : 0 < made
+  pub made_fits : made ≤ 2 ^ 60
   pub none_stored : (writer_in me.0).stored ≡ []
   pub bare : me.1 ≡ []
 

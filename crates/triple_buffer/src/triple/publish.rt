@@ -1,5 +1,6 @@
 //! How a row is made: its words are stored into the writer's row, and a swap hands it over.
 ghost use Rattle.std.specs.Prelude.{◌≡◌, ◌+◌, ◌^◌, ◌<◌, ◌↔◌, [], ◌∷◌, ◌++◌, length, IsTrue};
+ghost use Rattle.std.specs.Bool.{OnFalse};
 ghost use Rattle.triple_buffer.specs.Views.{writer_in};
 
 use super::Triple;
@@ -31,7 +32,8 @@ impl<const W: usize> Triple<W> {
     }
 
     pub(super) fn has_no_room(&self, writer: &TripleWriter<W>) -> bool
-        ensures { IsTrue result ↔ (length (writer_in writer.now.seat.me.0).made ≡ 2 ^ 60) }
+        ensures spent { IsTrue result ↔ (length (writer_in writer.now.seat.me.0).made ≡ 2 ^ 60) }
+        ensures room { OnFalse result (length (writer_in writer.now.seat.me.0).made < 2 ^ 60) }
     {
         writer.made == 1 << 60
     }

@@ -1,14 +1,15 @@
-use Rattle.std.proofs.Common.{rules, ◌++◌, ◌∷◌, ◌∙◌, [], ap, inl, refl}
+use Rattle.std.proofs.Common.{rules, ◌++◌, ◌∷◌, ◌∙◌, [], ap, inl, refl, List, ℕ}
 use Rattle.triple_buffer.proofs.OpeningStep.{opens}
 use Rattle.triple_buffer.proofs.triple.Triple.opened.Goals as goal
 
 pub of_words-requires : goal.of_words-requires
 of_words-requires g c =
-    let row = c.args.row.now in
-    let first = c.in_ok-push.ensures.items ∙ ap (λ l. l ++ 1 ∷ []) c.new-words.ensures.items in
-    let second = c.in_ok-extend_from_slice.ensures.items ∙ ap (λ l. l ++ row) first in
-    let third = c.in_ok-extend_from_slice-2.ensures.items ∙ ap (λ l. l ++ row) second in
-    inl record { words = c.as_slice.ensures.value ∙ (c.in_ok-extend_from_slice-3.ensures.items ∙ ap (λ l. l ++ row) third); seat = refl }
+    let row : List ℕ = c.args.row.now in
+    let first = ◌∙◌ {A = List ℕ} c.in_ok-push.ensures.items (ap (λ l. l ++ 1 ∷ []) c.new-words.ensures.items) in
+    let second = ◌∙◌ {A = List ℕ} c.in_ok-extend_from_slice.ensures.items (ap (λ l. l ++ row) first) in
+    let third = ◌∙◌ {A = List ℕ} c.in_ok-extend_from_slice-2.ensures.items (ap (λ l. l ++ row) second) in
+    let fourth = ◌∙◌ {A = List ℕ} c.in_ok-extend_from_slice-3.ensures.items (ap (λ l. l ++ row) third) in
+    inl record { words = ◌∙◌ {A = List ℕ} c.as_slice.ensures.value fourth; seat = refl }
 
 pub split_seat-reader-requires : goal.split_seat-reader-requires
 split_seat-reader-requires g c =
