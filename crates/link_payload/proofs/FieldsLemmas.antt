@@ -27,7 +27,7 @@ pub record FitsFields (f : PeerFields) (e : Endpoint) : Type 0 where
   pub endpoint : f.endpoint ≡ Some e
   pub address : IsEndpoint e
 
-fits-mpb : (z : ℤ) → pos 1 ≤ℤ z → z ≤ℤ pos (2 ^ 31) → FitsSigned w64 z
+pub fits-mpb : (z : ℤ) → pos 1 ≤ℤ z → z ≤ℤ pos (2 ^ 31) → FitsSigned w64 z
 fits-mpb (pos n) low high = omega (arith, ints)
 fits-mpb (negsuc n) low high = omega (arith, ints)
 

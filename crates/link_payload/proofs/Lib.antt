@@ -2,7 +2,13 @@ pub mod Lists
 pub mod NumberLemmas
 pub mod SpellingLemmas
 pub mod ReadingLemmas
+pub mod EntryLemmas
+pub mod WalkLemmas
 pub mod ValuesLemmas
 pub mod StateLemmas
 pub mod RangeLemmas
 pub mod FieldsLemmas
+pub mod LastLemmas
+pub mod ValueLemmas
+pub mod AnswerLemmas
+pub mod BackLemmas

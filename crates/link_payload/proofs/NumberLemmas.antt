@@ -47,7 +47,7 @@ one_natural n x y x_fits y_fits e =
     sym (big_number-reads_back n x [] x_fits) ∙ ap (λ (bs : List ℕ). big_from 0 n (bs ++ [])) e ∙ big_number-reads_back n y [] y_fits
 
 -- the bits of a number that fits are below 2 ^ 64
-bits-lt : (z : ℤ) → FitsSigned w64 z → cast_unsigned w64 z < 2 ^ 64
+pub bits-lt : (z : ℤ) → FitsSigned w64 z → cast_unsigned w64 z < 2 ^ 64
 bits-lt z fits = omega (arith, ints)
 
 -- bytes spell one signed number

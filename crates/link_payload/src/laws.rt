@@ -1,9 +1,66 @@
 //! Laws of the spelling, for the callers' proofs: to call one is to know it.
 
-ghost use Rattle.std.specs.Prelude.{◌≡◌, length};
+ghost use Rattle.std.specs.Prelude.{◌≡◌, ◌<◌, ◌^◌, ◌⊎◌, ℕ, ℤ, List, length, Ok, None};
+ghost use Rattle.lk_base.specs.Ranges.{IsWithinLimit};
+ghost use Rattle.lk_base.specs.declared.ids.NodeId.{NodeId};
 ghost use Rattle.link_payload.specs.declared.fields.PeerFields.{PeerFields};
-ghost use Rattle.link_payload.specs.Fields.{IsPlainState};
-ghost use Rattle.link_payload.specs.Spelling.{spelled_state_of};
+ghost use Rattle.link_payload.specs.declared.fields.PingFields.{PingFields};
+ghost use Rattle.link_payload.specs.Entries.{EntryValue, Spells, IsCutAt, AreBytes};
+ghost use Rattle.link_payload.specs.Fields.{IsEndpoint, IsPlainState, IsStored, IsTidyFields, IsTidyPing, state_answer_of, pong_answer_of, echoing};
+ghost use Rattle.link_payload.specs.Spelling.{spelled_state_of, spelled_ping_of, spelled_pong_of};
+
+use crate::fields::PeerFields;
+use lk_base::{Endpoint, NodeId};
+
+/// Bytes spell one list of entries at most.
+pub fn one_spelling()
+    ensures { (bytes : List ℕ) (es fs : List EntryValue) → Spells bytes es → Spells bytes fs → es ≡ fs }
+{}
+
+/// Bytes spell a list of entries or are cut, never both, and are cut at one place only, after one
+/// list.
+pub fn spelled_or_cut()
+    ensures either { (bytes : List ℕ) → AreBytes bytes → length bytes < 2 ^ 32
+        → ((es : List EntryValue) × Spells bytes es)
+        ⊎ ((n : ℕ) × (es : List EntryValue) × IsCutAt bytes n es) }
+    ensures not_both { (bytes : List ℕ) (n : ℕ) (es fs : List EntryValue)
+        → Spells bytes es → IsCutAt bytes n fs → ⊥ }
+    ensures one_cut { (bytes : List ℕ) (m n : ℕ) (es fs : List EntryValue)
+        → IsCutAt bytes m es → IsCutAt bytes n fs → (m ≡ n) × (es ≡ fs) }
+{}
+
+/// What the types say of fields.
+pub fn fields_are_stored(fields: &PeerFields)
+    ensures { IsStored fields.now }
+{
+    id_is_stored(fields.session);
+    let Some(endpoint) = fields.endpoint else {
+        return;
+    };
+    endpoint_is_stored(endpoint);
+}
+
+fn id_is_stored(id: NodeId)
+    ensures { length id.0 ≡ 8 }
+{}
+
+fn endpoint_is_stored(endpoint: Endpoint)
+    ensures { IsEndpoint endpoint }
+{}
+
+/// A tidy state that is written is read again. The first premise holds of all fields in code.
+pub fn state_reads_back()
+    ensures { (f : PeerFields) → IsStored f → IsTidyFields f
+        → (es : List EntryValue) × Spells (spelled_state_of f) es × (state_answer_of es None ≡ Ok f) }
+{}
+
+/// A pong that echoes a tidy ping is read again, with that ping's times, 0 where it has none.
+pub fn pong_reads_back()
+    ensures { (session : NodeId) (ghost_time : ℤ) (ping : PingFields)
+        → length session.0 ≡ 8 → IsWithinLimit ghost_time → IsTidyPing ping
+        → (es : List EntryValue) × Spells (spelled_pong_of session ghost_time (spelled_ping_of ping)) es
+        × (pong_answer_of es None ≡ Ok (echoing session ghost_time ping)) }
+{}
 
 /// Bytes spell one plain state at most.
 pub fn one_state()

@@ -1,11 +1,14 @@
-//! The payload of a discovery message: the state of a peer as entries, each a key, a size and a
-//! value.
+//! The payloads of messages as entries, each a key, a size and a value: the states of peers, pings
+//! and pongs, written and read.
 //!
-//! In reading order: `key`, `fields`, `write`, `range`, `read`, `laws`.
+//! In reading order: `key`, `fault`, `fields`, `write`, `entry`, `last`, `range`, `read`, `laws`.
 #![tactic(auto)]
 
+mod entry;
+mod fault;
 mod fields;
 mod key;
+mod last;
 mod laws;
 mod range;
 mod read;
@@ -13,10 +16,16 @@ mod read;
 mod tests;
 mod write;
 
-pub use fields::PeerFields;
+pub use entry::{Entry, EntryIter, entries};
+pub use fault::PayloadFault;
+pub use fields::{PeerFields, PingFields, PongFields};
 pub use key::{
-    ENDPOINT, ENDPOINT_SIZE, SESSION, SESSION_SIZE, START, START_SIZE, TIMELINE, TIMELINE_SIZE,
+    ENDPOINT, ENDPOINT_SIZE, GHOST_TIME, HOST_TIME, PREVIOUS_GHOST_TIME, SESSION, SESSION_SIZE,
+    START, START_SIZE, TIME_SIZE, TIMELINE, TIMELINE_SIZE,
 };
-pub use laws::{one_state, state_len};
-pub use read::read_plain_state;
-pub use write::write_state;
+pub use laws::{
+    fields_are_stored, one_spelling, one_state, pong_reads_back, spelled_or_cut, state_len,
+    state_reads_back,
+};
+pub use read::{read_plain_state, read_pong, read_state};
+pub use write::{write_ping, write_pong, write_state};

@@ -1,19 +1,138 @@
-//! Reading a state whose entries stand in the order in which `write_state` writes them.
+//! Reading states and pongs. A plain state is one whose entries stand in the order in which
+//! `write_state` writes them.
 
-ghost use Rattle.std.specs.Prelude.{◌≡◌, ◌≤◌, ◌+◌, ◌++◌, ℕ, List, length, IfSome, IfNone};
+ghost use Rattle.std.specs.Prelude.{◌≡◌, ◌≤◌, ◌<◌, ◌+◌, ◌^◌, ◌++◌, ℕ, List, length, pos, Some, None, IfSome, IfNone, option_map, unwrap_or};
+ghost use Rattle.std.specs.Option.{option_copied};
 ghost use Rattle.byteorder.specs.Endian.{big_bytes};
-ghost use Rattle.link_payload.specs.Entries.{spelled_entry_of, spelled_number_of};
-ghost use Rattle.link_payload.specs.Fields.{IsPlainState};
+ghost use Rattle.link_payload.specs.Entries.{EntryValue, Spells, IsCutAt, spelled_entry_of, spelled_number_of};
+ghost use Rattle.link_payload.specs.Fields.{IsPlainState, number_in, start_in, timeline_in, endpoint_in, no_start, state_answer_of, pong_answer_of};
+ghost use Rattle.link_payload.specs.Last.{HaveSizes, state_by_values, pong_by_values, values_of as last_values_of};
 ghost use Rattle.link_payload.specs.Spelling.{spelled_timeline_of, spelled_start_of, spelled_endpoint_of, spelled_state_of};
 ghost use Rattle.link_payload.specs.Values.{AreValuesIn};
 
-use crate::fields::PeerFields;
+use crate::fault::PayloadFault;
+use crate::fields::{PeerFields, PongFields};
 use crate::key::{
-    ENDPOINT, ENDPOINT_SIZE, SESSION, SESSION_SIZE, START, START_SIZE, TIMELINE, TIMELINE_SIZE,
+    ENDPOINT, ENDPOINT_SIZE, GHOST_TIME, HOST_TIME, PREVIOUS_GHOST_TIME, SESSION, SESSION_SIZE,
+    START, START_SIZE, TIME_SIZE, TIMELINE, TIMELINE_SIZE,
 };
-use crate::range::are_in_range;
+use crate::last::{Keys, Known, LastValues, last_values};
+use crate::range::{are_in_range, pong_in_range, state_in_range};
 use byteorder::{BigEndian, ByteOrder};
 use lk_base::{Endpoint, NodeId, SessionStart, Timeline};
+
+// The keys of a state.
+const STATE_KEYS: Keys = Keys {
+    first: Known {
+        key: TIMELINE,
+        size: TIMELINE_SIZE,
+    },
+    second: Known {
+        key: SESSION,
+        size: SESSION_SIZE,
+    },
+    third: Known {
+        key: START,
+        size: START_SIZE,
+    },
+    fourth: Known {
+        key: ENDPOINT,
+        size: ENDPOINT_SIZE,
+    },
+};
+
+// The keys of a pong.
+const PONG_KEYS: Keys = Keys {
+    first: Known {
+        key: SESSION,
+        size: SESSION_SIZE,
+    },
+    second: Known {
+        key: GHOST_TIME,
+        size: TIME_SIZE,
+    },
+    third: Known {
+        key: HOST_TIME,
+        size: TIME_SIZE,
+    },
+    fourth: Known {
+        key: PREVIOUS_GHOST_TIME,
+        size: TIME_SIZE,
+    },
+};
+
+/// The state in a payload. Entries stand in any order, those of other keys are passed over, and of
+/// entries of one key the last counts. `tmln` and `sess` have to be there. Without `stst` the
+/// session doesn't play, with zeros, and without `mep4` there is no endpoint. A playing byte other
+/// than 0 means playing.
+///
+/// The faults come in this order: the first entry of a known key with another size; an entry that is
+/// cut; the first key that has to be there and has no entry; the first number outside its range, of
+/// tempo (1..=2^31 microseconds per beat), beat origin, time origin, beats and stamp (each within
+/// 2^60 of 0).
+pub fn read_state(payload: &[u8]) -> Result<PeerFields, PayloadFault>
+    requires { length payload.now < 2 ^ 32 }
+    ensures spelled { (es : List EntryValue) → Spells payload.now es
+        → result ≡ state_answer_of es None }
+    ensures cut { (n : ℕ) (es : List EntryValue) → IsCutAt payload.now n es
+        → result ≡ state_answer_of es (Some n) }
+{
+    match last_values(payload, &STATE_KEYS) {
+        Ok(last) => state_of(&last),
+        Err(fault) => Err(fault),
+    }
+}
+
+/// The pong in a payload, likewise: `sess` and `__gt` have to be there, and without `__ht` or `_pgt`
+/// that time is 0. Ranges are tried in the order of these keys.
+pub fn read_pong(payload: &[u8]) -> Result<PongFields, PayloadFault>
+    requires { length payload.now < 2 ^ 32 }
+    ensures spelled { (es : List EntryValue) → Spells payload.now es
+        → result ≡ pong_answer_of es None }
+    ensures cut { (n : ℕ) (es : List EntryValue) → IsCutAt payload.now n es
+        → result ≡ pong_answer_of es (Some n) }
+{
+    match last_values(payload, &PONG_KEYS) {
+        Ok(last) => pong_of(&last),
+        Err(fault) => Err(fault),
+    }
+}
+
+fn state_of(last: &LastValues<'_>) -> Result<PeerFields, PayloadFault>
+    requires { HaveSizes STATE_KEYS (last_values_of last.now) }
+    ensures { result ≡ state_by_values (last_values_of last.now) }
+{
+    let Some(timeline) = last.first else {
+        return Err(PayloadFault::Missing { key: TIMELINE });
+    };
+    let Some(session) = last.second else {
+        return Err(PayloadFault::Missing { key: SESSION });
+    };
+    state_in_range(PeerFields {
+        timeline: timeline_of(timeline),
+        session: id_of(session),
+        start: start_or_none(last.third),
+        endpoint: endpoint_or_none(last.fourth),
+    })
+}
+
+fn pong_of(last: &LastValues<'_>) -> Result<PongFields, PayloadFault>
+    requires { HaveSizes PONG_KEYS (last_values_of last.now) }
+    ensures { result ≡ pong_by_values (last_values_of last.now) }
+{
+    let Some(session) = last.first else {
+        return Err(PayloadFault::Missing { key: SESSION });
+    };
+    let Some(ghost_time) = last.second else {
+        return Err(PayloadFault::Missing { key: GHOST_TIME });
+    };
+    pong_in_range(PongFields {
+        session: id_of(session),
+        ghost_time: time_of(ghost_time),
+        host: time_or_zero(last.third),
+        previous: time_or_zero(last.fourth),
+    })
+}
 
 /// The state in a payload, where that is written as `write_state` writes it, with an endpoint, and
 /// every number is in its range: the tempo in 1..=2^31 microseconds per beat, each other number
@@ -111,7 +230,8 @@ fn entry_at(bytes: &[u8], key: u32, size: u32) -> Option<(&[u8], &[u8])>
 
 fn timeline_of(value: &[u8]) -> Timeline
     requires { length value.now ≡ 24 }
-    ensures { value.now ≡ spelled_timeline_of result }
+    ensures spelled { value.now ≡ spelled_timeline_of result }
+    ensures read { result ≡ timeline_in value.now }
 {
     let (mpb, rest) = i64_at(value);
     let (beat, rest) = i64_at(rest);
@@ -150,11 +270,61 @@ fn id_of(value: &[u8]) -> NodeId
 
 fn endpoint_of(value: &[u8]) -> Endpoint
     requires { length value.now ≡ 6 }
-    ensures { value.now ≡ spelled_endpoint_of result }
+    ensures spelled { value.now ≡ spelled_endpoint_of result }
+    ensures read { result ≡ endpoint_in value.now }
 {
     let (addr, rest) = u32_at(value);
     let (port, _) = u16_at(rest);
     Endpoint { addr, port }
+}
+
+// A playing byte other than 0 means playing.
+fn start_or_none(value: Option<&[u8]>) -> SessionStart
+    requires { IfSome value (λ bytes. length bytes.now ≡ 17) }
+    ensures { result ≡ unwrap_or (option_map start_in (option_copied value.entry)) no_start }
+{
+    let Some(value) = value else {
+        return SessionStart {
+            playing: false,
+            beats: 0,
+            stamp: 0,
+        };
+    };
+    let (playing, rest) = value.split_at(1);
+    let (beats, rest) = i64_at(rest);
+    let (stamp, _) = i64_at(rest);
+    SessionStart {
+        playing: playing[0] != 0,
+        beats,
+        stamp,
+    }
+}
+
+fn endpoint_or_none(value: Option<&[u8]>) -> Option<Endpoint>
+    requires { IfSome value (λ bytes. length bytes.now ≡ 6) }
+    ensures { result ≡ option_map endpoint_in (option_copied value.entry) }
+{
+    let Some(value) = value else {
+        return None;
+    };
+    Some(endpoint_of(value))
+}
+
+fn time_or_zero(value: Option<&[u8]>) -> i64
+    requires { IfSome value (λ bytes. length bytes.now ≡ 8) }
+    ensures { result ≡ unwrap_or (option_map number_in (option_copied value.entry)) (pos 0) }
+{
+    let Some(value) = value else {
+        return 0;
+    };
+    time_of(value)
+}
+
+fn time_of(value: &[u8]) -> i64
+    requires { length value.now ≡ 8 }
+    ensures { result ≡ number_in value.now }
+{
+    BigEndian::read_i64(value)
 }
 
 fn i64_at(bytes: &[u8]) -> (i64, &[u8])

@@ -1,17 +1,18 @@
-//! Writing a state.
+//! Writing states, pings and pongs.
 
 ghost use Rattle.std.specs.Prelude.{◌≡◌, ◌+◌, ◌≤◌, ◌++◌, ◌∷◌, length, is_some, if◌then◌else◌};
 ghost use Rattle.arrayvec.specs.ArrayVec.{array_vec_len};
 ghost use Rattle.byteorder.specs.Endian.{big_bytes};
 ghost use Rattle.link_payload.specs.Entries.{spelled_number_of};
-ghost use Rattle.link_payload.specs.Spelling.{spelled_timeline_of, spelled_start_of, spelled_endpoint_of, spelled_state_of};
+ghost use Rattle.link_payload.specs.Spelling.{spelled_timeline_of, spelled_start_of, spelled_endpoint_of, spelled_state_of, spelled_ping_of, spelled_pong_of};
 
-use crate::fields::PeerFields;
+use crate::fields::{PeerFields, PingFields};
 use crate::key::{
-    ENDPOINT, ENDPOINT_SIZE, SESSION, SESSION_SIZE, START, START_SIZE, TIMELINE, TIMELINE_SIZE,
+    ENDPOINT, ENDPOINT_SIZE, GHOST_TIME, HOST_TIME, PREVIOUS_GHOST_TIME, SESSION, SESSION_SIZE,
+    START, START_SIZE, TIME_SIZE, TIMELINE, TIMELINE_SIZE,
 };
 use byteorder::{BigEndian, ByteOrder};
-use lk_base::{Endpoint, SessionStart, Timeline, Wire};
+use lk_base::{Endpoint, NodeId, SessionStart, Timeline, Wire};
 
 /// Appends the entries of a state: 87 bytes with an endpoint, 73 without.
 #[tactic(auto, using(crate::proofs::SpellingLemmas::lengths), unfolding(crate::specs::Spelling::spelled_state_of, crate::specs::Spelling::spelled_endpoint_entry_of, crate::specs::Entries::spelled_entry_of))]
@@ -31,6 +32,38 @@ pub fn write_state(out: &mut Wire, fields: &PeerFields)
         put_entry_head(out, ENDPOINT, ENDPOINT_SIZE);
         put_endpoint(out, endpoint);
     }
+}
+
+/// Appends the entries of a ping: 32 bytes with a ghost time, 16 without.
+#[tactic(auto, using(crate::proofs::SpellingLemmas::lengths), unfolding(crate::specs::Spelling::spelled_ping_of, crate::specs::Spelling::spelled_previous_entry_of, crate::specs::Entries::spelled_entry_of))]
+pub fn write_ping(out: &mut Wire, ping: &PingFields)
+    requires { array_vec_len out.old + 32 ≤ 513 }
+    ensures items { out.new.items ≡ out.old.items ++ spelled_ping_of ping.now }
+    ensures len { array_vec_len out.new
+        ≡ array_vec_len out.old + (if is_some ping.now.previous then 32 else 16) }
+{
+    put_entry_head(out, HOST_TIME, TIME_SIZE);
+    put_i64(out, ping.host);
+    if let Some(previous) = ping.previous {
+        put_entry_head(out, PREVIOUS_GHOST_TIME, TIME_SIZE);
+        put_i64(out, previous);
+    }
+}
+
+/// Appends the entries of a pong, and after them the payload of the ping that it answers, unchanged:
+/// 32 bytes and that payload's.
+#[tactic(auto, using(crate::proofs::SpellingLemmas::lengths), unfolding(crate::specs::Spelling::spelled_pong_of, crate::specs::Entries::spelled_entry_of))]
+pub fn write_pong(out: &mut Wire, session: NodeId, ghost_time: i64, echo: &[u8])
+    requires echo { length echo.now ≤ 32 }
+    requires room { array_vec_len out.old + 64 ≤ 513 }
+    ensures items { out.new.items ≡ out.old.items ++ spelled_pong_of session ghost_time echo.now }
+    ensures len { array_vec_len out.new ≡ array_vec_len out.old + 32 + length echo.now }
+{
+    put_entry_head(out, SESSION, SESSION_SIZE);
+    put(out, &session.0);
+    put_entry_head(out, GHOST_TIME, TIME_SIZE);
+    put_i64(out, ghost_time);
+    put(out, echo);
 }
 
 #[tactic(auto, unfolding(crate::specs::Spelling::spelled_timeline_of))]

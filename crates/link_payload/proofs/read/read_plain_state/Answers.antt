@@ -27,7 +27,7 @@ returns-then-not-are_in_range-clause-none c = λ f plain is.
       endpoint = refl;
       address = record { addr = search rules; port = search rules };
     } in
-    let spelled = state_as_read c.in-Some.ensures.some read c.endpoint_of-endpoint.result refl c.timeline_of-timeline.ensures c.id_of-session.ensures c.in-Some-start_of.ensures.some c.endpoint_of-endpoint.ensures in
+    let spelled = state_as_read c.in-Some.ensures.some read c.endpoint_of-endpoint.result refl c.timeline_of-timeline.ensures.spelled c.id_of-session.ensures c.in-Some-start_of.ensures.some c.endpoint_of-endpoint.ensures.spelled in
     let same = one_fields (plain_fits f plain).1 fits (sym is ∙ spelled) in
     let holds = c.are_in_range.ensures.1 (subst AreInRange same plain.range) in
     cc
@@ -41,5 +41,5 @@ returns-clause-some c =
         endpoint = refl;
         range = c.are_in_range.ensures.0 c.if-not-are_in_range.false;
       },
-      state_as_read c.in-Some.ensures.some read c.endpoint_of-endpoint.result refl c.timeline_of-timeline.ensures c.id_of-session.ensures c.in-Some-start_of.ensures.some c.endpoint_of-endpoint.ensures,
+      state_as_read c.in-Some.ensures.some read c.endpoint_of-endpoint.result refl c.timeline_of-timeline.ensures.spelled c.id_of-session.ensures c.in-Some-start_of.ensures.some c.endpoint_of-endpoint.ensures.spelled,
     )
