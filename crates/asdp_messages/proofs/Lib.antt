@@ -1,2 +1,5 @@
 pub mod HeaderLemmas
 pub mod AliveLemmas
+pub mod DatagramLemmas
+pub mod OneLemmas
+pub mod SentLemmas

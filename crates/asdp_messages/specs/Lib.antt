@@ -4,3 +4,4 @@ pub use Rattle.link_payload.specs.Entries
 pub use Rattle.link_payload.specs.Spelling as Payload
 pub use Rattle.link_payload.specs.Fields
 pub use Rattle.link_payload.specs.Ranges
+pub use Rattle.link_payload.specs.Timeline

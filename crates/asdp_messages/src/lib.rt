@@ -1,8 +1,10 @@
-//! The discovery messages by which peers tell each other of themselves.
+//! The discovery messages by which peers tell each other of themselves, and the pings and pongs by
+//! which they compare their clocks: each is one datagram.
 //!
-//! In reading order: `header`, `message`, `write`, `laws`, `read`.
+//! In reading order: `header`, `message`, `fault`, `write`, `laws`, `read`.
 #![tactic(auto)]
 
+mod fault;
 mod header;
 mod laws;
 mod message;
@@ -11,8 +13,12 @@ mod read;
 mod tests;
 mod write;
 
-pub use header::{ALIVE, HEADER_LEN, PROTOCOL, RESPONSE, TIME_TO_LIVE};
-pub use laws::{alive_len, one_alive};
-pub use message::StateMsg;
-pub use read::read_plain_alive;
-pub use write::write_response;
+pub use fault::WireFault;
+pub use header::{
+    ALIVE, BYE, GREATEST_LEN, HEADER_LEN, LINK_HEADER_LEN, LINK_PROTOCOL, PING, PONG, PROTOCOL,
+    RESPONSE, TIME_TO_LIVE,
+};
+pub use laws::{alive_len, one_alive, one_reading};
+pub use message::{Message, StateMsg};
+pub use read::{read_datagram, read_plain_alive};
+pub use write::{write_alive, write_bye, write_ping_message, write_pong_message, write_response};

@@ -1,16 +1,116 @@
-//! Reading an alive whose entries stand in the order in which they are written.
+//! Reading datagrams. A plain alive is one whose entries stand in the order in which they are
+//! written.
 
-ghost use Rattle.std.specs.Prelude.{◌≡◌, ◌≤◌, ◌+◌, ◌++◌, ℕ, length, IfSome, IfNone};
+ghost use Rattle.std.specs.Prelude.{◌≡◌, ◌≤◌, ◌<◌, ◌+◌, ◌^◌, ◌++◌, ◌==◌, ◌||◌, ℕ, length, take, drop, IfSome, IfNone};
 ghost use Rattle.byteorder.specs.Endian.{big_bytes};
-ghost use Rattle.asdp_messages.specs.Datagram.{IsPlainAlive};
+ghost use Rattle.asdp_messages.specs.Datagram.{IsPlainAlive, IsReadAs, IsDiscoveryReadAs, IsLinkReadAs, answer_value};
 ghost use Rattle.asdp_messages.specs.Spelling.{spelled_header_of, spelled_alive_of};
 
-use crate::header::{ALIVE, HEADER_LEN, Header, PROTOCOL};
+use crate::fault::WireFault;
+use crate::header::{
+    ALIVE, BYE, GREATEST_LEN, HEADER_LEN, Header, LINK_HEADER_LEN, LINK_PROTOCOL, PING, PONG,
+    PROTOCOL, RESPONSE,
+};
 use crate::laws::alive_len;
-use crate::message::StateMsg;
+use crate::message::{Message, StateMsg};
 use byteorder::{BigEndian, ByteOrder};
-use link_payload::read_plain_state;
+use link_payload::{read_plain_state, read_pong, read_state, spelled_or_cut};
 use lk_base::NodeId;
+
+/// The message in a datagram, or the first fault, in this order: fewer than 9 bytes; no message of
+/// Link; more than 512 bytes; fewer than the 20 of a discovery message's header; the fault of the
+/// payload of an alive, a response or a pong. The payload of a bye, a ping or another kind isn't
+/// read. Payloads are lent, and nothing is copied but the fields.
+pub fn read_datagram(bytes: &[u8]) -> Result<Message<'_>, WireFault>
+    requires { length bytes.now < 2 ^ 32 }
+    ensures { IsReadAs bytes.now (answer_value result) }
+{
+    let len = bytes.len() as u32;
+    if bytes.len() < LINK_HEADER_LEN {
+        return Err(WireFault::Short { len });
+    }
+    let protocol = BigEndian::read_u64(bytes);
+    if !is_of_link(protocol) {
+        return Err(WireFault::NotLink);
+    }
+    if bytes.len() > GREATEST_LEN {
+        return Err(WireFault::TooLong { len });
+    }
+    if protocol == LINK_PROTOCOL {
+        return link_message(bytes);
+    }
+    if bytes.len() < HEADER_LEN {
+        return Err(WireFault::Short { len });
+    }
+    discovery_message(bytes)
+}
+
+fn is_of_link(protocol: u64) -> bool
+    ensures { result ≡ ((protocol == 0x5f617364705f7601) || (protocol == 0x5f6c696e6b5f7601)) }
+{
+    protocol == PROTOCOL || protocol == LINK_PROTOCOL
+}
+
+fn link_message(bytes: &[u8]) -> Result<Message<'_>, WireFault>
+    requires head { 9 ≤ length bytes.now }
+    requires len { length bytes.now < 2 ^ 32 }
+    ensures { IsLinkReadAs bytes.now (answer_value result) }
+{
+    let (_, payload) = bytes.split_at(LINK_HEADER_LEN);
+    let kind = bytes[8];
+    if kind == PING {
+        return Ok(Message::Ping { payload });
+    }
+    if kind != PONG {
+        return Ok(Message::OtherLink { kind });
+    }
+    // So the payload has entries.
+    spelled_or_cut();
+    match read_pong(payload) {
+        Ok(fields) => Ok(Message::Pong(fields)),
+        Err(fault) => Err(WireFault::Payload(fault)),
+    }
+}
+
+fn discovery_message(bytes: &[u8]) -> Result<Message<'_>, WireFault>
+    requires head { 20 ≤ length bytes.now }
+    requires len { length bytes.now < 2 ^ 32 }
+    ensures { IsDiscoveryReadAs bytes.now (answer_value result) }
+{
+    let (_, payload) = bytes.split_at(HEADER_LEN);
+    let kind = bytes[8];
+    let ttl = bytes[9];
+    let group = BigEndian::read_u16(&bytes[10..12]);
+    let from = id_of(&bytes[12..20]);
+    if kind == BYE {
+        return Ok(Message::Bye { from, ttl, group });
+    }
+    if !tells_state(kind) {
+        return Ok(Message::OtherDiscovery { kind });
+    }
+    // So the payload has entries.
+    spelled_or_cut();
+    let fields = match read_state(payload) {
+        Ok(fields) => fields,
+        Err(fault) => return Err(WireFault::Payload(fault)),
+    };
+    let message = StateMsg {
+        from,
+        ttl,
+        group,
+        fields,
+    };
+    if kind == ALIVE {
+        return Ok(Message::Alive(message));
+    }
+    Ok(Message::Response(message))
+}
+
+fn tells_state(kind: u8) -> bool
+    ensures { result ≡ ((kind == 1) || (kind == 2)) }
+{
+    kind == ALIVE || kind == RESPONSE
+}
 
 // How many bytes an alive with an endpoint has.
 const PLAIN_ALIVE_LEN: usize = 107;

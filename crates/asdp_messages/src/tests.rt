@@ -1,5 +1,8 @@
-use crate::{StateMsg, read_plain_alive, write_response};
-use link_payload::PeerFields;
+use crate::{
+    Message, StateMsg, WireFault, read_datagram, read_plain_alive, write_alive, write_bye,
+    write_ping_message, write_pong_message, write_response,
+};
+use link_payload::{PayloadFault, PeerFields, PingFields, PongFields};
 use lk_base::{Endpoint, NodeId, SessionStart, Timeline, Wire};
 
 const HEADER: &[u8] = b"_asdp_v\x01\x01\x05\0\0ABCDEFGH";
@@ -267,4 +270,127 @@ fn a_response_is_written_byte_for_byte(rt: HostRuntime) {
         three.as_slice()
     );
     assert_eq!(rt; three.len(), 93);
+}
+
+#[test]
+fn a_datagram_names_its_first_fault(rt: HostRuntime) {
+    let mut long = [0u8; 513];
+    long[..20].copy_from_slice(HEADER);
+    let missing = PayloadFault::Missing { key: 0x7365_7373 };
+    let size = PayloadFault::WrongSize {
+        key: 0x746d_6c6e,
+        size: 25,
+    };
+    let range = PayloadFault::OutOfRange {
+        key: 0x746d_6c6e,
+        value: 0,
+    };
+    let alone = joined(&[HEADER, TIMELINE]);
+    let oversized = joined(&[HEADER, b"tmln\0\0\0\x19", ZERO, ZERO, ZERO, b"\0"]);
+    let endless = joined(&[HEADER, b"tmln\xff\xff\xff\xff", ZERO, ZERO, ZERO]);
+    let half = joined(&[HEADER, b"abcd\x80\0\0\0"]);
+    let still = joined(&[HEADER, MPB_HEAD, ZERO, ZERO, ZERO, SESSION]);
+    let faults: &[(&[u8], WireFault)] = &[
+        (b"", WireFault::Short { len: 0 }),
+        (
+            b"_asdp_v\x01\x01\x05\0\0ABCDEFG",
+            WireFault::Short { len: 19 },
+        ),
+        (b"_link_v\x01", WireFault::Short { len: 8 }),
+        (&[0; 9], WireFault::NotLink),
+        (&[0; 600], WireFault::NotLink),
+        (&long, WireFault::TooLong { len: 513 }),
+        (&alone, WireFault::Payload(missing)),
+        (&oversized, WireFault::Payload(size)),
+        (&endless, WireFault::Payload(PayloadFault::Cut { at: 0 })),
+        (&half, WireFault::Payload(PayloadFault::Cut { at: 0 })),
+        (&still, WireFault::Payload(range)),
+    ];
+    for (bytes, fault) in faults {
+        assert_eq!(rt; read_datagram(bytes), Err(*fault));
+    }
+}
+
+#[test]
+fn an_alive_is_read_past_unknown_and_repeated_entries(rt: HostRuntime) {
+    let unknown = joined(&[b"mep6\0\0\0\x12", ZERO, ZERO, b"\0\0"]);
+    let again = joined(&[b"tmln\0\0\0\x18\0\0\0\0\0\x06\x1a\x80", ZERO, ZERO]);
+    let fields = PeerFields {
+        endpoint: None,
+        ..MESSAGE.fields
+    };
+    let read: &[(Wire, StateMsg)] = &[
+        (with_header(HEADER), MESSAGE),
+        (
+            joined(&[HEADER, TIMELINE, &unknown, SESSION, START, ENDPOINT]),
+            MESSAGE,
+        ),
+        (
+            joined(&[HEADER, TIMELINE, &again, SESSION, START, ENDPOINT]),
+            message_at(400_000, 0),
+        ),
+        (
+            joined(&[HEADER, TIMELINE, SESSION]),
+            StateMsg { fields, ..MESSAGE },
+        ),
+    ];
+    for (bytes, message) in read {
+        assert_eq!(rt; read_datagram(bytes), Ok(Message::Alive(*message)));
+    }
+    let mut full = [0u8; 512];
+    full[..20].copy_from_slice(b"_asdp_v\x01\x09\x05\0\0ABCDEFGH");
+    assert_eq!(rt;
+        read_datagram(&full),
+        Ok(Message::OtherDiscovery { kind: 9 })
+    );
+}
+
+#[test]
+fn each_message_is_read_as_it_was_written(rt: HostRuntime) {
+    let from = MESSAGE.from;
+    let fields = MESSAGE.fields;
+    let alive = write_alive(from, 0, &fields);
+    assert_eq!(rt; alive.as_slice(), with_header(HEADER).as_slice());
+    let response = write_response(from, 0, &fields);
+    assert_eq!(rt; read_datagram(&response), Ok(Message::Response(MESSAGE)));
+    let bye = write_bye(from, 258);
+    assert_eq!(rt;
+        bye.as_slice(),
+        b"_asdp_v\x01\x03\0\x01\x02ABCDEFGH".as_slice()
+    );
+    let ttl = 0;
+    assert_eq!(rt;
+        read_datagram(&bye),
+        Ok(Message::Bye {
+            from,
+            ttl,
+            group: 258
+        })
+    );
+    let host = 1_000;
+    let ping = write_ping_message(&PingFields {
+        host,
+        previous: None,
+    });
+    let payload: &[u8] = b"__ht\0\0\0\x08\0\0\0\0\0\0\x03\xe8";
+    assert_eq!(rt;
+        ping.as_slice(),
+        joined(&[b"_link_v\x01\x01", payload]).as_slice()
+    );
+    assert_eq!(rt; read_datagram(&ping), Ok(Message::Ping { payload }));
+    let pong = write_pong_message(from, 250, payload);
+    let time = b"__gt\0\0\0\x08\0\0\0\0\0\0\0\xfa";
+    let whole = joined(&[b"_link_v\x01\x02", SESSION, time, payload]);
+    assert_eq!(rt; pong.as_slice(), whole.as_slice());
+    let fields = PongFields {
+        session: from,
+        ghost_time: 250,
+        host,
+        previous: 0,
+    };
+    assert_eq!(rt; read_datagram(&pong), Ok(Message::Pong(fields)));
+    assert_eq!(rt;
+        read_datagram(b"_link_v\x01\x03"),
+        Ok(Message::OtherLink { kind: 3 })
+    );
 }

@@ -1,20 +1,57 @@
 //! Writing messages.
 
-ghost use Rattle.std.specs.Prelude.{◌≡◌, ◌+◌, ◌≤◌, ◌++◌, length, is_some, if◌then◌else◌};
+ghost use Rattle.std.specs.Prelude.{◌≡◌, ◌+◌, ◌≤◌, ◌++◌, Ok, length, is_some, if◌then◌else◌};
 ghost use Rattle.arrayvec.specs.ArrayVec.{array_vec_len};
-ghost use Rattle.asdp_messages.specs.Spelling.{spelled_header_of, spelled_response_of};
+ghost use Rattle.lk_base.specs.Ranges.{IsWithinLimit};
+ghost use Rattle.link_payload.specs.declared.fields.PingFields.{PingFields};
+ghost use Rattle.link_payload.specs.Fields.{IsTidyFields, IsTidyPing, echoing};
+ghost use Rattle.link_payload.specs.Spelling.{spelled_ping_of};
+ghost use Rattle.asdp_messages.specs.Datagram.{IsReadAs};
+ghost use Rattle.asdp_messages.specs.Datagram.MessageValue.{Alive, Response, Bye, Ping, Pong};
+ghost use Rattle.asdp_messages.specs.Spelling.{sent, spelled_header_of, spelled_link_header_of, spelled_alive_of, spelled_response_of, spelled_bye_of, spelled_ping_message_of, spelled_pong_message_of};
 
-use crate::header::{Header, PROTOCOL, RESPONSE, TIME_TO_LIVE};
+use crate::header::{
+    ALIVE, BYE, Header, LINK_PROTOCOL, PING, PONG, PROTOCOL, RESPONSE, TIME_TO_LIVE,
+};
 use byteorder::{BigEndian, ByteOrder};
-use link_payload::{PeerFields, write_state};
+use link_payload::{
+    PeerFields, PingFields, fields_are_stored, pong_reads_back, state_reads_back, write_ping,
+    write_pong, write_state,
+};
 use lk_base::{NodeId, Wire};
+
+/// An alive, with a time to live of 5 seconds: 107 bytes with an endpoint, 93 without.
+#[tactic(auto, unfolding(crate::specs::Spelling::spelled_alive_of))]
+pub fn write_alive(from: NodeId, group: u16, fields: &PeerFields) -> Wire
+    ensures items { result.items ≡ spelled_alive_of (sent from group fields.now) }
+    ensures len { array_vec_len result ≡ (if is_some fields.now.endpoint then 107 else 93) }
+    ensures reads_back { IsTidyFields fields.now
+        → IsReadAs result.items (Ok (Alive (sent from group fields.now))) }
+{
+    fields_are_stored(fields);
+    state_reads_back();
+    let mut out = Wire::new();
+    let header = Header {
+        kind: ALIVE,
+        ttl: TIME_TO_LIVE,
+        group,
+        from,
+    };
+    put_header(&mut out, &header);
+    write_state(&mut out, fields);
+    out
+}
 
 /// A response, with a time to live of 5 seconds: 107 bytes with an endpoint, 93 without.
 #[tactic(auto, unfolding(crate::specs::Spelling::spelled_response_of))]
 pub fn write_response(from: NodeId, group: u16, fields: &PeerFields) -> Wire
     ensures items { result.items ≡ spelled_response_of from group fields.now }
     ensures len { array_vec_len result ≡ (if is_some fields.now.endpoint then 107 else 93) }
+    ensures reads_back { IsTidyFields fields.now
+        → IsReadAs result.items (Ok (Response (sent from group fields.now))) }
 {
+    fields_are_stored(fields);
+    state_reads_back();
     let mut out = Wire::new();
     let header = Header {
         kind: RESPONSE,
@@ -25,6 +62,66 @@ pub fn write_response(from: NodeId, group: u16, fields: &PeerFields) -> Wire
     put_header(&mut out, &header);
     write_state(&mut out, fields);
     out
+}
+
+/// A bye, with a time to live of 0 seconds and no payload: 20 bytes.
+#[tactic(auto, unfolding(crate::specs::Spelling::spelled_bye_of))]
+pub fn write_bye(from: NodeId, group: u16) -> Wire
+    ensures items { result.items ≡ spelled_bye_of from group }
+    ensures len { array_vec_len result ≡ 20 }
+    ensures reads_back { IsReadAs result.items (Ok (Bye from 0 group)) }
+{
+    let mut out = Wire::new();
+    let header = Header {
+        kind: BYE,
+        ttl: 0,
+        group,
+        from,
+    };
+    put_header(&mut out, &header);
+    out
+}
+
+/// A ping: 41 bytes with a ghost time, 25 without.
+#[tactic(auto, unfolding(crate::specs::Spelling::spelled_ping_message_of))]
+pub fn write_ping_message(ping: &PingFields) -> Wire
+    ensures items { result.items ≡ spelled_ping_message_of ping.now }
+    ensures len { array_vec_len result ≡ (if is_some ping.now.previous then 41 else 25) }
+    ensures reads_back { IsReadAs result.items (Ok (Ping (spelled_ping_of ping.now))) }
+{
+    let mut out = Wire::new();
+    put_link_header(&mut out, PING);
+    write_ping(&mut out, ping);
+    out
+}
+
+/// A pong, which gives back the payload of the ping that it answers: 41 bytes and that payload's.
+#[tactic(auto, unfolding(crate::specs::Spelling::spelled_pong_message_of))]
+pub fn write_pong_message(session: NodeId, ghost_time: i64, echo: &[u8]) -> Wire
+    requires { length echo.now ≤ 32 }
+    ensures items { result.items ≡ spelled_pong_message_of session ghost_time echo.now }
+    ensures len { array_vec_len result ≡ 41 + length echo.now }
+    ensures reads_back { (ping : PingFields) → IsTidyPing ping → IsWithinLimit ghost_time
+        → echo.now ≡ spelled_ping_of ping
+        → IsReadAs result.items (Ok (Pong (echoing session ghost_time ping))) }
+{
+    pong_reads_back();
+    let mut out = Wire::new();
+    put_link_header(&mut out, PONG);
+    write_pong(&mut out, session, ghost_time, echo);
+    out
+}
+
+#[tactic(auto, unfolding(crate::specs::Spelling::spelled_link_header_of))]
+fn put_link_header(out: &mut Wire, kind: u8)
+    requires { array_vec_len out.old + 9 ≤ 513 }
+    ensures items { out.new.items ≡ out.old.items ++ spelled_link_header_of kind }
+    ensures len { array_vec_len out.new ≡ array_vec_len out.old + 9 }
+{
+    let mut protocol = [0; 8];
+    BigEndian::write_u64(&mut protocol, LINK_PROTOCOL);
+    put(out, &protocol);
+    put(out, &[kind]);
 }
 
 fn put_header(out: &mut Wire, header: &Header)
