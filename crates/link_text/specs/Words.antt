@@ -1,0 +1,24 @@
+-- How the words of a line are spelled: truth values, endpoints. (Numbers are std's `decimal` and
+-- `signed_decimal`, hex is `decode_of` of the crate `hex`.)
+use Rattle.std.specs.Prelude.{ℕ, ◌/◌, ◌%◌, ◌^◌, ◌<◌, Bool, true, false, List, [], ◌∷◌, ◌++◌}
+use Rattle.std.specs.Fmt.{decimal}
+use Rattle.lk_base.specs.declared.endpoint.Endpoint.{Endpoint}
+
+-- 1 for what holds, 0 for what doesn't
+unfoldable pub truth_text_of : Bool → List ℕ
+truth_text_of true = 49 ∷ []
+truth_text_of false = 48 ∷ []
+
+-- four numbers parted by dots, a colon and a port
+unfoldable pub dotted : ℕ → ℕ → ℕ → ℕ → ℕ → List ℕ
+dotted a b c d port =
+    decimal a ++ 46 ∷ (decimal b ++ 46 ∷ (decimal c ++ 46 ∷ (decimal d ++ 58 ∷ decimal port)))
+
+-- an address goes by its four bytes, the highest first
+unfoldable pub endpoint_text_of : Endpoint → List ℕ
+endpoint_text_of e =
+    dotted (e.addr / 256 ^ 3) (e.addr / 256 ^ 2 % 256) (e.addr / 256 % 256) (e.addr % 256) e.port
+
+-- the ranges of an endpoint's numbers
+abbrev pub IsEndpoint : Endpoint → Type 0
+IsEndpoint e = (e.addr < 2 ^ 32) × (e.port < 2 ^ 16)
