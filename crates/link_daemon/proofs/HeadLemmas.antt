@@ -5,7 +5,7 @@ use Rattle.std.specs.Fmt.{decimal, signed_decimal}
 use Rattle.std.proofs.lemmas.List.{append_cancel_left}
 use Rattle.lk_base.specs.declared.ids.NodeId.{NodeId}
 use Rattle.link_daemon.specs.declared.script.Head.{Head}
-use Rattle.link_daemon.specs.Words.{truth_text_of}
+use Rattle.link_text.specs.Words.{truth_text_of}
 use Rattle.link_daemon.specs.Script.{IsHead, node_line}
 use Rattle.link_daemon.proofs.WordLemmas.{cut_as}
 use Rattle.link_daemon.proofs.NumberLemmas.{number_cut, amount_cut}

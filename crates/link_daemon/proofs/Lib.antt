@@ -5,9 +5,11 @@ mod EndpointLemmas
 mod HeadLemmas
 mod ArrivalLemmas
 mod ScriptLemmas
-mod DigitLemmas
 mod OutletLemmas
 mod ReplayLemmas
 mod CommandLemmas
+mod HexLineLemmas
+mod ReadingLemmas
+mod DecodeLemmas
 mod StatusLemmas
 mod OneStatusLemmas

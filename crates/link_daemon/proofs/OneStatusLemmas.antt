@@ -1,15 +1,17 @@
 -- The causes of two statuses never hold together.
-use Rattle.std.proofs.Common.{◌≡◌, ◌<◌, ◌-◌, ◌^◌, ◌++◌, length, List, ℕ, Option, Some, None, IsSome, refl, ap, sym, subst, ◌∙◌, arith}
+use Rattle.std.proofs.Common.{◌≡◌, ◌≢◌, ◌⊎◌, inl, inr, ◌<◌, ◌-◌, ◌^◌, ◌++◌, length, List, ℕ, Option, Some, None, IsSome, refl, ap, sym, subst, ◌∙◌, arith}
 use Rattle.std.proofs.lemmas.List.{append-nil}
 use Rattle.lk_outside.specs.Faults.{Rose}
 use Rattle.lk_outside.specs.Source.{Takes, IsAtEnd}
 use Rattle.lk_outside.specs.Transfer.{TakesMoreThan}
-use Rattle.link_daemon.specs.declared.script.Head.{Head}
-use Rattle.link_daemon.specs.declared.script.Arrival.{Arrival}
+use Rattle.std.specs.declared.alloc.Global.{Global}
+use Rattle.std.specs.declared.string.String.{String}
+use Rattle.link_daemon.specs.declared.status.Status.{Status}
 use Rattle.link_daemon.specs.declared.status.Status.TheVariants as status
-use Rattle.link_daemon.specs.Script.{IsScriptOf}
-use Rattle.link_daemon.specs.Statuses.{Stream, WasRead, ReadsScript, ReadsNoScript}
-use Rattle.link_daemon.specs.OneStatus.{HasOneStatus}
+use Rattle.link_daemon.specs.Statuses.{Command, Stream, WasRead, ReadsText, ReadsFault, EndsBy, status_number_of, replay_command, decode_command}
+use Rattle.link_daemon.specs.OneStatus.{IsTold, HasOneStatus}
+use Rattle.link_daemon.proofs.StatusLemmas.{not_both}
+use Rattle.link_daemon.proofs.HexLineLemmas.{bad_and_decoded}
 
 -- a count that can rise does not both rise and stay
 rose_and_quiet : (before now : ℕ) → before < 2 ^ 64 - 1 → Rose before now → now ≡ before → ⊥
@@ -35,109 +37,143 @@ more_and_whole limit input input' bytes tells (others, more, taken) read =
     let long : length others ≡ length bytes = ap length same in
     omega (arith, read.within)
 
--- one text is not both a script and none
-script_and_none : (limit line : ℕ) (input input' : Stream) (head : Head) (arrivals : List Arrival) → IsSome input.told
-    → ReadsNoScript limit input input' line → ReadsScript limit input input' head arrivals → ⊥
-script_and_none limit line input input' head arrivals tells no_script script =
-    let same : script.bytes ≡ no_script.bytes = one_text input.told input'.told script.bytes no_script.bytes tells script.read.whole.taken no_script.read.whole.taken script.read.whole.ended in
-    no_script.none_fits head arrivals (let P : List ℕ → Type 0 = λ bytes. IsScriptOf bytes head arrivals in subst P same script.script)
+-- a text for which a command gives an output has no fault
+abbrev AreExclusive : Command → Type 0
+AreExclusive command = (text output : List ℕ) (line : ℕ) → command.FaultsAt text line → command.Gives text output → ⊥
+
+-- one text is not both in a grammar and outside it
+fault_and_output : (command : Command) → AreExclusive command → (line : ℕ) (input input' : Stream) (output : List ℕ) → IsSome input.told
+    → ReadsFault command input input' line → ReadsText command input input' output → ⊥
+fault_and_output command exclusive line input input' output tells faulty whole =
+    let same : whole.bytes ≡ faulty.bytes = one_text input.told input'.told whole.bytes faulty.bytes tells whole.read.whole.taken faulty.read.whole.taken whole.read.whole.ended in
+    exclusive faulty.bytes output line faulty.fault (let P : List ℕ → Type 0 = λ bytes. command.Gives bytes output in subst P same whole.gives)
+
+-- one run of one command
+one_of : (command : Command) → AreExclusive command → (words : List (String Global)) (input input' out out' : Stream) (one other : Status)
+    → IsTold input → out.faults < 2 ^ 64 - 1 → one ≢ status.Memory → other ≢ status.Memory
+    → EndsBy command words input input' out out' one → EndsBy command words input input' out out' other
+    → status_number_of one ≡ status_number_of other
+one_of command exclusive words input input' out out' status.Done status.Done tells counts not_one not_other (named, (output, reads, wrote)) (named', (output', reads', wrote')) =
+    refl
+one_of command exclusive words input input' out out' status.Done status.Words tells counts not_one not_other (named, (output, reads, wrote)) (unnamed', same_in', same_out') =
+    absurd (unnamed' named)
+one_of command exclusive words input input' out out' status.Done status.Input tells counts not_one not_other (named, (output, reads, wrote)) (named', rose', same_out') =
+    absurd (rose_and_quiet _ _ tells.counts rose' reads.read.quiet)
+one_of command exclusive words input input' out out' status.Done status.Sink tells counts not_one not_other (named, (output, reads, wrote)) (named', (output', reads', wrote')) =
+    absurd (rose_and_quiet _ _ counts wrote'.rose wrote.quiet)
+one_of command exclusive words input input' out out' status.Done (status.Script g' line') tells counts not_one not_other (named, (output, reads, wrote)) (named', same_grammar', reads', same_out') =
+    absurd (fault_and_output command exclusive _ _ _ _ tells.told reads' reads)
+one_of command exclusive words input input' out out' status.Done status.Memory tells counts not_one not_other (named, (output, reads, wrote)) ends' =
+    absurd (not_other refl)
+one_of command exclusive words input input' out out' status.Done (status.TooLong limit') tells counts not_one not_other (named, (output, reads, wrote)) (named', same_limit', more', quiet', same_out') =
+    absurd (more_and_whole _ _ _ _ tells.told more' reads.read)
+one_of command exclusive words input input' out out' status.Words status.Done tells counts not_one not_other (unnamed, same_in, same_out) (named', (output', reads', wrote')) =
+    absurd (unnamed named')
+one_of command exclusive words input input' out out' status.Words status.Words tells counts not_one not_other (unnamed, same_in, same_out) (unnamed', same_in', same_out') =
+    refl
+one_of command exclusive words input input' out out' status.Words status.Input tells counts not_one not_other (unnamed, same_in, same_out) (named', rose', same_out') =
+    absurd (unnamed named')
+one_of command exclusive words input input' out out' status.Words status.Sink tells counts not_one not_other (unnamed, same_in, same_out) (named', (output', reads', wrote')) =
+    absurd (unnamed named')
+one_of command exclusive words input input' out out' status.Words (status.Script g' line') tells counts not_one not_other (unnamed, same_in, same_out) (named', same_grammar', reads', same_out') =
+    absurd (unnamed named')
+one_of command exclusive words input input' out out' status.Words status.Memory tells counts not_one not_other (unnamed, same_in, same_out) ends' =
+    absurd (not_other refl)
+one_of command exclusive words input input' out out' status.Words (status.TooLong limit') tells counts not_one not_other (unnamed, same_in, same_out) (named', same_limit', more', quiet', same_out') =
+    absurd (unnamed named')
+one_of command exclusive words input input' out out' status.Input status.Done tells counts not_one not_other (named, rose, same_out) (named', (output', reads', wrote')) =
+    absurd (rose_and_quiet _ _ tells.counts rose reads'.read.quiet)
+one_of command exclusive words input input' out out' status.Input status.Words tells counts not_one not_other (named, rose, same_out) (unnamed', same_in', same_out') =
+    absurd (unnamed' named)
+one_of command exclusive words input input' out out' status.Input status.Input tells counts not_one not_other (named, rose, same_out) (named', rose', same_out') =
+    refl
+one_of command exclusive words input input' out out' status.Input status.Sink tells counts not_one not_other (named, rose, same_out) (named', (output', reads', wrote')) =
+    absurd (rose_and_quiet _ _ tells.counts rose reads'.read.quiet)
+one_of command exclusive words input input' out out' status.Input (status.Script g' line') tells counts not_one not_other (named, rose, same_out) (named', same_grammar', reads', same_out') =
+    absurd (rose_and_quiet _ _ tells.counts rose reads'.read.quiet)
+one_of command exclusive words input input' out out' status.Input status.Memory tells counts not_one not_other (named, rose, same_out) ends' =
+    absurd (not_other refl)
+one_of command exclusive words input input' out out' status.Input (status.TooLong limit') tells counts not_one not_other (named, rose, same_out) (named', same_limit', more', quiet', same_out') =
+    absurd (rose_and_quiet _ _ tells.counts rose quiet')
+one_of command exclusive words input input' out out' status.Sink status.Done tells counts not_one not_other (named, (output, reads, wrote)) (named', (output', reads', wrote')) =
+    absurd (rose_and_quiet _ _ counts wrote.rose wrote'.quiet)
+one_of command exclusive words input input' out out' status.Sink status.Words tells counts not_one not_other (named, (output, reads, wrote)) (unnamed', same_in', same_out') =
+    absurd (unnamed' named)
+one_of command exclusive words input input' out out' status.Sink status.Input tells counts not_one not_other (named, (output, reads, wrote)) (named', rose', same_out') =
+    absurd (rose_and_quiet _ _ tells.counts rose' reads.read.quiet)
+one_of command exclusive words input input' out out' status.Sink status.Sink tells counts not_one not_other (named, (output, reads, wrote)) (named', (output', reads', wrote')) =
+    refl
+one_of command exclusive words input input' out out' status.Sink (status.Script g' line') tells counts not_one not_other (named, (output, reads, wrote)) (named', same_grammar', reads', same_out') =
+    absurd (fault_and_output command exclusive _ _ _ _ tells.told reads' reads)
+one_of command exclusive words input input' out out' status.Sink status.Memory tells counts not_one not_other (named, (output, reads, wrote)) ends' =
+    absurd (not_other refl)
+one_of command exclusive words input input' out out' status.Sink (status.TooLong limit') tells counts not_one not_other (named, (output, reads, wrote)) (named', same_limit', more', quiet', same_out') =
+    absurd (more_and_whole _ _ _ _ tells.told more' reads.read)
+one_of command exclusive words input input' out out' (status.Script g line) status.Done tells counts not_one not_other (named, same_grammar, reads, same_out) (named', (output', reads', wrote')) =
+    absurd (fault_and_output command exclusive _ _ _ _ tells.told reads reads')
+one_of command exclusive words input input' out out' (status.Script g line) status.Words tells counts not_one not_other (named, same_grammar, reads, same_out) (unnamed', same_in', same_out') =
+    absurd (unnamed' named)
+one_of command exclusive words input input' out out' (status.Script g line) status.Input tells counts not_one not_other (named, same_grammar, reads, same_out) (named', rose', same_out') =
+    absurd (rose_and_quiet _ _ tells.counts rose' reads.read.quiet)
+one_of command exclusive words input input' out out' (status.Script g line) status.Sink tells counts not_one not_other (named, same_grammar, reads, same_out) (named', (output', reads', wrote')) =
+    absurd (fault_and_output command exclusive _ _ _ _ tells.told reads reads')
+one_of command exclusive words input input' out out' (status.Script g line) (status.Script g' line') tells counts not_one not_other (named, same_grammar, reads, same_out) (named', same_grammar', reads', same_out') =
+    refl
+one_of command exclusive words input input' out out' (status.Script g line) status.Memory tells counts not_one not_other (named, same_grammar, reads, same_out) ends' =
+    absurd (not_other refl)
+one_of command exclusive words input input' out out' (status.Script g line) (status.TooLong limit') tells counts not_one not_other (named, same_grammar, reads, same_out) (named', same_limit', more', quiet', same_out') =
+    absurd (more_and_whole _ _ _ _ tells.told more' reads.read)
+one_of command exclusive words input input' out out' status.Memory status.Done tells counts not_one not_other ends (named', (output', reads', wrote')) =
+    absurd (not_one refl)
+one_of command exclusive words input input' out out' status.Memory status.Words tells counts not_one not_other ends (unnamed', same_in', same_out') =
+    absurd (not_one refl)
+one_of command exclusive words input input' out out' status.Memory status.Input tells counts not_one not_other ends (named', rose', same_out') =
+    absurd (not_one refl)
+one_of command exclusive words input input' out out' status.Memory status.Sink tells counts not_one not_other ends (named', (output', reads', wrote')) =
+    absurd (not_one refl)
+one_of command exclusive words input input' out out' status.Memory (status.Script g' line') tells counts not_one not_other ends (named', same_grammar', reads', same_out') =
+    absurd (not_one refl)
+one_of command exclusive words input input' out out' status.Memory status.Memory tells counts not_one not_other ends ends' =
+    absurd (not_one refl)
+one_of command exclusive words input input' out out' status.Memory (status.TooLong limit') tells counts not_one not_other ends (named', same_limit', more', quiet', same_out') =
+    absurd (not_one refl)
+one_of command exclusive words input input' out out' (status.TooLong limit) status.Done tells counts not_one not_other (named, same_limit, more, quiet, same_out) (named', (output', reads', wrote')) =
+    absurd (more_and_whole _ _ _ _ tells.told more reads'.read)
+one_of command exclusive words input input' out out' (status.TooLong limit) status.Words tells counts not_one not_other (named, same_limit, more, quiet, same_out) (unnamed', same_in', same_out') =
+    absurd (unnamed' named)
+one_of command exclusive words input input' out out' (status.TooLong limit) status.Input tells counts not_one not_other (named, same_limit, more, quiet, same_out) (named', rose', same_out') =
+    absurd (rose_and_quiet _ _ tells.counts rose' quiet)
+one_of command exclusive words input input' out out' (status.TooLong limit) status.Sink tells counts not_one not_other (named, same_limit, more, quiet, same_out) (named', (output', reads', wrote')) =
+    absurd (more_and_whole _ _ _ _ tells.told more reads'.read)
+one_of command exclusive words input input' out out' (status.TooLong limit) (status.Script g' line') tells counts not_one not_other (named, same_limit, more, quiet, same_out) (named', same_grammar', reads', same_out') =
+    absurd (more_and_whole _ _ _ _ tells.told more reads'.read)
+one_of command exclusive words input input' out out' (status.TooLong limit) status.Memory tells counts not_one not_other (named, same_limit, more, quiet, same_out) ends' =
+    absurd (not_other refl)
+one_of command exclusive words input input' out out' (status.TooLong limit) (status.TooLong limit') tells counts not_one not_other (named, same_limit, more, quiet, same_out) (named', same_limit', more', quiet', same_out') =
+    refl
+
+replay_exclusive : AreExclusive replay_command
+replay_exclusive text output line fault (head, arrivals, script, same) = fault.1 head arrivals script
+
+decode_exclusive : AreExclusive decode_command
+decode_exclusive text output line fault whole = bad_and_decoded text output line fault whole
 
 pub one_status : HasOneStatus
-one_status words input input' out out' status.Done status.Done tells counts not_one not_other (replay, (head, arrivals, reads, wrote)) (replay', (head', arrivals', reads', wrote')) =
-    refl
-one_status words input input' out out' status.Done status.Words tells counts not_one not_other (replay, (head, arrivals, reads, wrote)) (not_replay', same_in', same_out') =
-    absurd (not_replay' replay)
-one_status words input input' out out' status.Done status.Input tells counts not_one not_other (replay, (head, arrivals, reads, wrote)) (replay', rose', same_out') =
-    absurd (rose_and_quiet _ _ tells.counts rose' reads.read.quiet)
-one_status words input input' out out' status.Done status.Sink tells counts not_one not_other (replay, (head, arrivals, reads, wrote)) (replay', (head', arrivals', reads', wrote')) =
-    absurd (rose_and_quiet _ _ counts wrote'.rose wrote.quiet)
-one_status words input input' out out' status.Done (status.Script line') tells counts not_one not_other (replay, (head, arrivals, reads, wrote)) (replay', reads', same_out') =
-    absurd (script_and_none _ _ _ _ _ _ tells.told reads' reads)
-one_status words input input' out out' status.Done status.Memory tells counts not_one not_other (replay, (head, arrivals, reads, wrote)) ends' =
-    absurd (not_other refl)
-one_status words input input' out out' status.Done status.TooLong tells counts not_one not_other (replay, (head, arrivals, reads, wrote)) (replay', more', quiet', same_out') =
-    absurd (more_and_whole _ _ _ _ tells.told more' reads.read)
-one_status words input input' out out' status.Words status.Done tells counts not_one not_other (not_replay, same_in, same_out) (replay', (head', arrivals', reads', wrote')) =
-    absurd (not_replay replay')
-one_status words input input' out out' status.Words status.Words tells counts not_one not_other (not_replay, same_in, same_out) (not_replay', same_in', same_out') =
-    refl
-one_status words input input' out out' status.Words status.Input tells counts not_one not_other (not_replay, same_in, same_out) (replay', rose', same_out') =
-    absurd (not_replay replay')
-one_status words input input' out out' status.Words status.Sink tells counts not_one not_other (not_replay, same_in, same_out) (replay', (head', arrivals', reads', wrote')) =
-    absurd (not_replay replay')
-one_status words input input' out out' status.Words (status.Script line') tells counts not_one not_other (not_replay, same_in, same_out) (replay', reads', same_out') =
-    absurd (not_replay replay')
-one_status words input input' out out' status.Words status.Memory tells counts not_one not_other (not_replay, same_in, same_out) ends' =
-    absurd (not_other refl)
-one_status words input input' out out' status.Words status.TooLong tells counts not_one not_other (not_replay, same_in, same_out) (replay', more', quiet', same_out') =
-    absurd (not_replay replay')
-one_status words input input' out out' status.Input status.Done tells counts not_one not_other (replay, rose, same_out) (replay', (head', arrivals', reads', wrote')) =
-    absurd (rose_and_quiet _ _ tells.counts rose reads'.read.quiet)
-one_status words input input' out out' status.Input status.Words tells counts not_one not_other (replay, rose, same_out) (not_replay', same_in', same_out') =
-    absurd (not_replay' replay)
-one_status words input input' out out' status.Input status.Input tells counts not_one not_other (replay, rose, same_out) (replay', rose', same_out') =
-    refl
-one_status words input input' out out' status.Input status.Sink tells counts not_one not_other (replay, rose, same_out) (replay', (head', arrivals', reads', wrote')) =
-    absurd (rose_and_quiet _ _ tells.counts rose reads'.read.quiet)
-one_status words input input' out out' status.Input (status.Script line') tells counts not_one not_other (replay, rose, same_out) (replay', reads', same_out') =
-    absurd (rose_and_quiet _ _ tells.counts rose reads'.read.quiet)
-one_status words input input' out out' status.Input status.Memory tells counts not_one not_other (replay, rose, same_out) ends' =
-    absurd (not_other refl)
-one_status words input input' out out' status.Input status.TooLong tells counts not_one not_other (replay, rose, same_out) (replay', more', quiet', same_out') =
-    absurd (rose_and_quiet _ _ tells.counts rose quiet')
-one_status words input input' out out' status.Sink status.Done tells counts not_one not_other (replay, (head, arrivals, reads, wrote)) (replay', (head', arrivals', reads', wrote')) =
-    absurd (rose_and_quiet _ _ counts wrote.rose wrote'.quiet)
-one_status words input input' out out' status.Sink status.Words tells counts not_one not_other (replay, (head, arrivals, reads, wrote)) (not_replay', same_in', same_out') =
-    absurd (not_replay' replay)
-one_status words input input' out out' status.Sink status.Input tells counts not_one not_other (replay, (head, arrivals, reads, wrote)) (replay', rose', same_out') =
-    absurd (rose_and_quiet _ _ tells.counts rose' reads.read.quiet)
-one_status words input input' out out' status.Sink status.Sink tells counts not_one not_other (replay, (head, arrivals, reads, wrote)) (replay', (head', arrivals', reads', wrote')) =
-    refl
-one_status words input input' out out' status.Sink (status.Script line') tells counts not_one not_other (replay, (head, arrivals, reads, wrote)) (replay', reads', same_out') =
-    absurd (script_and_none _ _ _ _ _ _ tells.told reads' reads)
-one_status words input input' out out' status.Sink status.Memory tells counts not_one not_other (replay, (head, arrivals, reads, wrote)) ends' =
-    absurd (not_other refl)
-one_status words input input' out out' status.Sink status.TooLong tells counts not_one not_other (replay, (head, arrivals, reads, wrote)) (replay', more', quiet', same_out') =
-    absurd (more_and_whole _ _ _ _ tells.told more' reads.read)
-one_status words input input' out out' (status.Script line) status.Done tells counts not_one not_other (replay, reads, same_out) (replay', (head', arrivals', reads', wrote')) =
-    absurd (script_and_none _ _ _ _ _ _ tells.told reads reads')
-one_status words input input' out out' (status.Script line) status.Words tells counts not_one not_other (replay, reads, same_out) (not_replay', same_in', same_out') =
-    absurd (not_replay' replay)
-one_status words input input' out out' (status.Script line) status.Input tells counts not_one not_other (replay, reads, same_out) (replay', rose', same_out') =
-    absurd (rose_and_quiet _ _ tells.counts rose' reads.read.quiet)
-one_status words input input' out out' (status.Script line) status.Sink tells counts not_one not_other (replay, reads, same_out) (replay', (head', arrivals', reads', wrote')) =
-    absurd (script_and_none _ _ _ _ _ _ tells.told reads reads')
-one_status words input input' out out' (status.Script line) (status.Script line') tells counts not_one not_other (replay, reads, same_out) (replay', reads', same_out') =
-    refl
-one_status words input input' out out' (status.Script line) status.Memory tells counts not_one not_other (replay, reads, same_out) ends' =
-    absurd (not_other refl)
-one_status words input input' out out' (status.Script line) status.TooLong tells counts not_one not_other (replay, reads, same_out) (replay', more', quiet', same_out') =
-    absurd (more_and_whole _ _ _ _ tells.told more' reads.read)
-one_status words input input' out out' status.Memory status.Done tells counts not_one not_other ends (replay', (head', arrivals', reads', wrote')) =
-    absurd (not_one refl)
-one_status words input input' out out' status.Memory status.Words tells counts not_one not_other ends (not_replay', same_in', same_out') =
-    absurd (not_one refl)
-one_status words input input' out out' status.Memory status.Input tells counts not_one not_other ends (replay', rose', same_out') =
-    absurd (not_one refl)
-one_status words input input' out out' status.Memory status.Sink tells counts not_one not_other ends (replay', (head', arrivals', reads', wrote')) =
-    absurd (not_one refl)
-one_status words input input' out out' status.Memory (status.Script line') tells counts not_one not_other ends (replay', reads', same_out') =
-    absurd (not_one refl)
-one_status words input input' out out' status.Memory status.Memory tells counts not_one not_other ends ends' =
-    absurd (not_one refl)
-one_status words input input' out out' status.Memory status.TooLong tells counts not_one not_other ends (replay', more', quiet', same_out') =
-    absurd (not_one refl)
-one_status words input input' out out' status.TooLong status.Done tells counts not_one not_other (replay, more, quiet, same_out) (replay', (head', arrivals', reads', wrote')) =
-    absurd (more_and_whole _ _ _ _ tells.told more reads'.read)
-one_status words input input' out out' status.TooLong status.Words tells counts not_one not_other (replay, more, quiet, same_out) (not_replay', same_in', same_out') =
-    absurd (not_replay' replay)
-one_status words input input' out out' status.TooLong status.Input tells counts not_one not_other (replay, more, quiet, same_out) (replay', rose', same_out') =
-    absurd (rose_and_quiet _ _ tells.counts rose' quiet)
-one_status words input input' out out' status.TooLong status.Sink tells counts not_one not_other (replay, more, quiet, same_out) (replay', (head', arrivals', reads', wrote')) =
-    absurd (more_and_whole _ _ _ _ tells.told more reads'.read)
-one_status words input input' out out' status.TooLong (status.Script line') tells counts not_one not_other (replay, more, quiet, same_out) (replay', reads', same_out') =
-    absurd (more_and_whole _ _ _ _ tells.told more reads'.read)
-one_status words input input' out out' status.TooLong status.Memory tells counts not_one not_other (replay, more, quiet, same_out) ends' =
-    absurd (not_other refl)
-one_status words input input' out out' status.TooLong status.TooLong tells counts not_one not_other (replay, more, quiet, same_out) (replay', more', quiet', same_out') =
-    refl
+one_status words input input' out out' one other tells counts not_one not_other (inl (named, ends)) (inl (named', ends')) =
+    one_of replay_command replay_exclusive words input input' out out' one other tells counts not_one not_other ends ends'
+one_status words input input' out out' one other tells counts not_one not_other (inl (named, ends)) (inr (inl (named', ends'))) =
+    absurd (not_both words named named')
+one_status words input input' out out' one other tells counts not_one not_other (inl (named, ends)) (inr (inr unnamed)) =
+    absurd (unnamed.no_replay named)
+one_status words input input' out out' one other tells counts not_one not_other (inr (inl (named, ends))) (inl (named', ends')) =
+    absurd (not_both words named' named)
+one_status words input input' out out' one other tells counts not_one not_other (inr (inl (named, ends))) (inr (inl (named', ends'))) =
+    one_of decode_command decode_exclusive words input input' out out' one other tells counts not_one not_other ends ends'
+one_status words input input' out out' one other tells counts not_one not_other (inr (inl (named, ends))) (inr (inr unnamed)) =
+    absurd (unnamed.no_decode named)
+one_status words input input' out out' one other tells counts not_one not_other (inr (inr unnamed)) (inl (named, ends)) =
+    absurd (unnamed.no_replay named)
+one_status words input input' out out' one other tells counts not_one not_other (inr (inr unnamed)) (inr (inl (named, ends))) =
+    absurd (unnamed.no_decode named)
+one_status words input input' out out' one other tells counts not_one not_other (inr (inr unnamed)) (inr (inr unnamed')) =
+    ap status_number_of (unnamed.words_at_fault ∙ sym unnamed'.words_at_fault)

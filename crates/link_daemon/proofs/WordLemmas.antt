@@ -1,7 +1,7 @@
 -- Words, and the places at which a line is cut.
 use Rattle.std.proofs.Common.{◌≡◌, ◌≢◌, ◌⊎◌, inl, inr, refl, sym, ◌∙◌, subst, arith, ℕ, zero, suc, Bool, true, false, List, [], ◌∷◌, ◌++◌, length, get_or, Option, Some, None, MatchOption, IfSome, IfNone}
 use Rattle.std.proofs.lemmas.Slice.Eq.{text_from_reads}
-use Rattle.link_daemon.specs.Words.{truth_text_of}
+use Rattle.link_text.specs.Words.{truth_text_of}
 use Rattle.std.specs.List.{Contains}
 use denote.Ref.{Bor}
 

@@ -1,9 +1,10 @@
-pub mod Words
 pub mod Lines
 pub mod Script
 pub mod Reading
 pub mod Faults
 pub mod Outlet
 pub mod ReplayText
+pub mod HexLines
+pub mod DecodeText
 pub mod Statuses
 pub mod OneStatus

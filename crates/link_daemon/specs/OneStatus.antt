@@ -4,7 +4,7 @@ use Rattle.std.specs.declared.alloc.Global.{Global}
 use Rattle.std.specs.declared.string.String.{String}
 use Rattle.link_daemon.specs.declared.status.Status.{Status}
 use Rattle.link_daemon.specs.declared.status.Status.TheVariants as status
-use Rattle.link_daemon.specs.Statuses.{Stream, EndsReplay, status_number_of}
+use Rattle.link_daemon.specs.Statuses.{Stream, Ends, status_number_of}
 
 -- a stream that tells what it holds, and whose count of failures can still rise
 pub record IsTold (s : Stream) : Type 0 where
@@ -17,6 +17,6 @@ HasOneStatus =
     (words : List (String Global)) (input input' out out' : Stream) (one other : Status)
     → IsTold input → out.faults < 2 ^ 64 - 1
     → one ≢ status.Memory → other ≢ status.Memory
-    → EndsReplay words input input' out out' one
-    → EndsReplay words input input' out out' other
+    → Ends words input input' out out' one
+    → Ends words input input' out out' other
     → status_number_of one ≡ status_number_of other

@@ -6,15 +6,10 @@ use Rattle.std.specs.Str.{bytes_eq}
 use Rattle.hex.specs.Hex.{encode_lower}
 use Rattle.link_payload.specs.declared.fields.PeerFields.{PeerFields}
 use Rattle.asdp_messages.specs.Spelling.{spelled_response_of}
-use Rattle.link_daemon.specs.Words.{truth_text_of, endpoint_text_of}
+use Rattle.link_text.specs.Words.{truth_text_of, endpoint_text_of}
+use Rattle.link_text.specs.Lines.{line_of}
 use Rattle.link_daemon.specs.declared.script.Head.{Head}
 use Rattle.link_daemon.specs.declared.script.Arrival.{Arrival}
-
--- words parted by single spaces, and a line feed
-abbrev pub line_of : List (List ℕ) → List ℕ
-line_of [] = 10 ∷ []
-line_of (word ∷ []) = word ++ 10 ∷ []
-line_of (word ∷ next ∷ words) = word ++ 32 ∷ line_of (next ∷ words)
 
 -- What a node tells of itself while it is alone: the tempo of its head from beat 0 at ghost time 0, its own session, no start.
 unfoldable pub own_fields_of : Head → PeerFields

@@ -1,6 +1,6 @@
 -- How a call of the program may end: each status with its cause, and what was read and written then. The statuses are tried in this order:
--- the words, a failure of the source, a text over the limit, a text that is no script, a failure of the sink.
-use Rattle.std.specs.Prelude.{◌≡◌, ◌≤◌, ℕ, List, [], ◌∷◌, Option, length, map, codes}
+-- the words, a failure of the source, a text over the limit, a text outside the command's grammar, a failure of the sink.
+use Rattle.std.specs.Prelude.{◌≡◌, ◌≤◌, ◌⊎◌, ℕ, List, [], ◌∷◌, Option, length, map, codes}
 use Rattle.std.specs.String.{string_bytes}
 use Rattle.std.specs.declared.alloc.Global.{Global}
 use Rattle.std.specs.declared.string.String.{String}
@@ -9,8 +9,12 @@ use Rattle.lk_outside.specs.Sink.{Appends}
 use Rattle.lk_outside.specs.Transfer.{ReadsWhole, TakesMoreThan, AppendsPrefix}
 use Rattle.link_daemon.specs.Script.{IsScriptOf, IsNoScript, IsFirstFault}
 use Rattle.link_daemon.specs.ReplayText.{replay_text_of}
+use Rattle.link_daemon.specs.HexLines.{IsFirstBadLine}
+use Rattle.link_daemon.specs.DecodeText.{IsDecodeText}
 use Rattle.link_daemon.specs.declared.script.Head.{Head}
 use Rattle.link_daemon.specs.declared.script.Arrival.{Arrival}
+use Rattle.link_daemon.specs.declared.status.Grammar.{Grammar}
+use Rattle.link_daemon.specs.declared.status.Grammar.TheVariants as grammar
 use Rattle.link_daemon.specs.declared.status.Status.{Status}
 use Rattle.link_daemon.specs.declared.status.Status.TheVariants as status
 
@@ -28,13 +32,45 @@ status_number_of status.Done = 0
 status_number_of status.Words = 2
 status_number_of status.Input = 5
 status_number_of status.Sink = 7
-status_number_of (status.Script line) = 8
+status_number_of (status.Script g line) = 8
 status_number_of status.Memory = 9
-status_number_of status.TooLong = 10
+status_number_of (status.TooLong limit) = 10
 
--- the words are the one word `replay`
-abbrev pub IsReplay : List (String Global) → Type 0
-IsReplay words = map string_bytes words ≡ codes "replay" ∷ []
+-- A command that reads a text and writes another: the one word that names it, how many bytes it reads at most, the grammar of its
+-- texts, what it writes for a text in the grammar, and which line of a text outside it is the first at fault.
+pub record Command : Type 1 where
+  pub word : List ℕ
+  pub limit : ℕ
+  pub grammar : Grammar
+  pub Gives : List ℕ → List ℕ → Type 0
+  pub FaultsAt : List ℕ → ℕ → Type 0
+
+-- the text is a script, and the output is the text of its replay
+abbrev pub GivesReplay : List ℕ → List ℕ → Type 0
+GivesReplay text output =
+    (head : Head) × (arrivals : List Arrival) × IsScriptOf text head arrivals × (output ≡ replay_text_of head arrivals)
+
+abbrev pub replay_command : Command
+replay_command = record {
+  word = codes "replay";
+  limit = 1_073_741_824;
+  grammar = grammar.ReplayScript;
+  Gives = GivesReplay;
+  FaultsAt = λ text line. IsFirstFault text line × IsNoScript text;
+}
+
+abbrev pub decode_command : Command
+decode_command = record {
+  word = codes "decode";
+  limit = 16_777_216;
+  grammar = grammar.HexLines;
+  Gives = IsDecodeText;
+  FaultsAt = IsFirstBadLine;
+}
+
+-- the words are the command's one word
+abbrev pub Names : Command → List (String Global) → Type 0
+Names command words = map string_bytes words ≡ command.word ∷ []
 
 -- these bytes were read, to the end of the input and within the limit, and no read failed
 pub record WasRead (limit : ℕ) (before after : Stream) (bytes : List ℕ) : Type 0 where
@@ -42,57 +78,73 @@ pub record WasRead (limit : ℕ) (before after : Stream) (bytes : List ℕ) : Ty
   pub within : length bytes ≤ limit
   pub quiet : after.faults ≡ before.faults
 
--- a script was read to its end
-pub record ReadsScript (limit : ℕ) (before after : Stream) (head : Head) (arrivals : List Arrival) : Type 0 where
+-- a text for which the command gives this output was read to its end
+pub record ReadsText (command : Command) (before after : Stream) (output : List ℕ) : Type 0 where
   pub bytes : List ℕ
-  pub read : WasRead limit before after bytes
-  pub script : IsScriptOf bytes head arrivals
+  pub read : WasRead command.limit before after bytes
+  pub gives : command.Gives bytes output
 
--- a text that is no script was read to its end, and this is its first line at fault
-pub record ReadsNoScript (limit : ℕ) (before after : Stream) (line : ℕ) : Type 0 where
+-- a text outside the command's grammar was read to its end, and this is its first line at fault
+pub record ReadsFault (command : Command) (before after : Stream) (line : ℕ) : Type 0 where
   pub bytes : List ℕ
-  pub read : WasRead limit before after bytes
-  pub fault : IsFirstFault bytes line
-  pub none_fits : IsNoScript bytes
+  pub read : WasRead command.limit before after bytes
+  pub fault : command.FaultsAt bytes line
 
--- the replay's text was written whole, and no write failed
-pub record WritesReplay (before after : Stream) (head : Head) (arrivals : List Arrival) : Type 0 where
-  pub whole : Appends before.told (replay_text_of head arrivals) after.told
+-- the output was written whole, and no write failed
+pub record WritesWhole (before after : Stream) (output : List ℕ) : Type 0 where
+  pub whole : Appends before.told output after.told
   pub quiet : after.faults ≡ before.faults
 
--- the sink failed, and what was written till then is the front of the replay's text
-pub record WritesPart (before after : Stream) (head : Head) (arrivals : List Arrival) : Type 0 where
-  pub part : AppendsPrefix before.told (replay_text_of head arrivals) after.told
+-- the sink failed, and what was written till then is the front of the output
+pub record WritesPart (before after : Stream) (output : List ℕ) : Type 0 where
+  pub part : AppendsPrefix before.told output after.told
   pub rose : Rose before.faults after.faults
 
-abbrev pub REPLAY_LIMIT : ℕ
-REPLAY_LIMIT = 1_073_741_824
+-- what was written of the output for a text that was read
+abbrev pub EndsText : Command → List ℕ → Stream → Stream → Status → Type 0
+EndsText command bytes out out' status.Done = (output : List ℕ) × command.Gives bytes output × WritesWhole out out' output
+EndsText command bytes out out' status.Sink = (output : List ℕ) × command.Gives bytes output × WritesPart out out' output
+EndsText command bytes out out' (status.Script g line) = (g ≡ command.grammar) × command.FaultsAt bytes line × (out' ≡ out)
+EndsText command bytes out out' status.Memory = out' ≡ out
+EndsText command bytes out out' status.Words = ⊥
+EndsText command bytes out out' status.Input = ⊥
+EndsText command bytes out out' (status.TooLong limit) = ⊥
 
--- what was written of the replay of a text that was read
-abbrev pub EndsText : List ℕ → Stream → Stream → Status → Type 0
-EndsText bytes out out' status.Done =
-    (head : Head) × (arrivals : List Arrival) × IsScriptOf bytes head arrivals × WritesReplay out out' head arrivals
-EndsText bytes out out' status.Sink =
-    (head : Head) × (arrivals : List Arrival) × IsScriptOf bytes head arrivals × WritesPart out out' head arrivals
-EndsText bytes out out' (status.Script line) = IsFirstFault bytes line × IsNoScript bytes × (out' ≡ out)
-EndsText bytes out out' status.Memory = out' ≡ out
-EndsText bytes out out' status.Words = ⊥
-EndsText bytes out out' status.Input = ⊥
-EndsText bytes out out' status.TooLong = ⊥
+-- What a command did with these words between `input`, `out` and `input'`, `out'`. Nothing was written where `out'` is `out`.
+abbrev pub EndsBy : Command → List (String Global) → Stream → Stream → Stream → Stream → Status → Type 0
+EndsBy command words input input' out out' status.Done =
+    Names command words × ((output : List ℕ) × ReadsText command input input' output × WritesWhole out out' output)
+EndsBy command words input input' out out' status.Words = (Names command words → ⊥) × (input' ≡ input) × (out' ≡ out)
+EndsBy command words input input' out out' status.Input =
+    Names command words × Rose input.faults input'.faults × (out' ≡ out)
+EndsBy command words input input' out out' (status.TooLong limit) =
+    Names command words
+    × (limit ≡ command.limit) × TakesMoreThan command.limit input.told input'.told × (input'.faults ≡ input.faults) × (out' ≡ out)
+EndsBy command words input input' out out' (status.Script g line) =
+    Names command words × (g ≡ command.grammar) × ReadsFault command input input' line × (out' ≡ out)
+EndsBy command words input input' out out' status.Sink =
+    Names command words × ((output : List ℕ) × ReadsText command input input' output × WritesPart out out' output)
+-- want of memory may come of any run, before anything is written
+EndsBy command words input input' out out' status.Memory =
+    Names command words × (input'.faults ≡ input.faults) × (out' ≡ out)
 
--- What a replay of these words did between `input`, `out` and `input'`, `out'`. Nothing was written where `out'` is `out`.
 abbrev pub EndsReplay : List (String Global) → Stream → Stream → Stream → Stream → Status → Type 0
-EndsReplay words input input' out out' status.Done =
-    IsReplay words
-    × ((head : Head) × (arrivals : List Arrival) × ReadsScript REPLAY_LIMIT input input' head arrivals × WritesReplay out out' head arrivals)
-EndsReplay words input input' out out' status.Words = (IsReplay words → ⊥) × (input' ≡ input) × (out' ≡ out)
-EndsReplay words input input' out out' status.Input = IsReplay words × Rose input.faults input'.faults × (out' ≡ out)
-EndsReplay words input input' out out' status.TooLong =
-    IsReplay words × TakesMoreThan REPLAY_LIMIT input.told input'.told × (input'.faults ≡ input.faults) × (out' ≡ out)
-EndsReplay words input input' out out' (status.Script line) =
-    IsReplay words × ReadsNoScript REPLAY_LIMIT input input' line × (out' ≡ out)
-EndsReplay words input input' out out' status.Sink =
-    IsReplay words
-    × ((head : Head) × (arrivals : List Arrival) × ReadsScript REPLAY_LIMIT input input' head arrivals × WritesPart out out' head arrivals)
--- want of memory may come of any replay, before anything is written
-EndsReplay words input input' out out' status.Memory = IsReplay words × (input'.faults ≡ input.faults) × (out' ≡ out)
+EndsReplay = EndsBy replay_command
+
+abbrev pub EndsDecode : List (String Global) → Stream → Stream → Stream → Stream → Status → Type 0
+EndsDecode = EndsBy decode_command
+
+-- the words name no command, and no object was called
+pub record EndsUnnamed (words : List (String Global)) (input input' out out' : Stream) (end : Status) : Type 0 where
+  pub no_replay : Names replay_command words → ⊥
+  pub no_decode : Names decode_command words → ⊥
+  pub words_at_fault : end ≡ status.Words
+  pub unread : input' ≡ input
+  pub unwritten : out' ≡ out
+
+-- a run is that of the command that its words name, and of none where they name none
+abbrev pub Ends : List (String Global) → Stream → Stream → Stream → Stream → Status → Type 0
+Ends words input input' out out' end =
+    (Names replay_command words × EndsReplay words input input' out out' end)
+    ⊎ ((Names decode_command words × EndsDecode words input input' out out' end)
+    ⊎ EndsUnnamed words input input' out out' end)

@@ -11,6 +11,7 @@ pub fn line_at(text: &[u8], at: usize) -> (&[u8], usize)
     ensures lines { lines_of (drop at text.now) ≡ result.0.now ∷ lines_of (drop result.1 text.now) }
     ensures further { at < result.1 }
     ensures within { result.1 ≤ length text.now }
+    ensures short { length result.0.now ≤ length text.now }
 {
     let rest = &text[at..];
     match cut_at(rest, b'\n') {

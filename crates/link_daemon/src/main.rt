@@ -1,18 +1,19 @@
 //! The program: its commands, and the real things that it reads from and writes to.
 //!
-//! In reading order: `top` (the top call), `command_line`, `status`, `laws`; `replay`, `replay_lines`, `line_buffer`, `outlet`; the reader of a script,
+//! In reading order: `top` (the top call), `command_line`, `status`, `laws`; `replay`, `replay_lines`, `decode`, `hex_lines`, `outlet`; the reader of a script,
 //! `script`, `head`, `arrival`, `line`, `word`, `number`, `truth`, `node_id`, `endpoint`, `hex_word`; `adapters`.
 #![tactic(auto)]
 
 mod adapters;
 mod arrival;
 mod command_line;
+mod decode;
 mod endpoint;
 mod head;
+mod hex_lines;
 mod hex_word;
 mod laws;
 mod line;
-mod line_buffer;
 mod node_id;
 mod number;
 mod outlet;

@@ -8,14 +8,14 @@ ghost use Rattle.lk_outside.specs.Sink.{Appends};
 ghost use Rattle.lk_outside.specs.Transfer.{AppendsPrefix};
 ghost use Rattle.link_daemon.specs.Outlet.{HandsOver, HandsPart};
 ghost use Rattle.link_daemon.specs.ReplayText.{answer_text_of, done_line_of, is_answered, opening_line_of, replay_text_of, response_hex_of};
-ghost use Rattle.link_daemon.specs.Statuses.{EndsReplay, EndsText, seen};
+ghost use Rattle.link_daemon.specs.Statuses.{EndsReplay, EndsText, replay_command, seen};
 
-use crate::command_line::is_replay;
-use crate::line_buffer::LineBuf;
+use crate::command_line::is_only;
 use crate::outlet::Outlet;
 use crate::replay_lines::{ResponseHex, answers, put_done, put_opening, put_sending, response_hex};
 use crate::script::{Arrival, Head, ScriptFault, read_script};
-use crate::status::Status;
+use crate::status::{Grammar, Status};
+use link_text::LineBuf;
 use lk_outside::{InputFault, Sink, Source, read_all};
 use std::alloc::Global;
 
@@ -39,13 +39,15 @@ pub fn replay_main<S: Source, K: Sink>(
     // No object is called.
     ensures untouched { result ≡ Status.Words → (input.new ≡ input.old) × (out.new ≡ out.old) }
 {
-    if !is_replay(words) {
+    if !is_only(words, "replay") {
         return Status::Words;
     }
     match read_all(alloc, input, LIMIT) {
         Ok(text) => replay_text(alloc, &text, out),
         Err(InputFault::Failed) => Status::Input,
-        Err(InputFault::TooLong) => Status::TooLong,
+        Err(InputFault::TooLong) => Status::TooLong {
+            limit: LIMIT as u64,
+        },
         Err(InputFault::Memory(_)) => Status::Memory,
     }
 }
@@ -53,11 +55,16 @@ pub fn replay_main<S: Source, K: Sink>(
 // Replays a script that was read.
 fn replay_text<K: Sink>(alloc: Global, text: &[u8], out: &mut K) -> Status
     requires { length text.now ≤ 1_073_741_824 }
-    ensures { EndsText text.now (seen K.written K.faults out.old) (seen K.written K.faults out.new) result }
+    ensures { EndsText replay_command text.now (seen K.written K.faults out.old) (seen K.written K.faults out.new) result }
 {
     let script = match read_script(alloc, text) {
         Ok(script) => script,
-        Err(ScriptFault::Line(line)) => return Status::Script { line },
+        Err(ScriptFault::Line(line)) => {
+            return Status::Script {
+                grammar: Grammar::ReplayScript,
+                line,
+            };
+        }
         Err(ScriptFault::Memory(_)) => return Status::Memory,
     };
     let Ok(mut outlet) = Outlet::new(alloc) else {

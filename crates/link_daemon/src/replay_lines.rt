@@ -5,10 +5,10 @@ ghost use Rattle.arrayvec.specs.ArrayVec.{array_vec_len};
 ghost use Rattle.hex.specs.Hex.{encode_lower};
 ghost use Rattle.link_daemon.specs.ReplayText.{is_answered, opening_line_of, own_fields_of, response_hex_of, sending_line_of, done_line_of};
 
-use crate::line_buffer::{LineBuf, put, put_decimal, put_endpoint, put_signed, put_truth};
 use crate::script::{Arrival, Head};
 use asdp_messages::write_response;
 use link_payload::PeerFields;
+use link_text::{LineBuf, put, put_decimal, put_endpoint, put_signed, put_truth};
 use lk_base::{SessionStart, Timeline};
 
 /// The hex digits of a response: its 107 bytes are those of a state with an endpoint.

@@ -1,5 +1,6 @@
 //! Whole runs over objects in memory.
 
+mod decode;
 mod faults;
 mod grammar;
 mod runs;

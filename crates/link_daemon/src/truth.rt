@@ -1,7 +1,7 @@
 //! Truth values, as 1 and 0.
 
 ghost use Rattle.std.specs.Prelude.{◌≡◌, Bool, IfSome, IfNone};
-ghost use Rattle.link_daemon.specs.Words.{truth_text_of};
+ghost use Rattle.link_text.specs.Words.{truth_text_of};
 
 /// The truth value that a word says.
 pub fn truth_of(word: &[u8]) -> Option<bool>

@@ -24,12 +24,14 @@ impl Source for Endless {
 
 #[test]
 fn an_input_over_the_limit_writes_nothing(rt: HostRuntime) -> Result<(), Fail> {
-    let mut words = Vec::new(rt.alloc());
-    words.push(String::from_str(rt.alloc(), "replay")?)?;
-    let mut out = BytesSink::new(rt.alloc(), 100, 100, Vec::new(rt.alloc()))?;
-    let status = link_main(rt.alloc(), &words, &mut Endless, &mut out);
-    assert_eq!(rt; status, Status::TooLong);
-    assert!(rt; out.bytes().is_empty());
+    for (word, limit) in [("replay", 1_073_741_824), ("decode", 16_777_216)] {
+        let mut words = Vec::new(rt.alloc());
+        words.push(String::from_str(rt.alloc(), word)?)?;
+        let mut out = BytesSink::new(rt.alloc(), 100, 100, Vec::new(rt.alloc()))?;
+        let status = link_main(rt.alloc(), &words, &mut Endless, &mut out);
+        assert_eq!(rt; status, Status::TooLong { limit });
+        assert!(rt; out.bytes().is_empty());
+    }
     Ok(())
 }
 
@@ -73,13 +75,15 @@ fn a_byte_a_call_gives_the_same_text(rt: HostRuntime) -> Result<(), Fail> {
 
 #[test]
 fn other_words_name_no_command(rt: HostRuntime) -> Result<(), Fail> {
-    let cases: [&[&str]; 6] = [
+    let cases: [&[&str]; 8] = [
         &[],
         &["replay", "x"],
         &["replay", "--"],
         &["Replay"],
         &[""],
-        &["decode"],
+        &["decode", "replay"],
+        &["decode", ""],
+        &["decoder"],
     ];
     for words in cases {
         let found = run(rt.alloc(), words, HEAD.as_bytes(), sound())?;

@@ -1,7 +1,7 @@
 //! Texts at the edge of the grammar, each with the first line at fault, or 0 for a script.
 
 use super::{ALIVE, HEAD, run, sound};
-use crate::status::Status;
+use crate::status::{Grammar, Status};
 use std::alloc::{AllocError, Global};
 use std::test::Fail;
 
@@ -32,7 +32,10 @@ fn status_at(line: u32) -> Status {
     if line == 0 {
         Status::Done
     } else {
-        Status::Script { line }
+        Status::Script {
+            grammar: Grammar::ReplayScript,
+            line,
+        }
     }
 }
 

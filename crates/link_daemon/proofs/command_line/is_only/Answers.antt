@@ -1,6 +1,6 @@
 use Rattle.std.proofs.Common.{◌≡◌, length, arith}
 use Rattle.link_daemon.proofs.CommandLemmas.{one_word}
-use Rattle.link_daemon.proofs.command_line.is_replay.Goals as goal
+use Rattle.link_daemon.proofs.command_line.is_only.Goals as goal
 
 pub returns : goal.returns
 returns c =

@@ -1,0 +1,30 @@
+-- The grammar of datagrams in hex, one a line: an even number of hex digits of either case, and nothing else.
+use Rattle.std.specs.Prelude.{◌≡◌, ◌<◌, ◌≤◌, ◌+◌, ◌*◌, ◌%◌, ℕ, false, List, ◌∷◌, ◌++◌, length, slice_index, All, Ok, ◌⊎◌}
+use Rattle.hex.specs.Hex.{decode_of, is_hex_digit}
+use Rattle.link_daemon.specs.Lines.{lines_of}
+
+-- the line says some bytes
+abbrev pub IsHexLine : List ℕ → Type 0
+IsHexLine line = (bytes : List ℕ) × (decode_of line ≡ Ok bytes)
+
+abbrev pub IsDecodable : List ℕ → Type 0
+IsDecodable text = All IsHexLine (lines_of text)
+
+-- an odd number of characters, or one that is no hex digit
+abbrev pub IsBadLine : List ℕ → Type 0
+IsBadLine line =
+    (length line % 2 ≡ 1) ⊎ ((k : ℕ) × (k < length line) × (is_hex_digit (slice_index line k) ≡ false))
+
+-- the first line outside the grammar, counted from 1
+pub record IsFirstBadLine (text : List ℕ) (k : ℕ) : Type 0 where
+  pub before : List (List ℕ)
+  pub line : List ℕ
+  pub after : List (List ℕ)
+  pub split : lines_of text ≡ before ++ line ∷ after
+  pub number : k ≡ length before + 1
+  pub good : All IsHexLine before
+  pub bad : IsBadLine line
+
+-- no line says more than so many bytes
+abbrev pub HasLinesWithin : ℕ → List ℕ → Type 0
+HasLinesWithin most text = All (λ line. length line ≤ 2 * most) (lines_of text)
