@@ -2,15 +2,78 @@
 # How fast the built program decodes: bench/decode.sh [LINES] makes LINES datagrams in hex (1,000,000 where not given), drawn from alives, responses,
 # pings, pongs, byes and damaged ones, in texts of at most 16,000,000 bytes, since a text may have 16,777,216. It runs the program on each text once
 # to warm up and then three times, and prints of the fastest round: MB of text a second, datagrams a second, and the peak resident memory over the
-# size of the largest text. Beside them the time of `cat` over the same texts, and the machine.
+# size of the largest text; then what a loop of `read_datagram` alone takes over 10,000 of the same datagrams in memory, in a program that is proved
+# and built in a temporary folder (the best of 100 rounds, a walk that reads nothing taken off). Beside them the time of `cat` over the same texts, and the
+# machine.
 set -eu
 here=$(cd "$(dirname "${BASH_SOURCE[0]}")/.." && pwd)
 lines=${1:-1000000}
 "$here/jorazhil" replay <"$here/examples/one-alive.script" >/dev/null
-exec python3 - "$here/crates/link_daemon/out/link_daemon" "$lines" <<'PY'
+folder=$(mktemp -d)
+trap 'rm -rf "$folder"' EXIT
+tar -C "$here" --exclude='crates/*/out' -cf - crates crates.txt HANDLES | tar -C "$folder" -xf -
+echo "bench_datagrams: lk_base link_payload asdp_messages" >>"$folder/crates.txt"
+mkdir -p "$folder/crates/bench_datagrams/src"
+cat >"$folder/crates/bench_datagrams/src/main.rt" <<'RT'
+//! Times `read_datagram` over the datagrams on standard input, each after its length in two bytes, in slots of 600 bytes. It prints the
+//! datagrams of a round, the nanoseconds of the best round and of the best that only walks over them, and how many were read as messages.
+#![tactic(auto)]
+
+use asdp_messages::read_datagram;
+use std::io::{self, Read};
+use std::time::Instant;
+
+const ROUNDS: u64 = 100;
+
+// How many of the datagrams are read as messages; where they aren't to be read, how many are empty.
+#[inline(never)]
+fn walk(text: &[u8], reads: bool) -> u64 {
+    let mut found: u64 = 0;
+    for k in 0..text.len() / 600 {
+        let slot = &text[k * 600..k * 600 + 600];
+        let len = ((slot[0] as usize) * 256 + slot[1] as usize).min(598);
+        let datagram = &slot[2..2 + len];
+        let told = if reads { read_datagram(datagram).is_ok() } else { datagram.is_empty() };
+        if told {
+            found = found.wrapping_add(1);
+        }
+    }
+    found
+}
+
+// The nanoseconds of the best round, and what it found.
+fn best(rt: &HostRuntime, text: &[u8], reads: bool) -> io::Result<(u128, u64)> {
+    let mut found = 0;
+    let mut least = u128::MAX;
+    for _round in 0..ROUNDS {
+        let start = Instant::now(rt)?;
+        found = walk(text, reads);
+        least = least.min(start.elapsed(rt)?.as_nanos());
+    }
+    Ok((least, found))
+}
+
+fn main(rt: HostRuntime) -> io::Result<()> {
+    let mut text = Vec::new(rt.alloc());
+    let mut piece = [0u8; 4096];
+    let mut input = rt.stdin();
+    for _ in 0..u64::MAX {
+        let count = input.read(&mut piece)?;
+        if count == 0 || text.extend_from_slice(&piece[..count]).is_err() {
+            break;
+        }
+    }
+    let (read, messages) = best(&rt, &text, true)?;
+    let (walked, _) = best(&rt, &text, false)?;
+    println!(rt; "{} {read} {walked} {messages}", text.len() / 600)
+}
+RT
+cd "$folder/crates/bench_datagrams"
+rt run --jobs 1 </dev/null >"$folder/build.log" 2>&1 || { cat "$folder/build.log" >&2; exit 1; }
+python3 - "$here/crates/link_daemon/out/link_daemon" "$lines" "$folder/crates/bench_datagrams/out/bench_datagrams" <<'PY'
 import os, random, struct, subprocess, sys, tempfile, time
 
-program, lines = sys.argv[1], int(sys.argv[2])
+program, lines, loop = sys.argv[1], int(sys.argv[2]), sys.argv[3]
 draw = random.Random(1)
 
 def entry(key, value):
@@ -58,8 +121,12 @@ with tempfile.TemporaryDirectory() as folder:
         texts.append(os.path.join(folder, f"text{len(texts)}"))
         with open(texts[-1], "w") as kept:
             kept.write("".join(text))
+    slots = []
     for k in range(lines):
-        line = datagram(k).hex() + "\n"
+        given = datagram(k)
+        if k < 10_000:
+            slots.append((struct.pack(">H", len(given)) + given).ljust(600, b"\0"))
+        line = given.hex() + "\n"
         if size + len(line) > 16_000_000:
             keep()
             text, size = [], 0
@@ -75,6 +142,8 @@ with tempfile.TemporaryDirectory() as folder:
     seconds, peak = min(rounds[1:])
     total, largest = sum(os.path.getsize(text) for text in texts), max(os.path.getsize(text) for text in texts)
     cat = min(sum(timed(["cat"], text, out)[0] for text in texts) for _ in range(3))
+    told = subprocess.run([loop], input=b"".join(slots), stdout=subprocess.PIPE, check=True).stdout.split()
+    walked, read, bare, messages = map(int, told)
     model = next((line.split(":", 1)[1].strip() for line in open("/proc/cpuinfo") if line.startswith("model name")), "unknown")
     print(f"text          {total / 1e6:10.1f} MB, {lines} datagrams, in {len(texts)} texts")
     print(f"time          {seconds:10.3f} s")
@@ -82,5 +151,6 @@ with tempfile.TemporaryDirectory() as folder:
     print(f"datagrams     {lines / seconds:10.0f} a second")
     print(f"peak memory   {peak / 1e6:10.1f} MB, {peak / largest:.2f} times the largest text")
     print(f"over cat      {seconds / cat:10.2f} times the time of cat ({cat:.3f} s)")
+    print(f"read alone    {(read - bare) / walked:10.1f} ns a datagram ({bare / walked:.1f} of the walk taken off), {messages} of {walked} are messages")
     print(f"machine       {os.cpu_count()} processors, {model}")
 PY
