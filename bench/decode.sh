@@ -70,10 +70,11 @@ fn main(rt: HostRuntime) -> io::Result<()> {
 RT
 cd "$folder/crates/bench_datagrams"
 rt run --jobs 1 </dev/null >"$folder/build.log" 2>&1 || { cat "$folder/build.log" >&2; exit 1; }
-python3 - "$here/crates/link_daemon/out/link_daemon" "$lines" "$folder/crates/bench_datagrams/out/bench_datagrams" <<'PY'
-import os, random, struct, subprocess, sys, tempfile, time
+mkdir "$folder/texts"
+python3 - "$folder" "$lines" <<'PY'
+import os, random, struct, sys
 
-program, lines, loop = sys.argv[1], int(sys.argv[2]), sys.argv[3]
+folder, lines = sys.argv[1], int(sys.argv[2])
 draw = random.Random(1)
 
 def entry(key, value):
@@ -108,49 +109,60 @@ def datagram(k):
     whole[draw.randrange(len(whole))] ^= 1 << draw.randrange(8)
     return bytes(whole[: draw.randrange(1, len(whole) + 1)])
 
-def timed(words, script, out):
-    with open(script) as given, open(out, "w") as taken:
+text, size, count = [], 0, 0
+
+def keep():
+    with open(os.path.join(folder, "texts", f"{count:06}"), "w") as kept:
+        kept.write("".join(text))
+
+with open(os.path.join(folder, "slots"), "wb") as slots:
+    for k in range(lines):
+        given = datagram(k)
+        if k < 10_000:
+            slots.write((struct.pack(">H", len(given)) + given).ljust(600, b"\0"))
+        line = given.hex() + "\n"
+        if size + len(line) > 16_000_000:
+            keep()
+            text, size, count = [], 0, count + 1
+        text.append(line)
+        size += len(line)
+keep()
+PY
+# Measured by a process of its own, since a child's peak memory is at least that of the process that starts it.
+python3 - "$here/crates/link_daemon/out/link_daemon" "$folder" "$lines" <<'PY'
+import os, subprocess, sys, time
+
+program, folder, lines = sys.argv[1], sys.argv[2], int(sys.argv[3])
+out = os.path.join(folder, "out")
+texts = [os.path.join(folder, "texts", name) for name in sorted(os.listdir(os.path.join(folder, "texts")))]
+
+def timed(words, text):
+    with open(text) as given, open(out, "w") as taken:
         start = time.perf_counter()
         child = subprocess.Popen(words, stdin=given, stdout=taken)
         _, status, used = os.wait4(child.pid, 0)
         return time.perf_counter() - start, os.waitstatus_to_exitcode(status), used
 
-with tempfile.TemporaryDirectory() as folder:
-    out, texts, text, size = os.path.join(folder, "out"), [], [], 0
-    def keep():
-        texts.append(os.path.join(folder, f"text{len(texts)}"))
-        with open(texts[-1], "w") as kept:
-            kept.write("".join(text))
-    slots = []
-    for k in range(lines):
-        given = datagram(k)
-        if k < 10_000:
-            slots.append((struct.pack(">H", len(given)) + given).ljust(600, b"\0"))
-        line = given.hex() + "\n"
-        if size + len(line) > 16_000_000:
-            keep()
-            text, size = [], 0
-        text.append(line)
-        size += len(line)
-    keep()
-    rounds = []
-    for _ in range(4):
-        runs = [timed([program, "decode"], text, out) for text in texts]
-        if any(status != 0 for _, status, _ in runs):
-            sys.exit("the program did not end with status 0")
-        rounds.append((sum(seconds for seconds, _, _ in runs), max(used.ru_maxrss for _, _, used in runs) * 1024))
-    seconds, peak = min(rounds[1:])
-    total, largest = sum(os.path.getsize(text) for text in texts), max(os.path.getsize(text) for text in texts)
-    cat = min(sum(timed(["cat"], text, out)[0] for text in texts) for _ in range(3))
-    told = subprocess.run([loop], input=b"".join(slots), stdout=subprocess.PIPE, check=True).stdout.split()
-    walked, read, bare, messages = map(int, told)
-    model = next((line.split(":", 1)[1].strip() for line in open("/proc/cpuinfo") if line.startswith("model name")), "unknown")
-    print(f"text          {total / 1e6:10.1f} MB, {lines} datagrams, in {len(texts)} texts")
-    print(f"time          {seconds:10.3f} s")
-    print(f"text read     {total / 1e6 / seconds:10.1f} MB/s")
-    print(f"datagrams     {lines / seconds:10.0f} a second")
-    print(f"peak memory   {peak / 1e6:10.1f} MB, {peak / largest:.2f} times the largest text")
-    print(f"over cat      {seconds / cat:10.2f} times the time of cat ({cat:.3f} s)")
-    print(f"read alone    {(read - bare) / walked:10.1f} ns a datagram ({bare / walked:.1f} of the walk taken off), {messages} of {walked} are messages")
-    print(f"machine       {os.cpu_count()} processors, {model}")
+rounds = []
+for _ in range(4):
+    runs = [timed([program, "decode"], text) for text in texts]
+    if any(status != 0 for _, status, _ in runs):
+        sys.exit("the program did not end with status 0")
+    rounds.append([sum(column) for column in zip(*((seconds, used.ru_utime, used.ru_stime) for seconds, _, used in runs))])
+    peak = max(used.ru_maxrss for _, _, used in runs) * 1024
+seconds, user, system = min(rounds[1:])
+total, largest = sum(os.path.getsize(text) for text in texts), max(os.path.getsize(text) for text in texts)
+cat = min(sum(timed(["cat"], text)[0] for text in texts) for _ in range(3))
+with open(os.path.join(folder, "slots")) as slots:
+    told = subprocess.run([os.path.join(folder, "crates/bench_datagrams/out/bench_datagrams")], stdin=slots, stdout=subprocess.PIPE, check=True).stdout.split()
+walked, read, bare, messages = map(int, told)
+model = next((line.split(":", 1)[1].strip() for line in open("/proc/cpuinfo") if line.startswith("model name")), "unknown")
+print(f"text          {total / 1e6:10.1f} MB, {lines} datagrams, in {len(texts)} texts")
+print(f"time          {seconds:10.3f} s, of it {user:.3f} s of the processor and {system:.3f} s of the system")
+print(f"text read     {total / 1e6 / seconds:10.1f} MB/s")
+print(f"datagrams     {lines / seconds:10.0f} a second")
+print(f"peak memory   {peak / 1e6:10.1f} MB, {peak / largest:.2f} times the largest text")
+print(f"over cat      {seconds / cat:10.2f} times the time of cat ({cat:.3f} s)")
+print(f"read alone    {(read - bare) / walked:10.1f} ns a datagram ({bare / walked:.1f} of the walk taken off), {messages} of {walked} are messages")
+print(f"machine       {os.cpu_count()} processors, {model}")
 PY
