@@ -8,7 +8,8 @@ use Rattle.link_payload.specs.declared.fault.PayloadFault.{PayloadFault}
 use Rattle.link_payload.specs.declared.fields.PeerFields.{PeerFields}
 use Rattle.link_payload.specs.declared.fields.PongFields.{PongFields}
 use Rattle.link_payload.specs.Entries.{EntryValue, AreEntriesIn}
-use Rattle.link_payload.specs.Fields.{AreInRange, IsEndpoint, state_answer_of, pong_answer_of}
+use Rattle.lk_base.specs.Endpoint.{IsEndpoint}
+use Rattle.link_payload.specs.Fields.{AreInRange, state_answer_of, pong_answer_of}
 use Rattle.asdp_messages.specs.declared.fault.WireFault.{WireFault}
 use Rattle.asdp_messages.specs.declared.fault.WireFault.TheVariants.{Short, NotLink, TooLong, Payload}
 use Rattle.asdp_messages.specs.declared.message.Message.{Message}

@@ -1,5 +1,6 @@
 pub mod Spelling
 pub mod Datagram
+pub mod Written
 pub use Rattle.link_payload.specs.Entries
 pub use Rattle.link_payload.specs.Spelling as Payload
 pub use Rattle.link_payload.specs.Fields

@@ -12,30 +12,34 @@ unfoldable pub spelled_header_of : ℕ → ℕ → ℕ → NodeId → List ℕ
 spelled_header_of kind ttl group from =
     codes "_asdp_v" ++ 1 ∷ kind ∷ ttl ∷ (big_bytes 2 group ++ from.0)
 
--- kind 2 and a time to live of 5 seconds
-unfoldable pub spelled_response_of : NodeId → ℕ → PeerFields → List ℕ
-spelled_response_of from group fields = spelled_header_of 2 5 group from ++ spelled_state_of fields
+-- `_link_v`, 1, the kind: 9 bytes
+unfoldable pub spelled_link_header_of : ℕ → List ℕ
+spelled_link_header_of kind = codes "_link_v" ++ 1 ∷ kind ∷ []
 
--- kind 1, whatever its time to live
-unfoldable pub spelled_alive_of : StateMsg → List ℕ
-spelled_alive_of msg = spelled_header_of 1 msg.ttl msg.group msg.from ++ spelled_state_of msg.fields
+-- what is written, in one datagram each; a pong gives back the payload of a ping
+pub data Written : Type 0 where
+  Alive : StateMsg → Written
+  Response : StateMsg → Written
+  Bye : (from : NodeId) (ttl group : ℕ) → Written
+  Ping : PingFields → Written
+  Pong : (session : NodeId) (ghost_time : ℤ) (echo : List ℕ) → Written
+
+-- the header of each kind, and its payload; a bye has none
+unfoldable pub spelled_of : Written → List ℕ
+spelled_of (Alive m) = spelled_header_of 1 m.ttl m.group m.from ++ spelled_state_of m.fields
+spelled_of (Response m) = spelled_header_of 2 m.ttl m.group m.from ++ spelled_state_of m.fields
+spelled_of (Bye from ttl group) = spelled_header_of 3 ttl group from
+spelled_of (Ping ping) = spelled_link_header_of 1 ++ spelled_ping_of ping
+spelled_of (Pong session ghost_time echo) = spelled_link_header_of 2 ++ spelled_pong_of session ghost_time echo
 
 -- a state that is sent counts for 5 seconds
 abbrev pub sent : NodeId → ℕ → PeerFields → StateMsg
 sent from group fields = record { from = from; ttl = 5; group = group; fields = fields }
 
--- kind 3, a time to live of 0, and no payload
-unfoldable pub spelled_bye_of : NodeId → ℕ → List ℕ
-spelled_bye_of from group = spelled_header_of 3 0 group from
+-- an alive, whatever its time to live
+abbrev pub spelled_alive_of : StateMsg → List ℕ
+spelled_alive_of m = spelled_of (Alive m)
 
--- `_link_v`, 1, the kind: 9 bytes
-unfoldable pub spelled_link_header_of : ℕ → List ℕ
-spelled_link_header_of kind = codes "_link_v" ++ 1 ∷ kind ∷ []
-
--- kind 1
-unfoldable pub spelled_ping_message_of : PingFields → List ℕ
-spelled_ping_message_of ping = spelled_link_header_of 1 ++ spelled_ping_of ping
-
--- kind 2
-unfoldable pub spelled_pong_message_of : NodeId → ℤ → List ℕ → List ℕ
-spelled_pong_message_of session ghost_time echo = spelled_link_header_of 2 ++ spelled_pong_of session ghost_time echo
+-- a response that is sent
+abbrev pub spelled_response_of : NodeId → ℕ → PeerFields → List ℕ
+spelled_response_of from group fields = spelled_of (Response (sent from group fields))

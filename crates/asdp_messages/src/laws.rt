@@ -1,12 +1,15 @@
 //! Laws of the spelling, for proofs alone: to call one is to know it.
 
-ghost use Rattle.std.specs.Prelude.{◌≡◌, ℕ, List, Result, length};
+ghost use Rattle.std.specs.Prelude.{◌≡◌, ℕ, List, Result, Ok, length};
 ghost use Rattle.asdp_messages.specs.declared.fault.WireFault.{WireFault};
 ghost use Rattle.asdp_messages.specs.declared.message.StateMsg.{StateMsg};
 ghost use Rattle.asdp_messages.specs.Datagram.{IsPlainAlive, IsReadAs, MessageValue};
-ghost use Rattle.asdp_messages.specs.Spelling.{spelled_alive_of};
+ghost use Rattle.asdp_messages.specs.Spelling.{Written, spelled_of, spelled_alive_of};
+ghost use Rattle.asdp_messages.specs.Written.{IsTidyWritten, Says};
 
-use link_payload::{one_spelling, one_state, spelled_or_cut, state_len};
+use link_payload::{
+    one_spelling, one_state, payload_lens, pong_reads_back, spelled_or_cut, state_reads_back,
+};
 
 /// A datagram is read in one way only.
 pub fn one_reading()
@@ -29,5 +32,16 @@ pub fn one_alive()
 pub fn alive_len()
     ensures { (m : StateMsg) → IsPlainAlive m → length (spelled_alive_of m) ≡ 107 }
 {
-    state_len();
+    payload_lens();
+}
+
+/// Whatever is written, with any time to live and in any group, is read as that message: a state where it is tidy, a
+/// pong where it echoes a tidy ping, and a ping with its own payload.
+pub fn written_is_read()
+    ensures { (w : Written) (m : MessageValue) → IsTidyWritten w → Says w m
+        → IsReadAs (spelled_of w) (Ok m) }
+{
+    payload_lens();
+    state_reads_back();
+    pong_reads_back();
 }

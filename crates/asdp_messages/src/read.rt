@@ -15,7 +15,7 @@ use crate::laws::alive_len;
 use crate::message::{Message, StateMsg};
 use byteorder::{BigEndian, ByteOrder};
 use link_payload::{read_plain_state, read_pong, read_state, spelled_or_cut};
-use lk_base::NodeId;
+use lk_base::{NodeId, u16_at, u64_at};
 
 /// The message in a datagram, or the first fault, in this order: fewer than 9 bytes; no message of
 /// Link; more than 512 bytes; fewer than the 20 of a discovery message's header; the fault of the
@@ -81,7 +81,7 @@ fn discovery_message(bytes: &[u8]) -> Result<Message<'_>, WireFault>
     let kind = bytes[8];
     let ttl = bytes[9];
     let group = BigEndian::read_u16(&bytes[10..12]);
-    let from = id_of(&bytes[12..20]);
+    let from = NodeId::from_bytes(&bytes[12..20]);
     if kind == BYE {
         return Ok(Message::Bye { from, ttl, group });
     }
@@ -158,38 +158,11 @@ fn header_of(bytes: &[u8]) -> Option<Header>
     }
     let (numbers, rest) = rest.split_at(2);
     let (group, rest) = u16_at(rest);
-    let from = id_of(rest);
+    let from = NodeId::from_bytes(rest);
     Some(Header {
         kind: numbers[0],
         ttl: numbers[1],
         group,
         from,
     })
-}
-
-fn id_of(bytes: &[u8]) -> NodeId
-    requires { length bytes.now ≡ 8 }
-    ensures { bytes.now ≡ result.0 }
-{
-    let mut id = [0; 8];
-    id.copy_from_slice(bytes);
-    NodeId(id)
-}
-
-fn u64_at(bytes: &[u8]) -> (u64, &[u8])
-    requires { 8 ≤ length bytes.now }
-    ensures bytes { bytes.now ≡ big_bytes 8 result.0 ++ result.1.now }
-    ensures len { length result.1.now + 8 ≡ length bytes.now }
-{
-    let (number, rest) = bytes.split_at(8);
-    (BigEndian::read_u64(number), rest)
-}
-
-fn u16_at(bytes: &[u8]) -> (u16, &[u8])
-    requires { 2 ≤ length bytes.now }
-    ensures bytes { bytes.now ≡ big_bytes 2 result.0 ++ result.1.now }
-    ensures len { length result.1.now + 2 ≡ length bytes.now }
-{
-    let (number, rest) = bytes.split_at(2);
-    (BigEndian::read_u16(number), rest)
 }

@@ -8,28 +8,30 @@ ghost use Rattle.link_payload.specs.Fields.{IsTidyFields, IsTidyPing, echoing};
 ghost use Rattle.link_payload.specs.Spelling.{spelled_ping_of};
 ghost use Rattle.asdp_messages.specs.Datagram.{IsReadAs};
 ghost use Rattle.asdp_messages.specs.Datagram.MessageValue.{Alive, Response, Bye, Ping, Pong};
-ghost use Rattle.asdp_messages.specs.Spelling.{sent, spelled_header_of, spelled_link_header_of, spelled_alive_of, spelled_response_of, spelled_bye_of, spelled_ping_message_of, spelled_pong_message_of};
+ghost use Rattle.asdp_messages.specs.Spelling.{sent, spelled_of, spelled_header_of, spelled_link_header_of};
+ghost use Rattle.asdp_messages.specs.Spelling as written;
 
 use crate::header::{
     ALIVE, BYE, Header, LINK_PROTOCOL, PING, PONG, PROTOCOL, RESPONSE, TIME_TO_LIVE,
 };
+use crate::laws::written_is_read;
 use byteorder::{BigEndian, ByteOrder};
 use link_payload::{
-    PeerFields, PingFields, fields_are_stored, pong_reads_back, state_reads_back, write_ping,
-    write_pong, write_state,
+    PeerFields, PingFields, fields_are_stored, write_ping, write_pong, write_state,
 };
-use lk_base::{NodeId, Wire};
+use lk_base::{NodeId, Wire, append};
 
 /// An alive, with a time to live of 5 seconds: 107 bytes with an endpoint, 93 without.
-#[tactic(auto, unfolding(crate::specs::Spelling::spelled_alive_of))]
+#[tactic(auto, unfolding(crate::specs::Spelling::spelled_of))]
 pub fn write_alive(from: NodeId, group: u16, fields: &PeerFields) -> Wire
-    ensures items { result.items ≡ spelled_alive_of (sent from group fields.now) }
+    ensures items { result.items ≡ spelled_of (written.Alive (sent from group fields.now)) }
     ensures len { array_vec_len result ≡ (if is_some fields.now.endpoint then 107 else 93) }
     ensures reads_back { IsTidyFields fields.now
         → IsReadAs result.items (Ok (Alive (sent from group fields.now))) }
 {
+    // Laws, for the proof: what is written of tidy fields is read again.
     fields_are_stored(fields);
-    state_reads_back();
+    written_is_read();
     let mut out = Wire::new();
     let header = Header {
         kind: ALIVE,
@@ -43,15 +45,16 @@ pub fn write_alive(from: NodeId, group: u16, fields: &PeerFields) -> Wire
 }
 
 /// A response, with a time to live of 5 seconds: 107 bytes with an endpoint, 93 without.
-#[tactic(auto, unfolding(crate::specs::Spelling::spelled_response_of))]
+#[tactic(auto, unfolding(crate::specs::Spelling::spelled_of))]
 pub fn write_response(from: NodeId, group: u16, fields: &PeerFields) -> Wire
-    ensures items { result.items ≡ spelled_response_of from group fields.now }
+    ensures items { result.items ≡ spelled_of (written.Response (sent from group fields.now)) }
     ensures len { array_vec_len result ≡ (if is_some fields.now.endpoint then 107 else 93) }
     ensures reads_back { IsTidyFields fields.now
         → IsReadAs result.items (Ok (Response (sent from group fields.now))) }
 {
+    // Laws, for the proof: what is written of tidy fields is read again.
     fields_are_stored(fields);
-    state_reads_back();
+    written_is_read();
     let mut out = Wire::new();
     let header = Header {
         kind: RESPONSE,
@@ -65,12 +68,14 @@ pub fn write_response(from: NodeId, group: u16, fields: &PeerFields) -> Wire
 }
 
 /// A bye, with a time to live of 0 seconds and no payload: 20 bytes.
-#[tactic(auto, unfolding(crate::specs::Spelling::spelled_bye_of))]
+#[tactic(auto, unfolding(crate::specs::Spelling::spelled_of))]
 pub fn write_bye(from: NodeId, group: u16) -> Wire
-    ensures items { result.items ≡ spelled_bye_of from group }
+    ensures items { result.items ≡ spelled_of (written.Bye from 0 group) }
     ensures len { array_vec_len result ≡ 20 }
     ensures reads_back { IsReadAs result.items (Ok (Bye from 0 group)) }
 {
+    // A law, for the proof: what is written is read again.
+    written_is_read();
     let mut out = Wire::new();
     let header = Header {
         kind: BYE,
@@ -83,12 +88,14 @@ pub fn write_bye(from: NodeId, group: u16) -> Wire
 }
 
 /// A ping: 41 bytes with a ghost time, 25 without.
-#[tactic(auto, unfolding(crate::specs::Spelling::spelled_ping_message_of))]
+#[tactic(auto, unfolding(crate::specs::Spelling::spelled_of))]
 pub fn write_ping_message(ping: &PingFields) -> Wire
-    ensures items { result.items ≡ spelled_ping_message_of ping.now }
+    ensures items { result.items ≡ spelled_of (written.Ping ping.now) }
     ensures len { array_vec_len result ≡ (if is_some ping.now.previous then 41 else 25) }
     ensures reads_back { IsReadAs result.items (Ok (Ping (spelled_ping_of ping.now))) }
 {
+    // A law, for the proof: what is written is read again.
+    written_is_read();
     let mut out = Wire::new();
     put_link_header(&mut out, PING);
     write_ping(&mut out, ping);
@@ -96,16 +103,17 @@ pub fn write_ping_message(ping: &PingFields) -> Wire
 }
 
 /// A pong, which gives back the payload of the ping that it answers: 41 bytes and that payload's.
-#[tactic(auto, unfolding(crate::specs::Spelling::spelled_pong_message_of))]
+#[tactic(auto, unfolding(crate::specs::Spelling::spelled_of))]
 pub fn write_pong_message(session: NodeId, ghost_time: i64, echo: &[u8]) -> Wire
     requires { length echo.now ≤ 32 }
-    ensures items { result.items ≡ spelled_pong_message_of session ghost_time echo.now }
+    ensures items { result.items ≡ spelled_of (written.Pong session ghost_time echo.now) }
     ensures len { array_vec_len result ≡ 41 + length echo.now }
     ensures reads_back { (ping : PingFields) → IsTidyPing ping → IsWithinLimit ghost_time
         → echo.now ≡ spelled_ping_of ping
         → IsReadAs result.items (Ok (Pong (echoing session ghost_time ping))) }
 {
-    pong_reads_back();
+    // A law, for the proof: what is written is read again.
+    written_is_read();
     let mut out = Wire::new();
     put_link_header(&mut out, PONG);
     write_pong(&mut out, session, ghost_time, echo);
@@ -120,8 +128,8 @@ fn put_link_header(out: &mut Wire, kind: u8)
 {
     let mut protocol = [0; 8];
     BigEndian::write_u64(&mut protocol, LINK_PROTOCOL);
-    put(out, &protocol);
-    put(out, &[kind]);
+    append(out, &protocol);
+    append(out, &[kind]);
 }
 
 fn put_header(out: &mut Wire, header: &Header)
@@ -132,18 +140,10 @@ fn put_header(out: &mut Wire, header: &Header)
 {
     let mut protocol = [0; 8];
     BigEndian::write_u64(&mut protocol, PROTOCOL);
-    put(out, &protocol);
-    put(out, &[header.kind, header.ttl]);
+    append(out, &protocol);
+    append(out, &[header.kind, header.ttl]);
     let mut group = [0; 2];
     BigEndian::write_u16(&mut group, header.group);
-    put(out, &group);
-    put(out, &header.from.0);
-}
-
-fn put(out: &mut Wire, bytes: &[u8])
-    requires { array_vec_len out.old + length bytes.now ≤ 513 }
-    ensures items { out.new.items ≡ out.old.items ++ bytes.now }
-    ensures len { array_vec_len out.new ≡ array_vec_len out.old + length bytes.now }
-{
-    let _appended = out.try_extend_from_slice(bytes);
+    append(out, &group);
+    append(out, &header.from.0);
 }

@@ -7,7 +7,8 @@ use Rattle.std.proofs.lemmas.List.Elements.{Contains-append_cases}
 use Rattle.lk_base.specs.declared.ids.NodeId.{NodeId}
 use Rattle.lk_base.specs.declared.endpoint.Endpoint.{Endpoint}
 use Rattle.link_daemon.specs.declared.script.Arrival.{Arrival}
-use Rattle.link_text.specs.Words.{dotted, endpoint_text_of, IsEndpoint}
+use Rattle.lk_base.specs.Endpoint.{IsEndpoint}
+use Rattle.link_text.specs.Words.{dotted, endpoint_text_of}
 use Rattle.link_daemon.specs.Script.{IsArrival, arrival_line}
 use Rattle.link_daemon.proofs.WordLemmas.{cut_as}
 use Rattle.link_daemon.proofs.NumberLemmas.{amount_cut, decimal_lacks}

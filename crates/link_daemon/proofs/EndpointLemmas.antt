@@ -2,7 +2,8 @@
 use Rattle.std.proofs.Common.{◌≡◌, inl, inr, refl, ◌∙◌, arith, ℕ, ◌+◌, ◌*◌, ◌/◌, ◌%◌, ◌^◌, ◌<◌, ◌≤◌, List, ◌∷◌, ◌++◌}
 use Rattle.std.specs.Fmt.{decimal}
 use Rattle.lk_base.specs.declared.endpoint.Endpoint.{Endpoint}
-use Rattle.link_text.specs.Words.{dotted, endpoint_text_of, IsEndpoint}
+use Rattle.lk_base.specs.Endpoint.{IsEndpoint}
+use Rattle.link_text.specs.Words.{dotted, endpoint_text_of}
 use Rattle.link_daemon.proofs.NumberLemmas.{number_cut}
 
 -- what stands behind the first dot, the second, the third

@@ -2,7 +2,8 @@
 
 ghost use Rattle.std.specs.Prelude.{◌≡◌, ◌≤◌, ◌+◌, ◌*◌, ℕ, List, IfSome, IfNone};
 ghost use Rattle.lk_base.specs.declared.endpoint.Endpoint.{Endpoint};
-ghost use Rattle.link_text.specs.Words.{dotted, endpoint_text_of, IsEndpoint};
+ghost use Rattle.lk_base.specs.Endpoint.{IsEndpoint};
+ghost use Rattle.link_text.specs.Words.{dotted, endpoint_text_of};
 
 use crate::number::{number_before, number_of};
 use lk_base::Endpoint;

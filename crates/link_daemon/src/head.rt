@@ -3,7 +3,8 @@
 ghost use Rattle.std.specs.Prelude.{◌≡◌, ◌≤◌, ◌-◌, ◌^◌, ◌↔◌, ◌++◌, codes, length, IsTrue, IfOk, IfErr, IfSome, IfNone};
 ghost use Rattle.lk_base.specs.declared.endpoint.Endpoint.{Endpoint};
 ghost use Rattle.link_daemon.specs.declared.script.Head.{Head};
-ghost use Rattle.link_text.specs.Words.{endpoint_text_of, IsEndpoint};
+ghost use Rattle.lk_base.specs.Endpoint.{IsEndpoint};
+ghost use Rattle.link_text.specs.Words.{endpoint_text_of};
 ghost use Rattle.link_daemon.specs.Script.{version_line, node_line, IsHead};
 ghost use Rattle.link_daemon.specs.Reading.{HasHead};
 ghost use Rattle.link_daemon.specs.Faults.{IsLineFault};

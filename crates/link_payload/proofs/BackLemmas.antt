@@ -11,7 +11,8 @@ use Rattle.link_payload.specs.declared.fields.PeerFields.{PeerFields}
 use Rattle.link_payload.specs.declared.fields.PingFields.{PingFields}
 use Rattle.link_payload.specs.declared.fields.PongFields.{PongFields}
 use Rattle.link_payload.specs.Entries.{EntryValue, IsEntry, Spells, spelled_number_of, spelled_entry_of, spelled_entries_of}
-use Rattle.link_payload.specs.Fields.{IsEndpoint, IsStored, IsTidyFields, IsTidyPing, number_in, endpoint_in, last_value_of, size_fault_of, mpb_fault_of, limit_fault_of, state_keys, pong_keys, state_of, pong_of, state_answer_of, pong_answer_of, echoing}
+use Rattle.lk_base.specs.Endpoint.{IsEndpoint}
+use Rattle.link_payload.specs.Fields.{IsStored, IsTidyFields, IsTidyPing, number_in, endpoint_in, last_value_of, size_fault_of, mpb_fault_of, limit_fault_of, state_keys, pong_keys, state_of, pong_of, state_answer_of, pong_answer_of, echoing}
 use Rattle.link_payload.specs.Spelling.{spelled_timeline_of, spelled_start_of, spelled_endpoint_of, spelled_endpoint_entry_of, spelled_state_of, spelled_previous_entry_of, spelled_ping_of, spelled_pong_of}
 use Rattle.link_payload.proofs.NumberLemmas.{fits-within}
 use Rattle.link_payload.proofs.FieldsLemmas.{fits-mpb}

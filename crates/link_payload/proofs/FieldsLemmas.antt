@@ -1,5 +1,5 @@
 -- Whole states: what their types say, their values, and that bytes spell one.
-use Rattle.std.proofs.Common.{◌≡◌, ℕ, ℤ, pos, negsuc, ◌+◌, ◌^◌, ◌≤ℤ◌, List, ◌++◌, length, Option, Some, None, IsSome, IfSome, w64, refl, sym, ap, ap₂, ◌∙◌, append_assoc, length-append, arith}
+use Rattle.std.proofs.Common.{◌≡◌, ℕ, ℤ, pos, negsuc, ◌+◌, ◌^◌, ◌≤ℤ◌, List, ◌++◌, length, Bool, true, false, if◌then◌else◌, is_some, Option, Some, None, IsSome, IfSome, w64, refl, sym, ap, ap₂, ◌∙◌, append_assoc, length-append, arith}
 use Rattle.std.specs.Int.RustNames.{FitsSigned}
 use Rattle.std.proofs.lemmas.Int.{ints}
 use Rattle.lk_base.specs.declared.endpoint.Endpoint.{Endpoint}
@@ -7,12 +7,15 @@ use Rattle.lk_base.specs.declared.ids.NodeId.{NodeId}
 use Rattle.lk_base.specs.declared.start.SessionStart.{SessionStart}
 use Rattle.lk_base.specs.declared.timeline.Timeline.{Timeline}
 use Rattle.link_payload.specs.declared.fields.PeerFields.{PeerFields}
-use Rattle.link_payload.specs.Entries.{spelled_entry_of}
-use Rattle.link_payload.specs.Fields.{IsEndpoint, IsPlainState}
-use Rattle.link_payload.specs.Spelling.{spelled_timeline_of, spelled_start_of, spelled_endpoint_of, spelled_endpoint_entry_of, spelled_state_of}
+use Rattle.link_payload.specs.declared.fields.PingFields.{PingFields}
+use Rattle.link_payload.specs.Entries.{spelled_number_of, spelled_entry_of}
+use Rattle.lk_base.specs.Endpoint.{IsEndpoint}
+use Rattle.link_payload.specs.Fields.{IsPlainState, IsStored}
+use Rattle.link_payload.specs.Spelling.{spelled_timeline_of, spelled_start_of, spelled_endpoint_of, spelled_endpoint_entry_of, spelled_state_of, spelled_previous_entry_of, spelled_ping_of, spelled_pong_of}
 use Rattle.link_payload.specs.Values.{AreValuesIn}
 use Rattle.link_payload.proofs.NumberLemmas.{fits-within}
 use Rattle.link_payload.proofs.SpellingLemmas.{length-timeline, length-start, length-endpoint}
+use Rattle.link_payload.proofs.ValueLemmas.{number_length}
 use Rattle.link_payload.proofs.StateLemmas.{one_timeline, one_start, one_endpoint}
 use Rattle.link_payload.proofs.ValuesLemmas.{one_reading}
 
@@ -109,13 +112,47 @@ length-entry : (key : ℕ) (value : List ℕ) → length (spelled_entry_of key v
 unfolding spelled_entry_of
 length-entry key value = simp length-append (omega arith)
 
-pub length-state : (f : PeerFields) → IsPlainState f → length (spelled_state_of f) ≡ 87
-length-state f plain =
-    let fits = plain_fits f plain in
-    let e = fits.0 in
+length-endpoint-entry : (o : Option Endpoint) → length (spelled_endpoint_entry_of o) ≡ (if is_some o then 14 else 0)
+unfolding spelled_endpoint_entry_of
+length-endpoint-entry None = refl
+length-endpoint-entry (Some e) = length-entry 0x6d657034 (spelled_endpoint_of e) ∙ ap (λ (n : ℕ). 8 + n) (length-endpoint e)
+
+with_endpoint : (test : Bool) → 73 + (if test then 14 else 0) ≡ (if test then 87 else 73)
+with_endpoint true = refl
+with_endpoint false = refl
+
+pub length-state : (f : PeerFields) → IsStored f → length (spelled_state_of f) ≡ (if is_some f.endpoint then 87 else 73)
+unfolding spelled_state_of
+length-state f stored =
     let t = length-entry 0x746d6c6e (spelled_timeline_of f.timeline) in
     let s = length-entry 0x73657373 f.session.0 in
     let r = length-entry 0x73747374 (spelled_start_of f.start) in
-    let p = length-entry 0x6d657034 (spelled_endpoint_of e) in
-    rw (state_parted f e fits.1.endpoint)
-    (simp length-append (omega (arith, t, s, r, p, length-timeline f.timeline, length-start f.start, length-endpoint e, plain.session)))
+    let all : length (spelled_state_of f) ≡ 73 + length (spelled_endpoint_entry_of f.endpoint) =
+    simp length-append (omega (arith, t, s, r, length-timeline f.timeline, length-start f.start, stored.session)) in
+    all ∙ ap (λ (n : ℕ). 73 + n) (length-endpoint-entry f.endpoint) ∙ with_endpoint (is_some f.endpoint)
+
+where_some : (a b : ℕ) (o : Option Endpoint) → IsSome o → (if is_some o then a else b) ≡ a
+where_some a b None some = cc
+where_some a b (Some e) some = refl
+
+pub length-plain : (f : PeerFields) → IsPlainState f → length (spelled_state_of f) ≡ 87
+length-plain f plain = length-state f (record { session = plain.session; address = plain.address }) ∙ where_some 87 73 f.endpoint plain.endpoint
+
+length-previous-entry : (o : Option ℤ) → 16 + length (spelled_previous_entry_of o) ≡ (if is_some o then 32 else 16)
+unfolding spelled_previous_entry_of
+length-previous-entry None = refl
+length-previous-entry (Some time) = ap (λ (n : ℕ). 16 + n) (length-entry 0x5f706774 (spelled_number_of time) ∙ ap (λ (n : ℕ). 8 + n) (number_length time))
+
+pub length-ping : (p : PingFields) → length (spelled_ping_of p) ≡ (if is_some p.previous then 32 else 16)
+unfolding spelled_ping_of
+length-ping p =
+    let h = length-entry 0x5f5f6874 (spelled_number_of p.host) in
+    let all : length (spelled_ping_of p) ≡ 16 + length (spelled_previous_entry_of p.previous) = simp length-append (omega (arith, h, number_length p.host)) in
+    all ∙ length-previous-entry p.previous
+
+pub length-pong : (session : NodeId) (ghost_time : ℤ) (echo : List ℕ) → length session.0 ≡ 8 → length (spelled_pong_of session ghost_time echo) ≡ 32 + length echo
+unfolding spelled_pong_of
+length-pong session ghost_time echo len =
+    let s = length-entry 0x73657373 session.0 in
+    let g = length-entry 0x5f5f6774 (spelled_number_of ghost_time) in
+    simp length-append (omega (arith, s, g, len, number_length ghost_time))

@@ -9,7 +9,7 @@ use Rattle.lk_base.specs.declared.endpoint.Endpoint.{Endpoint}
 use Rattle.lk_base.specs.declared.start.SessionStart.{SessionStart}
 use Rattle.lk_base.specs.declared.timeline.Timeline.{Timeline}
 use Rattle.link_payload.specs.Entries.{spelled_number_of}
-use Rattle.link_payload.specs.Fields.{IsEndpoint}
+use Rattle.lk_base.specs.Endpoint.{IsEndpoint}
 use Rattle.link_payload.specs.Spelling.{spelled_timeline_of, spelled_start_of, spelled_endpoint_of}
 use Rattle.link_payload.proofs.Lists.{parts_of}
 use Rattle.link_payload.proofs.NumberLemmas.{one_natural, one_number}
@@ -130,6 +130,6 @@ pub one_endpoint : (d e : Endpoint) → IsEndpoint d → IsEndpoint e → spelle
 unfolding spelled_endpoint_of
 one_endpoint d e d_fits e_fits same =
     let parts = parts_of (big_bytes 4 d.addr) (big_bytes 4 e.addr) (big_bytes 2 d.port) (big_bytes 2 e.port) refl same in
-    let addr = one_natural 4 d.addr e.addr d_fits.addr e_fits.addr parts.0 in
-    let port = one_natural 2 d.port e.port d_fits.port e_fits.port parts.1 in
+    let addr = one_natural 4 d.addr e.addr d_fits.0 e_fits.0 parts.0 in
+    let port = one_natural 2 d.port e.port d_fits.1 e_fits.1 parts.1 in
     ap₂ endpoint_with addr port

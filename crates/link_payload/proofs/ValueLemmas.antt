@@ -10,7 +10,8 @@ use Rattle.lk_base.specs.declared.endpoint.Endpoint.{Endpoint}
 use Rattle.lk_base.specs.declared.start.SessionStart.{SessionStart}
 use Rattle.lk_base.specs.declared.timeline.Timeline.{Timeline}
 use Rattle.link_payload.specs.Entries.{spelled_number_of}
-use Rattle.link_payload.specs.Fields.{IsEndpoint, number_in, timeline_in, start_in, endpoint_in}
+use Rattle.lk_base.specs.Endpoint.{IsEndpoint}
+use Rattle.link_payload.specs.Fields.{number_in, timeline_in, start_in, endpoint_in}
 use Rattle.link_payload.specs.Spelling.{spelled_timeline_of, spelled_start_of, spelled_endpoint_of}
 use Rattle.link_payload.proofs.NumberLemmas.{bits-lt}
 use Rattle.link_payload.proofs.StateLemmas.{stored}
@@ -107,7 +108,7 @@ endpoint_is value after_addr after_port addr port e f addr_fits port_fits =
 pub endpoint_again : (e : Endpoint) → IsEndpoint e → endpoint_in (spelled_endpoint_of e) ≡ e
 unfolding spelled_endpoint_of
 endpoint_again e fits =
-    sym (endpoint_is (spelled_endpoint_of e) (big_bytes 2 e.port) [] e.addr e.port refl (sym (append-nil (big_bytes 2 e.port))) fits.addr fits.port)
+    sym (endpoint_is (spelled_endpoint_of e) (big_bytes 2 e.port) [] e.addr e.port refl (sym (append-nil (big_bytes 2 e.port))) fits.0 fits.1)
 
 -- ---- numbers as code stores them
 

@@ -3,6 +3,7 @@ use Rattle.std.specs.Prelude.{◌≡◌, ◌^◌, ◌<◌, ◌==◌, ◌&&◌, �
 use Rattle.std.specs.Int.{w64, cast_signed}
 use Rattle.std.specs.List.{find, last_or, list_any}
 use Rattle.byteorder.specs.Endian.{big_number}
+use Rattle.lk_base.specs.Endpoint.{IsEndpoint}
 use Rattle.lk_base.specs.Ranges.{IsWithinLimit}
 use Rattle.lk_base.specs.Timeline.{IsTidy}
 use Rattle.lk_base.specs.declared.endpoint.Endpoint.{Endpoint}
@@ -24,11 +25,6 @@ pub record AreInRange (f : PeerFields) : Type 0 where
   pub time : IsWithinLimit f.timeline.time
   pub beats : IsWithinLimit f.start.beats
   pub stamp : IsWithinLimit f.start.stamp
-
--- an address of four bytes and a port of two
-pub record IsEndpoint (e : Endpoint) : Type 0 where
-  pub addr : e.addr < 2 ^ 32
-  pub port : e.port < 2 ^ 16
 
 -- Fields with an endpoint, and with numbers in range. The first two facts hold of all fields in code.
 pub record IsPlainState (f : PeerFields) : Type 0 where

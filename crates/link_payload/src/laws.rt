@@ -1,12 +1,13 @@
 //! Laws of the spelling, for the callers' proofs: to call one is to know it.
 
-ghost use Rattle.std.specs.Prelude.{◌≡◌, ◌<◌, ◌^◌, ◌⊎◌, ℕ, ℤ, List, length, Ok, None};
+ghost use Rattle.std.specs.Prelude.{◌≡◌, ◌<◌, ◌+◌, ◌^◌, ◌⊎◌, ℕ, ℤ, List, length, is_some, if◌then◌else◌, Ok, None};
 ghost use Rattle.lk_base.specs.Ranges.{IsWithinLimit};
 ghost use Rattle.lk_base.specs.declared.ids.NodeId.{NodeId};
 ghost use Rattle.link_payload.specs.declared.fields.PeerFields.{PeerFields};
 ghost use Rattle.link_payload.specs.declared.fields.PingFields.{PingFields};
 ghost use Rattle.link_payload.specs.Entries.{EntryValue, Spells, IsCutAt, AreBytes};
-ghost use Rattle.link_payload.specs.Fields.{IsEndpoint, IsPlainState, IsStored, IsTidyFields, IsTidyPing, state_answer_of, pong_answer_of, echoing};
+ghost use Rattle.lk_base.specs.Endpoint.{IsEndpoint};
+ghost use Rattle.link_payload.specs.Fields.{IsPlainState, IsStored, IsTidyFields, IsTidyPing, state_answer_of, pong_answer_of, echoing};
 ghost use Rattle.link_payload.specs.Spelling.{spelled_state_of, spelled_ping_of, spelled_pong_of};
 
 use crate::fields::PeerFields;
@@ -68,7 +69,12 @@ pub fn one_state()
         → spelled_state_of f ≡ spelled_state_of g → f ≡ g }
 {}
 
-/// A plain state is spelled in 87 bytes.
-pub fn state_len()
-    ensures { (f : PeerFields) → IsPlainState f → length (spelled_state_of f) ≡ 87 }
+/// How many bytes what is written has. The premises hold of all fields in code.
+pub fn payload_lens()
+    ensures state { (f : PeerFields) → IsStored f
+        → length (spelled_state_of f) ≡ (if is_some f.endpoint then 87 else 73) }
+    ensures plain { (f : PeerFields) → IsPlainState f → length (spelled_state_of f) ≡ 87 }
+    ensures ping { (p : PingFields) → length (spelled_ping_of p) ≡ (if is_some p.previous then 32 else 16) }
+    ensures pong { (session : NodeId) (ghost_time : ℤ) (echo : List ℕ) → length session.0 ≡ 8
+        → length (spelled_pong_of session ghost_time echo) ≡ 32 + length echo }
 {}

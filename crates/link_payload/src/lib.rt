@@ -24,7 +24,7 @@ pub use key::{
     START, START_SIZE, TIME_SIZE, TIMELINE, TIMELINE_SIZE,
 };
 pub use laws::{
-    fields_are_stored, one_spelling, one_state, pong_reads_back, spelled_or_cut, state_len,
+    fields_are_stored, one_spelling, one_state, payload_lens, pong_reads_back, spelled_or_cut,
     state_reads_back,
 };
 pub use read::{read_plain_state, read_pong, read_state};

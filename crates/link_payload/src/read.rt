@@ -19,7 +19,7 @@ use crate::key::{
 use crate::last::{Keys, Known, LastValues, last_values};
 use crate::range::{are_in_range, pong_in_range, state_in_range};
 use byteorder::{BigEndian, ByteOrder};
-use lk_base::{Endpoint, NodeId, SessionStart, Timeline};
+use lk_base::{Endpoint, NodeId, SessionStart, Timeline, u16_at, u32_at};
 
 // The keys of a state.
 const STATE_KEYS: Keys = Keys {
@@ -110,7 +110,7 @@ fn state_of(last: &LastValues<'_>) -> Result<PeerFields, PayloadFault>
     };
     state_in_range(PeerFields {
         timeline: timeline_of(timeline),
-        session: id_of(session),
+        session: NodeId::from_bytes(session),
         start: start_or_none(last.third),
         endpoint: endpoint_or_none(last.fourth),
     })
@@ -127,7 +127,7 @@ fn pong_of(last: &LastValues<'_>) -> Result<PongFields, PayloadFault>
         return Err(PayloadFault::Missing { key: GHOST_TIME });
     };
     pong_in_range(PongFields {
-        session: id_of(session),
+        session: NodeId::from_bytes(session),
         ghost_time: time_of(ghost_time),
         host: time_or_zero(last.third),
         previous: time_or_zero(last.fourth),
@@ -150,7 +150,7 @@ pub fn read_plain_state(payload: &[u8]) -> Option<PeerFields>
         return None;
     };
     let timeline = timeline_of(values.timeline);
-    let session = id_of(values.session);
+    let session = NodeId::from_bytes(values.session);
     let endpoint = endpoint_of(values.endpoint);
     let fields = PeerFields {
         timeline,
@@ -259,15 +259,6 @@ fn start_of(value: &[u8]) -> Option<SessionStart>
     })
 }
 
-fn id_of(value: &[u8]) -> NodeId
-    requires { length value.now ≡ 8 }
-    ensures { value.now ≡ result.0 }
-{
-    let mut id = [0; 8];
-    id.copy_from_slice(value);
-    NodeId(id)
-}
-
 fn endpoint_of(value: &[u8]) -> Endpoint
     requires { length value.now ≡ 6 }
     ensures spelled { value.now ≡ spelled_endpoint_of result }
@@ -334,22 +325,4 @@ fn i64_at(bytes: &[u8]) -> (i64, &[u8])
 {
     let (number, rest) = bytes.split_at(8);
     (BigEndian::read_i64(number), rest)
-}
-
-fn u32_at(bytes: &[u8]) -> (u32, &[u8])
-    requires { 4 ≤ length bytes.now }
-    ensures bytes { bytes.now ≡ big_bytes 4 result.0 ++ result.1.now }
-    ensures len { length result.1.now + 4 ≡ length bytes.now }
-{
-    let (number, rest) = bytes.split_at(4);
-    (BigEndian::read_u32(number), rest)
-}
-
-fn u16_at(bytes: &[u8]) -> (u16, &[u8])
-    requires { 2 ≤ length bytes.now }
-    ensures bytes { bytes.now ≡ big_bytes 2 result.0 ++ result.1.now }
-    ensures len { length result.1.now + 2 ≡ length bytes.now }
-{
-    let (number, rest) = bytes.split_at(2);
-    (BigEndian::read_u16(number), rest)
 }

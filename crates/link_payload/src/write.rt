@@ -12,7 +12,7 @@ use crate::key::{
     START, START_SIZE, TIME_SIZE, TIMELINE, TIMELINE_SIZE,
 };
 use byteorder::{BigEndian, ByteOrder};
-use lk_base::{Endpoint, NodeId, SessionStart, Timeline, Wire};
+use lk_base::{Endpoint, NodeId, SessionStart, Timeline, Wire, append};
 
 /// Appends the entries of a state: 87 bytes with an endpoint, 73 without.
 #[tactic(auto, using(crate::proofs::SpellingLemmas::lengths), unfolding(crate::specs::Spelling::spelled_state_of, crate::specs::Spelling::spelled_endpoint_entry_of, crate::specs::Entries::spelled_entry_of))]
@@ -25,7 +25,7 @@ pub fn write_state(out: &mut Wire, fields: &PeerFields)
     put_entry_head(out, TIMELINE, TIMELINE_SIZE);
     put_timeline(out, fields.timeline);
     put_entry_head(out, SESSION, SESSION_SIZE);
-    put(out, &fields.session.0);
+    append(out, &fields.session.0);
     put_entry_head(out, START, START_SIZE);
     put_start(out, fields.start);
     if let Some(endpoint) = fields.endpoint {
@@ -60,10 +60,10 @@ pub fn write_pong(out: &mut Wire, session: NodeId, ghost_time: i64, echo: &[u8])
     ensures len { array_vec_len out.new ≡ array_vec_len out.old + 32 + length echo.now }
 {
     put_entry_head(out, SESSION, SESSION_SIZE);
-    put(out, &session.0);
+    append(out, &session.0);
     put_entry_head(out, GHOST_TIME, TIME_SIZE);
     put_i64(out, ghost_time);
-    put(out, echo);
+    append(out, echo);
 }
 
 #[tactic(auto, unfolding(crate::specs::Spelling::spelled_timeline_of))]
@@ -83,7 +83,7 @@ fn put_start(out: &mut Wire, start: SessionStart)
     ensures items { out.new.items ≡ out.old.items ++ spelled_start_of start }
     ensures len { array_vec_len out.new ≡ array_vec_len out.old + 17 }
 {
-    put(out, &[u8::from(start.playing)]);
+    append(out, &[u8::from(start.playing)]);
     put_i64(out, start.beats);
     put_i64(out, start.stamp);
 }
@@ -115,7 +115,7 @@ fn put_i64(out: &mut Wire, number: i64)
 {
     let mut bytes = [0; 8];
     BigEndian::write_i64(&mut bytes, number);
-    put(out, &bytes);
+    append(out, &bytes);
 }
 
 fn put_u32(out: &mut Wire, number: u32)
@@ -125,7 +125,7 @@ fn put_u32(out: &mut Wire, number: u32)
 {
     let mut bytes = [0; 4];
     BigEndian::write_u32(&mut bytes, number);
-    put(out, &bytes);
+    append(out, &bytes);
 }
 
 fn put_u16(out: &mut Wire, number: u16)
@@ -135,13 +135,5 @@ fn put_u16(out: &mut Wire, number: u16)
 {
     let mut bytes = [0; 2];
     BigEndian::write_u16(&mut bytes, number);
-    put(out, &bytes);
-}
-
-fn put(out: &mut Wire, bytes: &[u8])
-    requires { array_vec_len out.old + length bytes.now ≤ 513 }
-    ensures items { out.new.items ≡ out.old.items ++ bytes.now }
-    ensures len { array_vec_len out.new ≡ array_vec_len out.old + length bytes.now }
-{
-    let _appended = out.try_extend_from_slice(bytes);
+    append(out, &bytes);
 }

@@ -18,7 +18,3 @@ dotted a b c d port =
 unfoldable pub endpoint_text_of : Endpoint → List ℕ
 endpoint_text_of e =
     dotted (e.addr / 256 ^ 3) (e.addr / 256 ^ 2 % 256) (e.addr / 256 % 256) (e.addr % 256) e.port
-
--- the ranges of an endpoint's numbers
-abbrev pub IsEndpoint : Endpoint → Type 0
-IsEndpoint e = (e.addr < 2 ^ 32) × (e.port < 2 ^ 16)

@@ -1,1 +1,2 @@
 pub mod RoundingLemmas
+mod OrderLemmas

@@ -8,6 +8,28 @@ use std::marker::Model;
 #[derive(Clone, Copy, Debug, PartialEq, Eq, PartialOrd, Ord)]
 pub struct NodeId(pub [u8; 8]);
 
+impl NodeId {
+    ghost use Rattle.std.specs.Prelude.{◌≡◌, length};
+    ghost use Rattle.lk_base.specs.Ids.{id_lt};
+
+    /// The id of these eight bytes.
+    pub fn from_bytes(bytes: &[u8]) -> NodeId
+        requires { length bytes.now ≡ 8 }
+        ensures { bytes.now ≡ result.0 }
+    {
+        let mut id = [0; 8];
+        id.copy_from_slice(bytes);
+        NodeId(id)
+    }
+
+    /// Whether it comes before another id, by the first of the eight bytes in which they differ.
+    pub fn is_before(&self, other: &NodeId) -> bool
+        ensures { result ≡ id_lt self.now other.now }
+    {
+        self.cmp(other).is_lt()
+    }
+}
+
 /// A source of node ids: a PCG generator of 32-bit words, `rand_pcg`'s `Lcg64Xsh32`.
 #[derive(Drop)]
 pub struct IdSource {
@@ -28,7 +50,9 @@ impl IdSource {
     ghost use Rattle.rand_pcg.specs.Pcg.{multiplier_64, pcg32};
     ghost use Rattle.lk_base.specs.Ids.{drawn_id, source_after};
 
-    /// The source that begins at this state of the generator, on this stream.
+    /// The source of the generator that is seeded so. Of the stream its lowest 63 bits count, and the increment
+    /// is twice those and 1. The generator begins at state 0, which is advanced once, has the seed added, and is
+    /// advanced once more.
     pub fn new(seed: u64, stream: u64) -> IdSource
         ensures { result ≡ started 64 multiplier_64 seed (increment_of 64 stream) }
     {

@@ -22,4 +22,4 @@ pub use limits::{LIMIT, MOMENT_MAX};
 pub use rounding::{clip, near, one_nearest};
 pub use start::{ClientStart, SessionStart};
 pub use timeline::Timeline;
-pub use wire::Wire;
+pub use wire::{Wire, append, u16_at, u32_at, u64_at};

@@ -10,7 +10,7 @@ returns-then-kind-eq-BYE c =
       kind_is = c.if-kind-eq-BYE.true;
       ttl_is = refl;
       group_is = sym c.read_u16-group.ensures;
-      sender_is = ap id_with c.id_of-from.ensures;
+      sender_is = ap id_with c.from_bytes-from.ensures;
       payload_is = sym c.split_at.ensures.back;
     })
 
@@ -32,7 +32,7 @@ returns-then-kind-eq-ALIVE c =
       kind_is = c.if-kind-eq-ALIVE.true;
       ttl_is = refl;
       group_is = sym c.read_u16-group.ensures;
-      sender_is = ap id_with c.id_of-from.ensures;
+      sender_is = ap id_with c.from_bytes-from.ensures;
       payload_is = sym c.split_at.ensures.back;
     }) (answer_from state_answer_of c.split_at.result.1.now (Ok c.in-Ok.fields) either c.in-Ok.ensures.spelled c.in-Ok.ensures.cut)
 
@@ -44,6 +44,6 @@ returns c =
       kind_is = second_of _ (sym c.tells_state.ensures ∙ c.if-not-tells_state.false) c.if-kind-eq-ALIVE.false;
       ttl_is = refl;
       group_is = sym c.read_u16-group.ensures;
-      sender_is = ap id_with c.id_of-from.ensures;
+      sender_is = ap id_with c.from_bytes-from.ensures;
       payload_is = sym c.split_at.ensures.back;
     }) (answer_from state_answer_of c.split_at.result.1.now (Ok c.in-Ok.fields) either c.in-Ok.ensures.spelled c.in-Ok.ensures.cut)

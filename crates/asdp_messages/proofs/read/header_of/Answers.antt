@@ -9,4 +9,4 @@ returns-then-protocol-ne-PROTOCOL-clause-none c = λ kind ttl group from is.
 pub returns-clause-some : goal.returns-clause-some
 returns-clause-some c =
     header_as_read _ _ _ _ _ _ _ _ c.u64_at-protocol.ensures.bytes c.if-protocol-ne-PROTOCOL.false (omega arith)
-    c.split_at.ensures.front c.split_at.ensures.back c.u16_at-group.ensures.bytes c.id_of-from.ensures
+    c.split_at.ensures.front c.split_at.ensures.back c.u16_at-group.ensures.bytes c.from_bytes-from.ensures

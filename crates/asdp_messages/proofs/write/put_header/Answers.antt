@@ -5,7 +5,7 @@ use Rattle.asdp_messages.proofs.write.put_header.Goals as goal
 pub returns-clause-items : goal.returns-clause-items
 returns-clause-items c =
     header_as_written c.args.out.now.items _ _ _ _ c.args.header.now.kind c.args.header.now.ttl c.args.header.now.group c.args.header.now.from
-    (c.put.ensures.items ∙ ap (λ (bs : List ℕ). c.args.out.now.items ++ bs) c.write_u64.ensures)
-    c.put-2.ensures.items
-    (c.put-3.ensures.items ∙ ap (λ (bs : List ℕ). c.put-2.new.out.items ++ bs) c.write_u16.ensures)
-    c.put-4.ensures.items
+    (c.append.ensures.items ∙ ap (λ (bs : List ℕ). c.args.out.now.items ++ bs) c.write_u64.ensures)
+    c.append-2.ensures.items
+    (c.append-3.ensures.items ∙ ap (λ (bs : List ℕ). c.append-2.new.out.items ++ bs) c.write_u16.ensures)
+    c.append-4.ensures.items

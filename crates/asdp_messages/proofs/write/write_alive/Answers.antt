@@ -1,13 +1,22 @@
-use Rattle.std.proofs.Common.{length, is_some, ap, lit≤, arith, rules}
-use Rattle.asdp_messages.specs.Spelling.{spelled_alive_of}
-use Rattle.asdp_messages.proofs.SentLemmas.{alive_back, joined, at_most}
+use Rattle.std.proofs.Common.{Ok, refl, arith, rules}
+use Rattle.asdp_messages.specs.Datagram as message
+use Rattle.asdp_messages.specs.Spelling.{sent, spelled_of}
+use Rattle.asdp_messages.specs.Spelling as written
+use Rattle.asdp_messages.specs.Written.{IsTidyMessage}
+use Rattle.asdp_messages.proofs.SentLemmas.{joined, as_spelled}
 use Rattle.asdp_messages.proofs.write.write_alive.Goals as goal
 
 pub returns-clause-reads_back : goal.returns-clause-reads_back
-unfolding spelled_alive_of
+unfolding spelled_of
 returns-clause-reads_back c = λ tidy.
-    let len = at_most (is_some c.args.fields.now.endpoint) 87 73 87 (lit≤ tt) (lit≤ tt) in
-    alive_back c.write_state.new.out.items c.args.from c.args.group c.args.fields.now
+    let sent_message = sent c.args.from c.args.group c.args.fields.now in
+    let is_tidy : IsTidyMessage sent_message = record {
+      ttl = omega arith;
+      group = omega arith;
+      from = search rules;
+      stored = c.fields_are_stored.ensures;
+      fields = tidy;
+    } in
+    as_spelled (written.Alive sent_message) (message.Alive sent_message)
     (joined _ _ _ _ _ c.write_state.ensures.items c.put_header.ensures.items c.new-out.ensures)
-    (omega (arith, len, ap length c.new-out.ensures, c.put_header.ensures.len, c.write_state.ensures.len)) (omega arith) (search rules)
-    (c.state_reads_back.ensures c.args.fields.now c.fields_are_stored.ensures tidy)
+    (c.written_is_read.ensures (written.Alive sent_message) (message.Alive sent_message) is_tidy refl)

@@ -14,6 +14,6 @@ returns-in_default-second c =
 pub returns : goal.returns
 returns c =
     c.pong_in_range.ensures
-    ∙ pong_tried (values_of c.args.last.now) _ _ c.id_of.result c.time_of.result c.time_or_zero.result c.time_or_zero-2.result
-    (ap option_copied c.in-Some.is) (ap option_copied c.in-Some-second.is) c.id_of.ensures c.time_of.ensures c.time_or_zero.ensures c.time_or_zero-2.ensures
+    ∙ pong_tried (values_of c.args.last.now) _ _ c.from_bytes.result c.time_of.result c.time_or_zero.result c.time_or_zero-2.result
+    (ap option_copied c.in-Some.is) (ap option_copied c.in-Some-second.is) c.from_bytes.ensures c.time_of.ensures c.time_or_zero.ensures c.time_or_zero-2.ensures
     (search rules) (search rules) (search rules)

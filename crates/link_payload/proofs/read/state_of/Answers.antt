@@ -14,5 +14,5 @@ returns-in_default-second c =
 pub returns : goal.returns
 returns c =
     c.state_in_range.ensures
-    ∙ state_tried (values_of c.args.last.now) _ _ c.timeline_of.result c.id_of.result c.start_or_none.result c.endpoint_or_none.result
-    (ap option_copied c.in-Some.is) (ap option_copied c.in-Some-second.is) c.timeline_of.ensures.read c.id_of.ensures c.start_or_none.ensures c.endpoint_or_none.ensures
+    ∙ state_tried (values_of c.args.last.now) _ _ c.timeline_of.result c.from_bytes.result c.start_or_none.result c.endpoint_or_none.result
+    (ap option_copied c.in-Some.is) (ap option_copied c.in-Some-second.is) c.timeline_of.ensures.read c.from_bytes.ensures c.start_or_none.ensures c.endpoint_or_none.ensures
