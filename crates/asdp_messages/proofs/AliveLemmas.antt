@@ -22,7 +22,7 @@ abbrev pub OneState : Type 0
 OneState = (f g : PeerFields) → IsPlainState f → IsPlainState g → spelled_state_of f ≡ spelled_state_of g → f ≡ g
 
 pub length-alive : StateLen → (m : StateMsg) → IsPlainAlive m → length (spelled_alive_of m) ≡ 107
-unfolding spelled_of
+unfolding spelled_alive_of spelled_of
 length-alive state_len m plain =
     simp length-append (omega (arith, length-header 1 m.ttl m.group m.from plain.from, state_len m.fields (plain_state plain)))
 
@@ -30,7 +30,7 @@ length-alive state_len m plain =
 pub alive_parts : (bytes front payload : List ℕ) (m : StateMsg) → IsPlainAlive m
     → front ≡ take 20 bytes → payload ≡ drop 20 bytes → bytes ≡ spelled_alive_of m
     → (front ≡ spelled_header_of 1 m.ttl m.group m.from) × (payload ≡ spelled_state_of m.fields)
-unfolding spelled_of
+unfolding spelled_alive_of spelled_of
 alive_parts bytes front payload m plain front_is payload_is is =
     let len = length-header 1 m.ttl m.group m.from plain.from in (
       front_is ∙ ap (take 20) is ∙ take_at (spelled_header_of 1 m.ttl m.group m.from) (spelled_state_of m.fields) 20 len,
@@ -41,7 +41,7 @@ alive_parts bytes front payload m plain front_is payload_is is =
 pub alive_as_read : (bytes front payload : List ℕ) (kind : ℕ) (m : StateMsg)
     → front ≡ take 20 bytes → payload ≡ drop 20 bytes → kind ≡ 1
     → front ≡ spelled_header_of kind m.ttl m.group m.from → payload ≡ spelled_state_of m.fields → bytes ≡ spelled_alive_of m
-unfolding spelled_of
+unfolding spelled_alive_of spelled_of
 alive_as_read bytes front payload kind m front_is payload_is kind_is header_is state_is =
     sym (take-append-drop 20 bytes) ∙ ap₂ (λ (a b : List ℕ). a ++ b) (sym front_is ∙ header_is) (sym payload_is ∙ state_is)
     ∙ ap (λ (k : ℕ). spelled_header_of k m.ttl m.group m.from ++ spelled_state_of m.fields) kind_is
@@ -50,7 +50,7 @@ abbrev message_with : NodeId → ℕ → ℕ → PeerFields → StateMsg
 message_with from ttl group fields = record { from = from; ttl = ttl; group = group; fields = fields }
 
 pub one_plain : OneState → (m n : StateMsg) → IsPlainAlive m → IsPlainAlive n → spelled_alive_of m ≡ spelled_alive_of n → m ≡ n
-unfolding spelled_of
+unfolding spelled_alive_of spelled_of
 one_plain one_state m n m_plain n_plain e =
     let len = length-header 1 m.ttl m.group m.from m_plain.from ∙ sym (length-header 1 n.ttl n.group n.from n_plain.from) in
     let parts = parts_of (spelled_header_of 1 m.ttl m.group m.from) (spelled_header_of 1 n.ttl n.group n.from) (spelled_state_of m.fields) (spelled_state_of n.fields) len e in

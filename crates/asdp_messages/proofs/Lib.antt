@@ -3,3 +3,4 @@ pub mod AliveLemmas
 pub mod DatagramLemmas
 pub mod OneLemmas
 pub mod SentLemmas
+pub mod ReadingLemmas

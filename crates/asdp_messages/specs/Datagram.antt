@@ -7,7 +7,7 @@ use Rattle.lk_base.specs.declared.ids.NodeId.{NodeId}
 use Rattle.link_payload.specs.declared.fault.PayloadFault.{PayloadFault}
 use Rattle.link_payload.specs.declared.fields.PeerFields.{PeerFields}
 use Rattle.link_payload.specs.declared.fields.PongFields.{PongFields}
-use Rattle.link_payload.specs.Entries.{EntryValue, AreEntriesIn}
+use Rattle.link_payload.specs.Entries.{EntryValue, AreBytes, AreEntriesIn}
 use Rattle.lk_base.specs.Endpoint.{IsEndpoint}
 use Rattle.link_payload.specs.Fields.{AreInRange, state_answer_of, pong_answer_of}
 use Rattle.asdp_messages.specs.declared.fault.WireFault.{WireFault}
@@ -116,3 +116,8 @@ IsReadAs bytes answer =
     (MatchBool (is_link bytes) (IsLinkReadAs bytes answer)
     (MatchBool (nat_lt (length bytes) 20) (answer ≡ Err (Short (length bytes)))
     (IsDiscoveryReadAs bytes answer)))))
+
+-- bytes are read as something
+abbrev pub AreAllRead : Type 0
+AreAllRead =
+    (bytes : List ℕ) → AreBytes bytes → length bytes < 2 ^ 32 → (reading : Result MessageValue WireFault) × IsReadAs bytes reading

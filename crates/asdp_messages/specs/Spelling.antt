@@ -37,7 +37,7 @@ abbrev pub sent : NodeId → ℕ → PeerFields → StateMsg
 sent from group fields = record { from = from; ttl = 5; group = group; fields = fields }
 
 -- an alive, whatever its time to live
-abbrev pub spelled_alive_of : StateMsg → List ℕ
+unfoldable pub spelled_alive_of : StateMsg → List ℕ
 spelled_alive_of m = spelled_of (Alive m)
 
 -- a response that is sent

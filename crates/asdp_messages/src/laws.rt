@@ -1,9 +1,9 @@
 //! Laws of the spelling, for proofs alone: to call one is to know it.
 
-ghost use Rattle.std.specs.Prelude.{◌≡◌, ℕ, List, Result, Ok, length};
+ghost use Rattle.std.specs.Prelude.{◌≡◌, ◌≤◌, ℕ, List, Result, Ok, length};
 ghost use Rattle.asdp_messages.specs.declared.fault.WireFault.{WireFault};
 ghost use Rattle.asdp_messages.specs.declared.message.StateMsg.{StateMsg};
-ghost use Rattle.asdp_messages.specs.Datagram.{IsPlainAlive, IsReadAs, MessageValue};
+ghost use Rattle.asdp_messages.specs.Datagram.{AreAllRead, IsPlainAlive, IsReadAs, MessageValue, Ping};
 ghost use Rattle.asdp_messages.specs.Spelling.{Written, spelled_of, spelled_alive_of};
 ghost use Rattle.asdp_messages.specs.Written.{IsTidyWritten, Says};
 
@@ -19,6 +19,18 @@ pub fn one_reading()
     one_spelling();
     spelled_or_cut();
 }
+
+/// Every datagram of fewer than 2^32 bytes is read as a message or has a fault.
+pub fn all_are_read()
+    ensures { AreAllRead }
+{
+    spelled_or_cut();
+}
+
+/// A ping that is read has a payload of at most 503 bytes, since a datagram has at most 512.
+pub fn ping_payload_len()
+    ensures { (bytes payload : List ℕ) → IsReadAs bytes (Ok (Ping payload)) → length payload ≤ 503 }
+{}
 
 /// Bytes spell one plain alive at most.
 pub fn one_alive()

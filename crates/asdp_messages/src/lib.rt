@@ -18,7 +18,9 @@ pub use header::{
     ALIVE, BYE, GREATEST_LEN, HEADER_LEN, LINK_HEADER_LEN, LINK_PROTOCOL, PING, PONG, PROTOCOL,
     RESPONSE, TIME_TO_LIVE,
 };
-pub use laws::{alive_len, one_alive, one_reading, written_is_read};
+pub use laws::{
+    alive_len, all_are_read, one_alive, one_reading, ping_payload_len, written_is_read,
+};
 pub use message::{Message, StateMsg};
 pub use read::{read_datagram, read_plain_alive};
 pub use write::{write_alive, write_bye, write_ping_message, write_pong_message, write_response};

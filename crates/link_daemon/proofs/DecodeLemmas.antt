@@ -9,11 +9,11 @@ use Rattle.lk_outside.specs.Sink.{Appends}
 use Rattle.lk_outside.specs.Transfer.{AppendsPrefix}
 use Rattle.link_payload.specs.Entries.{AreBytes}
 use Rattle.asdp_messages.specs.declared.fault.WireFault.{WireFault}
-use Rattle.asdp_messages.specs.Datagram.{MessageValue, IsReadAs}
+use Rattle.asdp_messages.specs.Datagram.{AreAllRead, MessageValue, IsReadAs}
 use Rattle.link_text.specs.ReadingLine.{reading_line_of}
 use Rattle.link_daemon.specs.Lines.{lines_of}
 use Rattle.link_daemon.specs.HexLines.{IsHexLine, IsDecodable, HasLinesWithin}
-use Rattle.link_daemon.specs.DecodeText.{IsDecodedLine, AreDecodedLines, IsDecodeText, AreAllRead, HasOneOutput}
+use Rattle.link_daemon.specs.DecodeText.{IsDecodedLine, AreDecodedLines, IsDecodeText, HasOneOutput}
 use Rattle.link_daemon.specs.Outlet.{HandsOver, HandsPart}
 use Rattle.link_daemon.proofs.OutletLemmas.{hands_none, hands_both, hands_whole, hands_whole_part, part_after, part_of_more}
 use Rattle.link_daemon.proofs.ScriptLemmas.{lines_end}

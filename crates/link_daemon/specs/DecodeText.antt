@@ -1,8 +1,7 @@
 -- What a decode writes: for each line of the text, in order, the line that tells how its bytes are read.
-use Rattle.std.specs.Prelude.{◌≡◌, ◌<◌, ◌^◌, ℕ, List, [], ◌∷◌, length, Result, Ok}
+use Rattle.std.specs.Prelude.{◌≡◌, ℕ, List, [], ◌∷◌, Result, Ok}
 use Rattle.std.specs.List.{concat}
 use Rattle.hex.specs.Hex.{decode_of}
-use Rattle.link_payload.specs.Entries.{AreBytes}
 use Rattle.asdp_messages.specs.declared.fault.WireFault.{WireFault}
 use Rattle.asdp_messages.specs.Datagram.{MessageValue, IsReadAs}
 use Rattle.link_text.specs.ReadingLine.{reading_line_of}
@@ -27,11 +26,6 @@ pub record IsDecodeText (text output : List ℕ) : Type 0 where
   pub told : List (List ℕ)
   pub lines : AreDecodedLines (lines_of text) told
   pub whole : output ≡ concat told
-
--- all bytes are read as something
-abbrev pub AreAllRead : Type 0
-AreAllRead =
-    (bytes : List ℕ) → AreBytes bytes → length bytes < 2 ^ 32 → (reading : Result MessageValue WireFault) × IsReadAs bytes reading
 
 -- a text has one output at most
 abbrev pub HasOneOutput : Type 0

@@ -12,11 +12,10 @@ ghost use Rattle.link_daemon.specs.Statuses.{EndsDecode, EndsText, decode_comman
 
 use crate::command_line::is_only;
 use crate::hex_lines::longest_line;
-use crate::laws::all_are_read;
 use crate::line::line_at;
 use crate::outlet::Outlet;
 use crate::status::{Grammar, Status};
-use asdp_messages::read_datagram;
+use asdp_messages::{all_are_read, ping_payload_len, read_datagram};
 use link_text::{LineBuf, write_reading};
 use lk_outside::{InputFault, Sink, Source, read_all};
 use std::alloc::Global;
@@ -122,7 +121,7 @@ fn hand_lines<K: Sink>(text: &[u8], bytes: &mut [u8], outlet: &mut Outlet, out: 
         let (digits, next) = line_at(text, at);
         put_reading(&mut line, digits, bytes);
         if !outlet.put_line(out, line.as_slice()) {
-            // So the lines left have an output too.
+            // A law, for the proof: the lines left have an output too.
             all_are_read();
             return false;
         }
@@ -140,5 +139,7 @@ fn put_reading(line: &mut LineBuf, digits: &[u8], bytes: &mut [u8])
 {
     let room = &mut bytes[..digits.len() / 2];
     hex::decode_to_slice(digits, room).unwrap();
+    // A law, for the proof: a ping's payload finds room.
+    ping_payload_len();
     write_reading(line, &read_datagram(room));
 }

@@ -1,5 +1,0 @@
-use Rattle.link_daemon.proofs.ReadingLemmas.{some_reading}
-use Rattle.link_daemon.proofs.laws.all_are_read.Goals as goal
-
-pub returns : goal.returns
-returns c = some_reading c.spelled_or_cut.ensures.either
