@@ -1,14 +1,26 @@
 //! Cases worked out apart from the code, by exact fractions and, for the clicks, microsecond by microsecond.
 
+ghost use Rattle.lk_base.specs.Timeline.{IsTidy};
+
 use crate::{
     beat_at, clicks, closest_match, encoded_beat, encoded_time, next_match, phase, tidy, time_at,
 };
-use lk_base::{Block, LIMIT, Timeline, clip};
+use lk_base::{Block, LIMIT, Timeline};
 use std::process::Abort;
 
 const LONGEST: i64 = 1_099_511_627_776;
 
 fn timeline(mpb: i64, beat: i64, time: i64) -> Timeline {
+    Timeline { mpb, beat, time }
+}
+
+// A timeline whose numbers are tidy as they are.
+fn tidy_timeline(rt: &impl Abort, mpb: i64, beat: i64, time: i64) -> Timeline
+    ensures { IsTidy result }
+{
+    assert!(rt; 60_060 <= mpb && mpb <= 3_000_000);
+    assert!(rt; -LIMIT <= beat && beat <= LIMIT);
+    assert!(rt; -LIMIT <= time && time <= LIMIT);
     Timeline { mpb, beat, time }
 }
 
@@ -64,8 +76,9 @@ fn beats_stand_where_exact_fractions_put_them(rt: HostRuntime) {
         (3_000_000, 0, -LIMIT, LIMIT, 768_614_336_404_564_651),
         (500_000, 0, 0, -LIMIT, -LIMIT),
     ] {
-        let tl = tidy(&timeline(mpb, beat, time));
-        assert_eq!(rt; beat_at(&tl, clip(at as i128)), want, "at {at} of {tl:?}");
+        let tl = tidy_timeline(&rt, mpb, beat, time);
+        assert!(rt; -LIMIT <= at && at <= LIMIT);
+        assert_eq!(rt; beat_at(&tl, at), want, "at {at} of {tl:?}");
     }
 }
 
@@ -88,8 +101,9 @@ fn times_stand_where_exact_fractions_put_them(rt: HostRuntime) {
         (2_500_000, 0, 0, 1, 3),
         (2_500_000, 0, 0, -1, -3),
     ] {
-        let tl = tidy(&timeline(mpb, beat, time));
-        assert_eq!(rt; time_at(&tl, clip(at as i128)), want, "at {at} of {tl:?}");
+        let tl = tidy_timeline(&rt, mpb, beat, time);
+        assert!(rt; -LIMIT <= at && at <= LIMIT);
+        assert_eq!(rt; time_at(&tl, at), want, "at {at} of {tl:?}");
     }
 }
 
@@ -132,8 +146,7 @@ fn phases_and_matches_are_counted_from_the_multiples_below(rt: HostRuntime) {
         (-2_000_001, 0, 4_000_000, 1_999_999, 0, -4_000_000),
     ] {
         assert!(rt; 0 <= quantum && quantum <= LONGEST);
-        let beat = clip(beat as i128);
-        let target = clip(target as i128);
+        assert!(rt; -LIMIT <= beat && beat <= LIMIT && -LIMIT <= target && target <= LIMIT);
         assert_eq!(rt;
             phase(beat, quantum),
             past,
@@ -166,9 +179,10 @@ fn an_encoded_beat_has_the_phase_of_its_place_past_the_origin(rt: HostRuntime) {
         (2_000_000, 2_500_000, 3, -2, 4_000_000, 3_999_997),
     ] {
         assert!(rt; 0 <= quantum && quantum <= LONGEST);
-        let tl = tidy(&timeline(mpb, beat, time));
+        let tl = tidy_timeline(&rt, mpb, beat, time);
+        assert!(rt; -LIMIT <= at && at <= LIMIT);
         assert_eq!(rt;
-            encoded_beat(&tl, clip(at as i128), quantum),
+            encoded_beat(&tl, at, quantum),
             want,
             "at {at} of {tl:?}"
         );
@@ -190,7 +204,7 @@ fn an_encoded_beat_has_the_time_of_its_place_past_the_origin(rt: HostRuntime) {
     ] {
         assert!(rt; 0 <= quantum && quantum <= LONGEST);
         assert!(rt; -LIMIT - 2 * LONGEST <= encoded && encoded <= LIMIT + 2 * LONGEST);
-        let tl = tidy(&timeline(mpb, beat, time));
+        let tl = tidy_timeline(&rt, mpb, beat, time);
         assert_eq!(rt;
             encoded_time(&tl, encoded, quantum),
             want,
@@ -209,7 +223,8 @@ fn expect_clicks(
 ) {
     assert!(rt; 0 <= quantum && quantum <= LONGEST && 0 <= length && length <= 1_000_000);
     assert!(rt; -LIMIT <= start && start <= LIMIT - length);
-    let found = clicks(&tidy(&tl), Block { start, length }, quantum);
+    let tl = tidy_timeline(rt, tl.mpb, tl.beat, tl.time);
+    let found = clicks(&tl, Block { start, length }, quantum);
     assert_eq!(rt; found.len(), want.len(), "from {start} on");
     for (click, (at, accent)) in found.iter().zip(want) {
         assert_eq!(rt; click.at, *at);
