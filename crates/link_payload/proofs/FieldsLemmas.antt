@@ -12,12 +12,12 @@ use Rattle.link_payload.specs.Entries.{spelled_number_of, spelled_entry_of}
 use Rattle.lk_base.specs.Endpoint.{IsEndpoint}
 use Rattle.link_payload.specs.Fields.{IsPlainState, IsStored}
 use Rattle.link_payload.specs.Spelling.{spelled_timeline_of, spelled_start_of, spelled_endpoint_of, spelled_endpoint_entry_of, spelled_state_of, spelled_previous_entry_of, spelled_ping_of, spelled_pong_of}
-use Rattle.link_payload.specs.Values.{AreValuesIn}
+use Rattle.link_payload.specs.PlainValues.{AreValuesIn}
 use Rattle.link_payload.proofs.NumberLemmas.{fits-within}
 use Rattle.link_payload.proofs.SpellingLemmas.{length-timeline, length-start, length-endpoint}
 use Rattle.link_payload.proofs.ValueLemmas.{number_length}
 use Rattle.link_payload.proofs.StateLemmas.{one_timeline, one_start, one_endpoint}
-use Rattle.link_payload.proofs.ValuesLemmas.{one_reading}
+use Rattle.link_payload.proofs.PlainValuesLemmas.{one_reading}
 
 -- what the types of code say of fields with an endpoint
 pub record FitsFields (f : PeerFields) (e : Endpoint) : Type 0 where

@@ -8,11 +8,11 @@ use Rattle.link_payload.specs.declared.entry.Entry.{Entry}
 use Rattle.link_payload.specs.declared.fault.PayloadFault.{PayloadFault}
 use Rattle.link_payload.specs.declared.fault.PayloadFault.TheVariants.{Cut, WrongSize}
 use Rattle.link_payload.specs.declared.last.Keys.{Keys}
-use Rattle.link_payload.specs.declared.last.Known.{Known}
+use Rattle.link_payload.specs.declared.last.KeySize.{KeySize}
 use Rattle.link_payload.specs.Entries.{EntryValue, AreEntriesIn, AreBytes}
 use Rattle.link_payload.specs.Items.{Item, ok_item, item_value, items_at}
 use Rattle.link_payload.specs.Fields.{answer_of, has_other_size, size_fault_of, cut_fault_of}
-use Rattle.link_payload.specs.Last.{Values, HasSize, HaveSizes, known_of, last_values_of, last_answer_of, later_of, values_after}
+use Rattle.link_payload.specs.Last.{LastBytes, HasSize, HaveSizes, key_sizes_of, last_bytes_in, last_answer_of, later_of, last_bytes_after}
 use Rattle.link_payload.proofs.WalkLemmas.{spelled_items, cut_items}
 
 abbrev pub some_fault : PayloadFault → Option PayloadFault
@@ -22,43 +22,43 @@ abbrev pub wrong_size : EntryValue → PayloadFault
 wrong_size e = WrongSize e.key (length e.value)
 
 -- what a walk gives, from values that it has already
-pub walked : Keys → Values → List Item → Result Values PayloadFault
+pub walked : Keys → LastBytes → List Item → Result LastBytes PayloadFault
 walked keys values [] = Ok values
 walked keys values (Err fault ∷ items) = Err fault
 walked keys values (Ok e ∷ items) =
-    cond (has_other_size (known_of keys) e) (Err (wrong_size e)) (walked keys (values_after keys e values) items)
+    cond (has_other_size (key_sizes_of keys) e) (Err (wrong_size e)) (walked keys (last_bytes_after keys e values) items)
 
-pub walked-end : (keys : Keys) (values : Values) → walked keys values [] ≡ Ok values
+pub walked-end : (keys : Keys) (values : LastBytes) → walked keys values [] ≡ Ok values
 unfolding walked
 walked-end keys values = refl
 
-pub walked-fault : (keys : Keys) (values : Values) (fault : PayloadFault) (items : List Item) → walked keys values (Err fault ∷ items) ≡ Err fault
+pub walked-fault : (keys : Keys) (values : LastBytes) (fault : PayloadFault) (items : List Item) → walked keys values (Err fault ∷ items) ≡ Err fault
 unfolding walked
 walked-fault keys values fault items = refl
 
-pub walked-wrong : (keys : Keys) (values : Values) (e : EntryValue) (items : List Item) → has_other_size (known_of keys) e ≡ true
+pub walked-wrong : (keys : Keys) (values : LastBytes) (e : EntryValue) (items : List Item) → has_other_size (key_sizes_of keys) e ≡ true
     → walked keys values (ok_item e ∷ items) ≡ Err (wrong_size e)
 unfolding walked
 walked-wrong keys values e items is = rw is refl
 
-pub walked-on : (keys : Keys) (values : Values) (e : EntryValue) (items : List Item) → has_other_size (known_of keys) e ≡ false
-    → walked keys values (ok_item e ∷ items) ≡ walked keys (values_after keys e values) items
+pub walked-on : (keys : Keys) (values : LastBytes) (e : EntryValue) (items : List Item) → has_other_size (key_sizes_of keys) e ≡ false
+    → walked keys values (ok_item e ∷ items) ≡ walked keys (last_bytes_after keys e values) items
 unfolding walked
 walked-on keys values e items is = rw is refl
 
-walked-cond : (keys : Keys) (values : Values) (e : EntryValue) (items : List Item)
-    → walked keys values (ok_item e ∷ items) ≡ cond (has_other_size (known_of keys) e) (Err (wrong_size e)) (walked keys (values_after keys e values) items)
+walked-cond : (keys : Keys) (values : LastBytes) (e : EntryValue) (items : List Item)
+    → walked keys values (ok_item e ∷ items) ≡ cond (has_other_size (key_sizes_of keys) e) (Err (wrong_size e)) (walked keys (last_bytes_after keys e values) items)
 unfolding walked
 walked-cond keys values e items = refl
 
-abbrev pub no_values : Values
-no_values = record { first = None; second = None; third = None; fourth = None }
+abbrev pub no_bytes : LastBytes
+no_bytes = record { first = None; second = None; third = None; fourth = None }
 
 -- the last value of a key, or the one before
 last_from : ℕ → Option (List ℕ) → List EntryValue → Option (List ℕ)
 last_from key value es = last_or value (map (λ e. e.value) (filter (λ e. eqb e.key key) es))
 
-abbrev last_of : Keys → Values → List EntryValue → Values
+abbrev last_of : Keys → LastBytes → List EntryValue → LastBytes
 last_of keys values es = record {
   first = last_from keys.first.key values.first es;
   second = last_from keys.second.key values.second es;
@@ -71,14 +71,14 @@ one_later : (b : Bool) (e : EntryValue) (value : Option (List ℕ)) (es : List E
 one_later true e value es = refl
 one_later false e value es = refl
 
-later-is : (known : Known) (e : EntryValue) (value : Option (List ℕ)) (es : List EntryValue) → last_from known.key (later_of known e value) es ≡ last_from known.key value (e ∷ es)
+later-is : (known : KeySize) (e : EntryValue) (value : Option (List ℕ)) (es : List EntryValue) → last_from known.key (later_of known e value) es ≡ last_from known.key value (e ∷ es)
 unfolding last_from
 later-is known e value es = one_later (eqb e.key known.key) e value (filter (λ e. eqb e.key known.key) es)
 
-values_with : Option (List ℕ) → Option (List ℕ) → Option (List ℕ) → Option (List ℕ) → Values
+values_with : Option (List ℕ) → Option (List ℕ) → Option (List ℕ) → Option (List ℕ) → LastBytes
 values_with first second third fourth = record { first = first; second = second; third = third; fourth = fourth }
 
-last-after : (keys : Keys) (values : Values) (e : EntryValue) (es : List EntryValue) → last_of keys (values_after keys e values) es ≡ last_of keys values (e ∷ es)
+last-after : (keys : Keys) (values : LastBytes) (e : EntryValue) (es : List EntryValue) → last_of keys (last_bytes_after keys e values) es ≡ last_of keys values (e ∷ es)
 last-after keys values e es =
     let first = later-is keys.first e values.first es in
     let second = later-is keys.second e values.second es in
@@ -86,14 +86,14 @@ last-after keys values e es =
     let fourth = later-is keys.fourth e values.fourth es in
     cc
 
-from_nil : (keys : Keys) (values : Values) → last_of keys values [] ≡ values
+from_nil : (keys : Keys) (values : LastBytes) → last_of keys values [] ≡ values
 unfolding last_from
 from_nil keys values = refl
 
-abbrev pub answer : List EntryValue → Option ℕ → Keys → Values → Result Values PayloadFault
-answer es cut keys values = answer_of (size_fault_of (known_of keys) es ∷ cut_fault_of cut ∷ []) values
+abbrev pub answer : List EntryValue → Option ℕ → Keys → LastBytes → Result LastBytes PayloadFault
+answer es cut keys values = answer_of (size_fault_of (key_sizes_of keys) es ∷ cut_fault_of cut ∷ []) values
 
-by_test : (b : Bool) (e : EntryValue) (found : Option EntryValue) (cut : Option PayloadFault) (values : Values) (rest : Result Values PayloadFault)
+by_test : (b : Bool) (e : EntryValue) (found : Option EntryValue) (cut : Option PayloadFault) (values : LastBytes) (rest : Result LastBytes PayloadFault)
     → rest ≡ answer_of (option_map wrong_size found ∷ cut ∷ []) values
     → cond b (Err (wrong_size e)) rest ≡ answer_of (option_map wrong_size (cond b (Some e) found) ∷ cut ∷ []) values
 by_test true e found cut values rest is = refl
@@ -103,29 +103,29 @@ abbrev cut_item_of : Option ℕ → List Item
 cut_item_of None = []
 cut_item_of (Some n) = Err (Cut n) ∷ []
 
-walked_all : (keys : Keys) (values : Values) (es : List EntryValue) (cut : Option ℕ)
+walked_all : (keys : Keys) (values : LastBytes) (es : List EntryValue) (cut : Option ℕ)
     → walked keys values (map ok_item es ++ cut_item_of cut) ≡ answer es cut keys (last_of keys values es)
 walked_all keys values [] None = walked-end keys values ∙ ap (answer [] None keys) (sym (from_nil keys values))
 walked_all keys values [] (Some n) = walked-fault keys values (Cut n) []
 walked_all keys values (e ∷ es) cut =
-    let others = walked_all keys (values_after keys e values) es cut in
+    let others = walked_all keys (last_bytes_after keys e values) es cut in
     let same = ap (answer es cut keys) (last-after keys values e es) in
     walked-cond keys values e (map ok_item es ++ cut_item_of cut)
-    ∙ by_test (has_other_size (known_of keys) e) e (find (has_other_size (known_of keys)) es) (cut_fault_of cut) (last_of keys values (e ∷ es)) _ (others ∙ same)
+    ∙ by_test (has_other_size (key_sizes_of keys) e) e (find (has_other_size (key_sizes_of keys)) es) (cut_fault_of cut) (last_of keys values (e ∷ es)) _ (others ∙ same)
 
 all_items : (bytes : List ℕ) (es : List EntryValue) (cut : Option ℕ) → AreBytes bytes → AreEntriesIn bytes es cut → items_at 0 bytes ≡ map ok_item es ++ cut_item_of cut
 all_items bytes es None are_bytes entries = spelled_items bytes es are_bytes entries ∙ sym (append-nil (map ok_item es))
 all_items bytes es (Some n) are_bytes entries = cut_items bytes n es are_bytes entries
 
-from_none : (keys : Keys) (es : List EntryValue) → last_of keys no_values es ≡ last_values_of keys es
+from_none : (keys : Keys) (es : List EntryValue) → last_of keys no_bytes es ≡ last_bytes_in keys es
 unfolding last_from
 from_none keys es = refl
 
 pub walked_answer : (keys : Keys) (bytes : List ℕ) (es : List EntryValue) (cut : Option ℕ) → AreBytes bytes → AreEntriesIn bytes es cut
-    → walked keys no_values (items_at 0 bytes) ≡ last_answer_of keys es cut
+    → walked keys no_bytes (items_at 0 bytes) ≡ last_answer_of keys es cut
 unfolding last_answer_of
 walked_answer keys bytes es cut are_bytes entries =
-    ap (walked keys no_values) (all_items bytes es cut are_bytes entries) ∙ walked_all keys no_values es cut ∙ ap (answer es cut keys) (from_none keys es)
+    ap (walked keys no_bytes) (all_items bytes es cut are_bytes entries) ∙ walked_all keys no_bytes es cut ∙ ap (answer es cut keys) (from_none keys es)
 
 -- ---- sizes
 
@@ -133,12 +133,12 @@ none_of_two : (a b : Bool) → (a || b) ≡ false → (a ≡ false) × (b ≡ fa
 none_of_two true b is = absurd cc
 none_of_two false b is = (refl, is)
 
-size_by : (known : Known) (e : EntryValue) (value : Option (List ℕ)) (same : Bool) → (same && not (eqb (length e.value) known.size)) ≡ false
+size_by : (known : KeySize) (e : EntryValue) (value : Option (List ℕ)) (same : Bool) → (same && not (eqb (length e.value) known.size)) ≡ false
     → HasSize known value → HasSize known (cond same (Some e.value) value)
 size_by known e value true is size = grind (arith, nat_tests)
 size_by known e value false is size = size
 
-pub sizes_after : (keys : Keys) (values : Values) (e : EntryValue) → has_other_size (known_of keys) e ≡ false → HaveSizes keys values → HaveSizes keys (values_after keys e values)
+pub sizes_after : (keys : Keys) (values : LastBytes) (e : EntryValue) → has_other_size (key_sizes_of keys) e ≡ false → HaveSizes keys values → HaveSizes keys (last_bytes_after keys e values)
 sizes_after keys values e is sizes =
     let one = none_of_two _ _ is in
     let two = none_of_two _ _ one.1 in

@@ -4,7 +4,7 @@ pub mod SpellingLemmas
 pub mod ReadingLemmas
 pub mod EntryLemmas
 pub mod WalkLemmas
-pub mod ValuesLemmas
+pub mod PlainValuesLemmas
 pub mod StateLemmas
 pub mod RangeLemmas
 pub mod FieldsLemmas

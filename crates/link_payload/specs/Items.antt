@@ -1,5 +1,5 @@
--- The items of a walk over bytes. What they are for bytes that spell entries, and for bytes that are cut,
--- is said by the clauses of `entries`.
+-- Only for proofs: the items of a walk over bytes. What they are for bytes that spell entries, and for bytes that are
+-- cut, is said by the clauses of `entries`.
 use Rattle.std.specs.Prelude.{◌+◌, ℕ, zero, suc, List, [], ◌∷◌, length, take, drop, nat_lt, if◌then◌else◌, Option, Some, None, option_map, unwrap_or, Result, Ok, Err}
 use Rattle.byteorder.specs.Endian.{big_number}
 use Rattle.link_payload.specs.declared.entry.Entry.{Entry}

@@ -1,8 +1,8 @@
 pub mod Entries
-pub mod Items
 pub mod Spelling
-pub mod Values
 pub mod Fields
+pub mod Items
 pub mod Last
+pub mod PlainValues
 pub use Rattle.lk_base.specs.Ranges
 pub use Rattle.lk_base.specs.Timeline

@@ -5,7 +5,7 @@ ghost use Rattle.std.specs.Option.{option_copied};
 ghost use Rattle.link_payload.specs.Entries.{EntryValue, AreEntriesIn};
 ghost use Rattle.link_payload.specs.Items.{entry_value};
 ghost use Rattle.link_payload.specs.Fields.{has_other_size};
-ghost use Rattle.link_payload.specs.Last.{HaveSizes, known_of, last_answer_of, later_of, values_after, values_of, walk_of};
+ghost use Rattle.link_payload.specs.Last.{HaveSizes, key_sizes_of, last_answer_of, later_of, last_bytes_after, last_bytes_of, walk_of};
 ghost use Rattle.link_payload.specs.declared.fault.PayloadFault.TheVariants.{WrongSize};
 
 use crate::entry::{Entry, entries};
@@ -13,21 +13,21 @@ use crate::fault::PayloadFault;
 
 /// A key, and the size of its values.
 #[derive(Clone, Copy)]
-pub struct Known {
+pub struct KeySize {
     pub key: u32,
     pub size: u32,
 }
 
-/// The keys that a reader knows.
+/// The four keys that a reader knows, by their places.
 #[derive(Clone, Copy)]
 pub struct Keys {
-    pub first: Known,
-    pub second: Known,
-    pub third: Known,
-    pub fourth: Known,
+    pub first: KeySize,
+    pub second: KeySize,
+    pub third: KeySize,
+    pub fourth: KeySize,
 }
 
-/// The last value of each key, where it has an entry.
+/// The last value of each key, by its place, where it has an entry.
 #[derive(Clone, Copy)]
 pub struct LastValues<'a> {
     pub first: Option<&'a [u8]>,
@@ -40,7 +40,7 @@ pub struct LastValues<'a> {
 /// whose value has another size than its key, or that is cut, is a fault.
 pub fn last_values<'a>(payload: &'a [u8], keys: &Keys) -> Result<LastValues<'a>, PayloadFault>
     requires { length payload.now < 2 ^ 32 }
-    ensures sizes { IfOk result (λ last. HaveSizes keys.now (values_of last)) }
+    ensures sizes { IfOk result (λ last. HaveSizes keys.now (last_bytes_of last)) }
     ensures answer { (es : List EntryValue) (cut : Option ℕ) → AreEntriesIn payload.now es cut
         → walk_of result ≡ last_answer_of keys.now es cut }
 {
@@ -51,10 +51,7 @@ pub fn last_values<'a>(payload: &'a [u8], keys: &Keys) -> Result<LastValues<'a>,
         fourth: None,
     };
     for item in entries(payload) {
-        let entry = match item {
-            Ok(entry) => entry,
-            Err(fault) => return Err(fault),
-        };
+        let entry = item?;
         if let Some(fault) = size_fault(keys, entry) {
             return Err(fault);
         }
@@ -65,7 +62,7 @@ pub fn last_values<'a>(payload: &'a [u8], keys: &Keys) -> Result<LastValues<'a>,
 
 fn size_fault(keys: &Keys, entry: Entry) -> Option<PayloadFault>
     requires { length entry.value.now < 2 ^ 32 }
-    ensures { result ≡ (if has_other_size (known_of keys.now) (entry_value entry.entry)
+    ensures { result ≡ (if has_other_size (key_sizes_of keys.now) (entry_value entry.entry)
         then Some (WrongSize entry.entry.key (length entry.entry.value.now)) else None) }
 {
     let key = entry.key;
@@ -80,15 +77,15 @@ fn size_fault(keys: &Keys, entry: Entry) -> Option<PayloadFault>
     None
 }
 
-fn has_other(known: Known, key: u32, size: u32) -> bool
+fn has_other(known: KeySize, key: u32, size: u32) -> bool
     ensures { result ≡ (key == known.key) && not (size == known.size) }
 {
     key == known.key && size != known.size
 }
 
 fn with_entry<'a>(keys: &Keys, entry: Entry<'a>, last: LastValues<'a>) -> LastValues<'a>
-    ensures { values_of result
-        ≡ values_after keys.now (entry_value entry.entry) (values_of last.entry) }
+    ensures { last_bytes_of result
+        ≡ last_bytes_after keys.now (entry_value entry.entry) (last_bytes_of last.entry) }
 {
     LastValues {
         first: later(keys.first, entry, last.first),
@@ -98,7 +95,7 @@ fn with_entry<'a>(keys: &Keys, entry: Entry<'a>, last: LastValues<'a>) -> LastVa
     }
 }
 
-fn later<'a>(known: Known, entry: Entry<'a>, value: Option<&'a [u8]>) -> Option<&'a [u8]>
+fn later<'a>(known: KeySize, entry: Entry<'a>, value: Option<&'a [u8]>) -> Option<&'a [u8]>
     ensures { option_copied result ≡ later_of known (entry_value entry.entry) (option_copied value.entry) }
 {
     if entry.key == known.key {

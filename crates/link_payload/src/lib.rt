@@ -19,10 +19,6 @@ mod write;
 pub use entry::{Entry, EntryIter, entries};
 pub use fault::PayloadFault;
 pub use fields::{PeerFields, PingFields, PongFields};
-pub use key::{
-    ENDPOINT, ENDPOINT_SIZE, GHOST_TIME, HOST_TIME, PREVIOUS_GHOST_TIME, SESSION, SESSION_SIZE,
-    START, START_SIZE, TIME_SIZE, TIMELINE, TIMELINE_SIZE,
-};
 pub use laws::{
     fields_are_stored, one_spelling, one_state, payload_lens, pong_reads_back, spelled_or_cut,
     state_reads_back,

@@ -6,9 +6,9 @@ ghost use Rattle.std.specs.Option.{option_copied};
 ghost use Rattle.byteorder.specs.Endian.{big_bytes};
 ghost use Rattle.link_payload.specs.Entries.{EntryValue, Spells, IsCutAt, spelled_entry_of, spelled_number_of};
 ghost use Rattle.link_payload.specs.Fields.{IsPlainState, number_in, start_in, timeline_in, endpoint_in, no_start, state_answer_of, pong_answer_of};
-ghost use Rattle.link_payload.specs.Last.{HaveSizes, state_by_values, pong_by_values, values_of as last_values_of};
+ghost use Rattle.link_payload.specs.Last.{HasLen, state_by_values, pong_by_values};
 ghost use Rattle.link_payload.specs.Spelling.{spelled_timeline_of, spelled_start_of, spelled_endpoint_of, spelled_state_of};
-ghost use Rattle.link_payload.specs.Values.{AreValuesIn};
+ghost use Rattle.link_payload.specs.PlainValues.{AreValuesIn};
 
 use crate::fault::PayloadFault;
 use crate::fields::{PeerFields, PongFields};
@@ -16,26 +16,26 @@ use crate::key::{
     ENDPOINT, ENDPOINT_SIZE, GHOST_TIME, HOST_TIME, PREVIOUS_GHOST_TIME, SESSION, SESSION_SIZE,
     START, START_SIZE, TIME_SIZE, TIMELINE, TIMELINE_SIZE,
 };
-use crate::last::{Keys, Known, LastValues, last_values};
+use crate::last::{KeySize, Keys, last_values};
 use crate::range::{are_in_range, pong_in_range, state_in_range};
 use byteorder::{BigEndian, ByteOrder};
 use lk_base::{Endpoint, NodeId, SessionStart, Timeline, u16_at, u32_at};
 
 // The keys of a state.
 const STATE_KEYS: Keys = Keys {
-    first: Known {
+    first: KeySize {
         key: TIMELINE,
         size: TIMELINE_SIZE,
     },
-    second: Known {
+    second: KeySize {
         key: SESSION,
         size: SESSION_SIZE,
     },
-    third: Known {
+    third: KeySize {
         key: START,
         size: START_SIZE,
     },
-    fourth: Known {
+    fourth: KeySize {
         key: ENDPOINT,
         size: ENDPOINT_SIZE,
     },
@@ -43,19 +43,19 @@ const STATE_KEYS: Keys = Keys {
 
 // The keys of a pong.
 const PONG_KEYS: Keys = Keys {
-    first: Known {
+    first: KeySize {
         key: SESSION,
         size: SESSION_SIZE,
     },
-    second: Known {
+    second: KeySize {
         key: GHOST_TIME,
         size: TIME_SIZE,
     },
-    third: Known {
+    third: KeySize {
         key: HOST_TIME,
         size: TIME_SIZE,
     },
-    fourth: Known {
+    fourth: KeySize {
         key: PREVIOUS_GHOST_TIME,
         size: TIME_SIZE,
     },
@@ -77,10 +77,13 @@ pub fn read_state(payload: &[u8]) -> Result<PeerFields, PayloadFault>
     ensures cut { (n : ℕ) (es : List EntryValue) → IsCutAt payload.now n es
         → result ≡ state_answer_of es (Some n) }
 {
-    match last_values(payload, &STATE_KEYS) {
-        Ok(last) => state_of(&last),
-        Err(fault) => Err(fault),
-    }
+    let last = last_values(payload, &STATE_KEYS)?;
+    state_of(&StateValues {
+        timeline: last.first,
+        session: last.second,
+        start: last.third,
+        endpoint: last.fourth,
+    })
 }
 
 /// The pong in a payload, likewise: `sess` and `__gt` have to be there, and without `__ht` or `_pgt`
@@ -92,45 +95,74 @@ pub fn read_pong(payload: &[u8]) -> Result<PongFields, PayloadFault>
     ensures cut { (n : ℕ) (es : List EntryValue) → IsCutAt payload.now n es
         → result ≡ pong_answer_of es (Some n) }
 {
-    match last_values(payload, &PONG_KEYS) {
-        Ok(last) => pong_of(&last),
-        Err(fault) => Err(fault),
-    }
+    let last = last_values(payload, &PONG_KEYS)?;
+    pong_of(&PongValues {
+        session: last.first,
+        ghost_time: last.second,
+        host: last.third,
+        previous: last.fourth,
+    })
 }
 
-fn state_of(last: &LastValues<'_>) -> Result<PeerFields, PayloadFault>
-    requires { HaveSizes STATE_KEYS (last_values_of last.now) }
-    ensures { result ≡ state_by_values (last_values_of last.now) }
+// The last values of the keys of a state, where they have entries.
+#[derive(Clone, Copy)]
+struct StateValues<'a> {
+    timeline: Option<&'a [u8]>,
+    session: Option<&'a [u8]>,
+    start: Option<&'a [u8]>,
+    endpoint: Option<&'a [u8]>,
+}
+
+fn state_of(values: &StateValues<'_>) -> Result<PeerFields, PayloadFault>
+    requires timeline { HasLen 24 (option_copied values.now.timeline) }
+    requires session { HasLen 8 (option_copied values.now.session) }
+    requires start { HasLen 17 (option_copied values.now.start) }
+    requires endpoint { HasLen 6 (option_copied values.now.endpoint) }
+    ensures { result ≡ state_by_values (option_copied values.now.timeline) (option_copied values.now.session)
+        (option_copied values.now.start) (option_copied values.now.endpoint) }
 {
-    let Some(timeline) = last.first else {
+    let Some(timeline) = values.timeline else {
         return Err(PayloadFault::Missing { key: TIMELINE });
     };
-    let Some(session) = last.second else {
+    let Some(session) = values.session else {
         return Err(PayloadFault::Missing { key: SESSION });
     };
     state_in_range(PeerFields {
         timeline: timeline_of(timeline),
         session: NodeId::from_bytes(session),
-        start: start_or_none(last.third),
-        endpoint: endpoint_or_none(last.fourth),
+        start: start_or_none(values.start),
+        endpoint: endpoint_or_none(values.endpoint),
     })
 }
 
-fn pong_of(last: &LastValues<'_>) -> Result<PongFields, PayloadFault>
-    requires { HaveSizes PONG_KEYS (last_values_of last.now) }
-    ensures { result ≡ pong_by_values (last_values_of last.now) }
+// The last values of the keys of a pong, where they have entries.
+#[derive(Clone, Copy)]
+struct PongValues<'a> {
+    session: Option<&'a [u8]>,
+    ghost_time: Option<&'a [u8]>,
+    host: Option<&'a [u8]>,
+    previous: Option<&'a [u8]>,
+}
+
+fn pong_of(values: &PongValues<'_>) -> Result<PongFields, PayloadFault>
+    requires session { HasLen 8 (option_copied values.now.session) }
+    requires ghost_time { HasLen 8 (option_copied values.now.ghost_time) }
+    requires host { HasLen 8 (option_copied values.now.host) }
+    requires previous { HasLen 8 (option_copied values.now.previous) }
+    ensures { result ≡ pong_by_values (option_copied values.now.session) (option_copied values.now.ghost_time)
+        (option_copied values.now.host) (option_copied values.now.previous) }
 {
-    let Some(session) = last.first else {
+    let Some(session) = values.session else {
         return Err(PayloadFault::Missing { key: SESSION });
     };
-    let Some(ghost_time) = last.second else {
+    let Some(ghost_time) = values.ghost_time else {
         return Err(PayloadFault::Missing { key: GHOST_TIME });
     };
     pong_in_range(PongFields {
         session: NodeId::from_bytes(session),
         ghost_time: time_of(ghost_time),
-        host: time_or_zero(last.third),
-        previous: time_or_zero(last.fourth),
+        host: time_or_zero(values.host),
+        previous: time_or_zero(values.previous),
     })
 }
 
@@ -143,7 +175,7 @@ pub fn read_plain_state(payload: &[u8]) -> Option<PeerFields>
     ensures none { IfNone result
         ((f : PeerFields) → IsPlainState f → payload.now ≡ spelled_state_of f → ⊥) }
 {
-    let Some(values) = values_of(payload) else {
+    let Some(values) = plain_values_of(payload) else {
         return None;
     };
     let Some(start) = start_of(values.start) else {
@@ -166,14 +198,14 @@ pub fn read_plain_state(payload: &[u8]) -> Option<PeerFields>
 
 // The values of the entries of a state with an endpoint.
 #[derive(Clone, Copy)]
-struct Values<'a> {
+struct PlainValues<'a> {
     timeline: &'a [u8],
     session: &'a [u8],
     start: &'a [u8],
     endpoint: &'a [u8],
 }
 
-fn values_of(payload: &[u8]) -> Option<Values<'_>>
+fn plain_values_of(payload: &[u8]) -> Option<PlainValues<'_>>
     ensures some { IfSome result
         (λ v. AreValuesIn payload.now v.timeline.now v.session.now v.start.now v.endpoint.now) }
     ensures none { IfNone result
@@ -195,7 +227,7 @@ fn values_of(payload: &[u8]) -> Option<Values<'_>>
     if !rest.is_empty() {
         return None;
     }
-    Some(Values {
+    Some(PlainValues {
         timeline,
         session,
         start,

@@ -2,7 +2,7 @@ use Rattle.std.proofs.Common.{Some, length, refl, sym, ap, subst, ◌∙◌, rul
 use Rattle.link_payload.specs.declared.fields.PeerFields.{PeerFields}
 use Rattle.link_payload.specs.Fields.{AreInRange}
 use Rattle.link_payload.proofs.FieldsLemmas.{FitsFields, plain_fits, values_of_state, state_as_read, one_fields}
-use Rattle.link_payload.proofs.ValuesLemmas.{one_reading}
+use Rattle.link_payload.proofs.PlainValuesLemmas.{one_reading}
 use Rattle.link_payload.proofs.read.read_plain_state.Goals as goal
 
 pub returns-in_default-clause-none : goal.returns-in_default-clause-none

@@ -1,20 +1,21 @@
-use Rattle.std.proofs.Common.{Some, None, ap, ◌∙◌}
-use Rattle.link_payload.specs.Last.{pong_by_values}
-use Rattle.link_payload.proofs.AnswerLemmas.{then_by, pong_by_walk}
+use Rattle.std.proofs.Common.{◌≡◌, Some, None, Err, ap, ◌∙◌, rules}
+use Rattle.link_payload.proofs.AnswerLemmas.{then_by, pong_by_bytes, pong_by_walk}
 use Rattle.link_payload.proofs.read.read_pong.Goals as goal
 
-pub returns-in-Ok-clause-spelled : goal.returns-in-Ok-clause-spelled
-returns-in-Ok-clause-spelled c = λ es s.
-    c.pong_of.ensures ∙ ap (then_by pong_by_values) (c.in-Ok.ensures.answer es None s) ∙ pong_by_walk es None
+pub returns-in_err-last-clause-spelled : goal.returns-in_err-last-clause-spelled
+returns-in_err-last-clause-spelled c = λ es s.
+    let passed : c.from_residual.result ≡ Err c.in_err-last.field-0.0 = search rules in
+    passed ∙ ap (then_by pong_by_bytes) ((c.in_err-last.ensures {u = tt}).answer es None s) ∙ pong_by_walk es None
 
-pub returns-in-Ok-clause-cut : goal.returns-in-Ok-clause-cut
-returns-in-Ok-clause-cut c = λ n es s.
-    c.pong_of.ensures ∙ ap (then_by pong_by_values) (c.in-Ok.ensures.answer es (Some n) s) ∙ pong_by_walk es (Some n)
+pub returns-in_err-last-clause-cut : goal.returns-in_err-last-clause-cut
+returns-in_err-last-clause-cut c = λ n es s.
+    let passed : c.from_residual.result ≡ Err c.in_err-last.field-0.0 = search rules in
+    passed ∙ ap (then_by pong_by_bytes) ((c.in_err-last.ensures {u = tt}).answer es (Some n) s) ∙ pong_by_walk es (Some n)
 
-pub returns-in-Err-clause-spelled : goal.returns-in-Err-clause-spelled
-returns-in-Err-clause-spelled c = λ es s.
-    ap (then_by pong_by_values) (c.in-Err.ensures.answer es None s) ∙ pong_by_walk es None
+pub returns-clause-spelled : goal.returns-clause-spelled
+returns-clause-spelled c = λ es s.
+    c.pong_of.ensures ∙ ap (then_by pong_by_bytes) ((c.in_ok-last.ensures {u = tt}).answer es None s) ∙ pong_by_walk es None
 
-pub returns-in-Err-clause-cut : goal.returns-in-Err-clause-cut
-returns-in-Err-clause-cut c = λ n es s.
-    ap (then_by pong_by_values) (c.in-Err.ensures.answer es (Some n) s) ∙ pong_by_walk es (Some n)
+pub returns-clause-cut : goal.returns-clause-cut
+returns-clause-cut c = λ n es s.
+    c.pong_of.ensures ∙ ap (then_by pong_by_bytes) ((c.in_ok-last.ensures {u = tt}).answer es (Some n) s) ∙ pong_by_walk es (Some n)

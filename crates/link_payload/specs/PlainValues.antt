@@ -1,4 +1,4 @@
--- The values of the entries of a state with an endpoint.
+-- Only for proofs: the values of the entries of a state with an endpoint.
 use Rattle.std.specs.Prelude.{◌≡◌, ℕ, List, ◌++◌, length}
 use Rattle.link_payload.specs.Entries.{spelled_entry_of}
 

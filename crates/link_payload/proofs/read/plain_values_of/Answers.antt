@@ -1,7 +1,7 @@
 use Rattle.std.proofs.Common.{◌≡◌, ℕ, List, [], nat_eq, true, ap, sym, ◌∙◌, append-nil, length}
 use Rattle.link_payload.specs.Entries.{spelled_entry_of}
-use Rattle.link_payload.proofs.ValuesLemmas.{after_timeline, after_session, after_start, after_endpoint}
-use Rattle.link_payload.proofs.read.values_of.Goals as goal
+use Rattle.link_payload.proofs.PlainValuesLemmas.{after_timeline, after_session, after_start, after_endpoint}
+use Rattle.link_payload.proofs.read.plain_values_of.Goals as goal
 
 pub returns-in_default-entry_at-clause-none : goal.returns-in_default-entry_at-clause-none
 returns-in_default-entry_at-clause-none c = λ timeline session start endpoint v.

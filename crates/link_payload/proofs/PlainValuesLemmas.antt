@@ -1,7 +1,7 @@
 -- The values of a payload, found one after the other.
 use Rattle.std.proofs.Common.{◌≡◌, ℕ, List, [], ◌++◌, length, refl, sym, ◌∙◌, append-nil}
 use Rattle.link_payload.specs.Entries.{spelled_entry_of}
-use Rattle.link_payload.specs.Values.{AreValuesIn}
+use Rattle.link_payload.specs.PlainValues.{AreValuesIn}
 use Rattle.link_payload.proofs.ReadingLemmas.{one_entry}
 
 -- what follows the entry `tmln`
