@@ -1,5 +1,8 @@
 //! Why a datagram is not read.
 
+ghost use Rattle.std.specs.Prelude.{◌≡◌};
+ghost use Rattle.asdp_messages.specs.declared.fault.WireFault.TheVariants.{Payload};
+
 use link_payload::PayloadFault;
 
 /// A fault of a datagram.
@@ -13,4 +16,12 @@ pub enum WireFault {
     TooLong { len: u32 },
     /// The fault of its payload.
     Payload(PayloadFault),
+}
+
+impl From<PayloadFault> for WireFault {
+    ghost from_gives = { λ fault e. e ≡ Payload fault };
+
+    fn from(fault: PayloadFault) -> WireFault {
+        WireFault::Payload(fault)
+    }
 }

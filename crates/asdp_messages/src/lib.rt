@@ -14,10 +14,6 @@ mod tests;
 mod write;
 
 pub use fault::WireFault;
-pub use header::{
-    ALIVE, BYE, GREATEST_LEN, HEADER_LEN, LINK_HEADER_LEN, LINK_PROTOCOL, PING, PONG, PROTOCOL,
-    RESPONSE, TIME_TO_LIVE,
-};
 pub use laws::{
     alive_len, all_are_read, one_alive, one_reading, ping_payload_len, written_is_read,
 };

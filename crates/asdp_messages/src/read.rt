@@ -8,8 +8,8 @@ ghost use Rattle.asdp_messages.specs.Spelling.{spelled_header_of, spelled_alive_
 
 use crate::fault::WireFault;
 use crate::header::{
-    ALIVE, BYE, GREATEST_LEN, HEADER_LEN, Header, LINK_HEADER_LEN, LINK_PROTOCOL, PING, PONG,
-    PROTOCOL, RESPONSE,
+    DISCOVERY_ALIVE, DISCOVERY_BYE, DISCOVERY_HEADER_LEN, DISCOVERY_PROTOCOL, DISCOVERY_RESPONSE,
+    GREATEST_LEN, Header, LINK_HEADER_LEN, LINK_PING, LINK_PONG, LINK_PROTOCOL,
 };
 use crate::laws::alive_len;
 use crate::message::{Message, StateMsg};
@@ -39,7 +39,7 @@ pub fn read_datagram(bytes: &[u8]) -> Result<Message<'_>, WireFault>
     if protocol == LINK_PROTOCOL {
         return link_message(bytes);
     }
-    if bytes.len() < HEADER_LEN {
+    if bytes.len() < DISCOVERY_HEADER_LEN {
         return Err(WireFault::Short { len });
     }
     discovery_message(bytes)
@@ -48,7 +48,7 @@ pub fn read_datagram(bytes: &[u8]) -> Result<Message<'_>, WireFault>
 fn is_of_link(protocol: u64) -> bool
     ensures { result ≡ ((protocol == 0x5f617364705f7601) || (protocol == 0x5f6c696e6b5f7601)) }
 {
-    protocol == PROTOCOL || protocol == LINK_PROTOCOL
+    protocol == DISCOVERY_PROTOCOL || protocol == LINK_PROTOCOL
 }
 
 fn link_message(bytes: &[u8]) -> Result<Message<'_>, WireFault>
@@ -58,18 +58,16 @@ fn link_message(bytes: &[u8]) -> Result<Message<'_>, WireFault>
 {
     let (_, payload) = bytes.split_at(LINK_HEADER_LEN);
     let kind = bytes[8];
-    if kind == PING {
+    if kind == LINK_PING {
         return Ok(Message::Ping { payload });
     }
-    if kind != PONG {
+    if kind != LINK_PONG {
         return Ok(Message::OtherLink { kind });
     }
-    // So the payload has entries.
+    // A law, for the proof: the payload is entries, or entries and a cut.
     spelled_or_cut();
-    match read_pong(payload) {
-        Ok(fields) => Ok(Message::Pong(fields)),
-        Err(fault) => Err(WireFault::Payload(fault)),
-    }
+    let fields = read_pong(payload)?;
+    Ok(Message::Pong(fields))
 }
 
 fn discovery_message(bytes: &[u8]) -> Result<Message<'_>, WireFault>
@@ -77,30 +75,27 @@ fn discovery_message(bytes: &[u8]) -> Result<Message<'_>, WireFault>
     requires len { length bytes.now < 2 ^ 32 }
     ensures { IsDiscoveryReadAs bytes.now (answer_value result) }
 {
-    let (_, payload) = bytes.split_at(HEADER_LEN);
+    let (_, payload) = bytes.split_at(DISCOVERY_HEADER_LEN);
     let kind = bytes[8];
     let ttl = bytes[9];
     let group = BigEndian::read_u16(&bytes[10..12]);
     let from = NodeId::from_bytes(&bytes[12..20]);
-    if kind == BYE {
+    if kind == DISCOVERY_BYE {
         return Ok(Message::Bye { from, ttl, group });
     }
     if !tells_state(kind) {
         return Ok(Message::OtherDiscovery { kind });
     }
-    // So the payload has entries.
+    // A law, for the proof: the payload is entries, or entries and a cut.
     spelled_or_cut();
-    let fields = match read_state(payload) {
-        Ok(fields) => fields,
-        Err(fault) => return Err(WireFault::Payload(fault)),
-    };
+    let fields = read_state(payload)?;
     let message = StateMsg {
         from,
         ttl,
         group,
         fields,
     };
-    if kind == ALIVE {
+    if kind == DISCOVERY_ALIVE {
         return Ok(Message::Alive(message));
     }
     Ok(Message::Response(message))
@@ -109,7 +104,7 @@ fn discovery_message(bytes: &[u8]) -> Result<Message<'_>, WireFault>
 fn tells_state(kind: u8) -> bool
     ensures { result ≡ ((kind == 1) || (kind == 2)) }
 {
-    kind == ALIVE || kind == RESPONSE
+    kind == DISCOVERY_ALIVE || kind == DISCOVERY_RESPONSE
 }
 
 // How many bytes an alive with an endpoint has.
@@ -122,16 +117,16 @@ pub fn read_plain_alive(bytes: &[u8]) -> Option<StateMsg>
     ensures none { IfNone result
         ((m : StateMsg) → IsPlainAlive m → bytes.now ≡ spelled_alive_of m → ⊥) }
 {
-    // So a datagram of any other length is none.
+    // A law, for the proof: a datagram of any other length is none.
     alive_len();
     if bytes.len() != PLAIN_ALIVE_LEN {
         return None;
     }
-    let (front, payload) = bytes.split_at(HEADER_LEN);
+    let (front, payload) = bytes.split_at(DISCOVERY_HEADER_LEN);
     let Some(header) = header_of(front) else {
         return None;
     };
-    if header.kind != ALIVE {
+    if header.kind != DISCOVERY_ALIVE {
         return None;
     }
     let Some(fields) = read_plain_state(payload) else {
@@ -153,7 +148,7 @@ fn header_of(bytes: &[u8]) -> Option<Header>
         ((kind ttl group : ℕ) (from : NodeId) → bytes.now ≡ spelled_header_of kind ttl group from → ⊥) }
 {
     let (protocol, rest) = u64_at(bytes);
-    if protocol != PROTOCOL {
+    if protocol != DISCOVERY_PROTOCOL {
         return None;
     }
     let (numbers, rest) = rest.split_at(2);

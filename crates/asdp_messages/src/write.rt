@@ -12,7 +12,8 @@ ghost use Rattle.asdp_messages.specs.Spelling.{sent, spelled_of, spelled_header_
 ghost use Rattle.asdp_messages.specs.Spelling as written;
 
 use crate::header::{
-    ALIVE, BYE, Header, LINK_PROTOCOL, PING, PONG, PROTOCOL, RESPONSE, TIME_TO_LIVE,
+    DISCOVERY_ALIVE, DISCOVERY_BYE, DISCOVERY_PROTOCOL, DISCOVERY_RESPONSE, Header, LINK_PING,
+    LINK_PONG, LINK_PROTOCOL, TIME_TO_LIVE,
 };
 use crate::laws::written_is_read;
 use byteorder::{BigEndian, ByteOrder};
@@ -29,12 +30,13 @@ pub fn write_alive(from: NodeId, group: u16, fields: &PeerFields) -> Wire
     ensures reads_back { IsTidyFields fields.now
         → IsReadAs result.items (Ok (Alive (sent from group fields.now))) }
 {
-    // Laws, for the proof: what is written of tidy fields is read again.
+    // A law, for the proof: what the types say of the fields.
     fields_are_stored(fields);
+    // A law, for the proof: what is written is read again.
     written_is_read();
     let mut out = Wire::new();
     let header = Header {
-        kind: ALIVE,
+        kind: DISCOVERY_ALIVE,
         ttl: TIME_TO_LIVE,
         group,
         from,
@@ -52,12 +54,13 @@ pub fn write_response(from: NodeId, group: u16, fields: &PeerFields) -> Wire
     ensures reads_back { IsTidyFields fields.now
         → IsReadAs result.items (Ok (Response (sent from group fields.now))) }
 {
-    // Laws, for the proof: what is written of tidy fields is read again.
+    // A law, for the proof: what the types say of the fields.
     fields_are_stored(fields);
+    // A law, for the proof: what is written is read again.
     written_is_read();
     let mut out = Wire::new();
     let header = Header {
-        kind: RESPONSE,
+        kind: DISCOVERY_RESPONSE,
         ttl: TIME_TO_LIVE,
         group,
         from,
@@ -78,7 +81,7 @@ pub fn write_bye(from: NodeId, group: u16) -> Wire
     written_is_read();
     let mut out = Wire::new();
     let header = Header {
-        kind: BYE,
+        kind: DISCOVERY_BYE,
         ttl: 0,
         group,
         from,
@@ -97,7 +100,7 @@ pub fn write_ping_message(ping: &PingFields) -> Wire
     // A law, for the proof: what is written is read again.
     written_is_read();
     let mut out = Wire::new();
-    put_link_header(&mut out, PING);
+    put_link_header(&mut out, LINK_PING);
     write_ping(&mut out, ping);
     out
 }
@@ -115,7 +118,7 @@ pub fn write_pong_message(session: NodeId, ghost_time: i64, echo: &[u8]) -> Wire
     // A law, for the proof: what is written is read again.
     written_is_read();
     let mut out = Wire::new();
-    put_link_header(&mut out, PONG);
+    put_link_header(&mut out, LINK_PONG);
     write_pong(&mut out, session, ghost_time, echo);
     out
 }
@@ -139,7 +142,7 @@ fn put_header(out: &mut Wire, header: &Header)
     ensures len { array_vec_len out.new ≡ array_vec_len out.old + 20 }
 {
     let mut protocol = [0; 8];
-    BigEndian::write_u64(&mut protocol, PROTOCOL);
+    BigEndian::write_u64(&mut protocol, DISCOVERY_PROTOCOL);
     append(out, &protocol);
     append(out, &[header.kind, header.ttl]);
     let mut group = [0; 2];

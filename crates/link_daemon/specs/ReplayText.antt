@@ -7,7 +7,7 @@ use Rattle.hex.specs.Hex.{encode_lower}
 use Rattle.link_payload.specs.declared.fields.PeerFields.{PeerFields}
 use Rattle.asdp_messages.specs.Spelling.{spelled_response_of}
 use Rattle.link_text.specs.Words.{truth_text_of, endpoint_text_of}
-use Rattle.link_text.specs.Lines.{line_of}
+use Rattle.link_text.specs.Line.{line_of}
 use Rattle.link_daemon.specs.declared.script.Head.{Head}
 use Rattle.link_daemon.specs.declared.script.Arrival.{Arrival}
 

@@ -5,7 +5,7 @@ ghost use Rattle.std.specs.Fmt.{decimal, signed_decimal};
 ghost use Rattle.arrayvec.specs.ArrayVec.{array_vec_len};
 ghost use Rattle.asdp_messages.specs.Datagram.{answer_value, message_value};
 ghost use Rattle.link_text.specs.Words.{truth_text_of};
-ghost use Rattle.link_text.specs.Lines.{line_of};
+ghost use Rattle.link_text.specs.Line.{line_of};
 ghost use Rattle.link_text.specs.ReadingLine.{IsShortMessage, IsShortReading, fault_words_of, id_text_of, key_text_of, maybe_endpoint_text_of, message_words_of, payload_fault_words_of, payload_text_of, reading_line_of, state_words_of};
 
 use crate::line::{

@@ -18,8 +18,8 @@ returns-then-protocol-eq-LINK_PROTOCOL c =
     link_read c.args.bytes.now _ (omega arith) (known_is c.args.bytes.now _ _ c.read_u64-protocol.ensures c.is_of_link.ensures ∙ c.if-not-is_of_link.false) (omega arith)
     (link_is c.args.bytes.now _ c.read_u64-protocol.ensures c.if-protocol-eq-LINK_PROTOCOL.true) c.link_message.ensures
 
-pub returns-then-bytes-lt-HEADER_LEN : goal.returns-then-bytes-lt-HEADER_LEN
-returns-then-bytes-lt-HEADER_LEN c =
+pub returns-then-bytes-lt-DISCOVERY_HEADER_LEN : goal.returns-then-bytes-lt-DISCOVERY_HEADER_LEN
+returns-then-bytes-lt-DISCOVERY_HEADER_LEN c =
     short_head_read c.args.bytes.now (omega arith) (known_is c.args.bytes.now _ _ c.read_u64-protocol.ensures c.is_of_link.ensures ∙ c.if-not-is_of_link.false) (omega arith)
     (not_link_is c.args.bytes.now _ c.read_u64-protocol.ensures c.if-protocol-eq-LINK_PROTOCOL.false) (omega arith)
 

@@ -9,11 +9,11 @@ returns-in_default-clause-none c = λ m plain is.
     let parts = alive_parts _ _ _ m plain c.split_at.ensures.front c.split_at.ensures.back is in
     c.in_default.ensures.none 1 m.ttl m.group m.from parts.0
 
-pub returns-then-header-ne-ALIVE-clause-none : goal.returns-then-header-ne-ALIVE-clause-none
-returns-then-header-ne-ALIVE-clause-none c = λ m plain is.
+pub returns-then-header-ne-DISCOVERY_ALIVE-clause-none : goal.returns-then-header-ne-DISCOVERY_ALIVE-clause-none
+returns-then-header-ne-DISCOVERY_ALIVE-clause-none c = λ m plain is.
     let parts = alive_parts _ _ _ m plain c.split_at.ensures.front c.split_at.ensures.back is in
     let header = one_header _ _ _ _ 1 m.ttl m.group m.from (search rules) plain.group (sym c.in-Some.ensures.some ∙ parts.0) in
-    c.if-header-ne-ALIVE.true header.kind_is
+    c.if-header-ne-DISCOVERY_ALIVE.true header.kind_is
 
 pub returns-in_default-read_plain_state-clause-none : goal.returns-in_default-read_plain_state-clause-none
 returns-in_default-read_plain_state-clause-none c = λ m plain is.
@@ -33,5 +33,5 @@ returns-clause-some c =
         endpoint = plain.endpoint;
         range = plain.range;
       },
-      alive_as_read _ _ _ c.in-Some.header.kind read c.split_at.ensures.front c.split_at.ensures.back c.if-header-ne-ALIVE.false c.in-Some.ensures.some c.in-Some-read_plain_state.ensures.some.1,
+      alive_as_read _ _ _ c.in-Some.header.kind read c.split_at.ensures.front c.split_at.ensures.back c.if-header-ne-DISCOVERY_ALIVE.false c.in-Some.ensures.some c.in-Some-read_plain_state.ensures.some.1,
     )
