@@ -59,6 +59,16 @@ new_look_keeps w words writer reader others r idle is_fresh =
       numbers_fit = r.numbers_fit;
     }
 
+-- a look at a new row is no older than the reader's row, nor than a row told of
+new_look_tells : (w : ℕ) (words : List ℕ) (writer : WriterState) (reader : ReaderState) (others : List View) → Rule w words writer reader others → fresh_in (slice_index words 0) ≡ 1
+    → (reader.number ≤ number_in (slice_index words 0)) × (reader.told ≤ number_in (slice_index words 0))
+new_look_tells w words writer reader others r is_fresh =
+    let newest = subst (λ n. fresh_in n ≡ 1 → (number_in n + 1 ≡ length writer.made) × (reader.number < number_in n)) (sym r.is_state) r.newest.fresh is_fresh in
+    let last = newest.0 in
+    let more = newest.1 in
+    let told = r.notes_agree.told_was_made in
+    (omega arith, omega arith)
+
 module _ (w : ℕ) (words : List ℕ) (writer : WriterState) (reader : ReaderState) (others : List View) (r : Rule w words writer reader others) (idle : reader.phase ≡ Idle) (not_fresh : fresh_in (slice_index words 0) ≢ 1) where
   own_is_last : reader.number + 1 ≡ length writer.made
   own_is_last =
@@ -107,7 +117,15 @@ looks row slots id me reader is idle =
     (λ is_fresh. (
       after_new_look reader (slice_index words 0),
       unmoved (length row) words 0 writer (after_new_look reader (slice_index words 0)) others (new_look_keeps (length row) words writer reader others r idle is_fresh),
-      (refl, (λ _. ap (λ v. Reads (after_new_look (reader_in v) (slice_index words 0))) (sym is)), (λ not. absurd (not is_fresh))),
+      (
+        refl,
+        (λ _. (
+          ap (λ v. Reads (after_new_look (reader_in v) (slice_index words 0))) (sym is),
+          subst (λ v. (reader_in v).number ≤ number_in (slice_index words 0)) (sym is) (new_look_tells (length row) words writer reader others r is_fresh).0,
+          subst (λ v. (reader_in v).told ≤ number_in (slice_index words 0)) (sym is) (new_look_tells (length row) words writer reader others r is_fresh).1,
+        )),
+        (λ not. absurd (not is_fresh)),
+      ),
     ))
     (λ not. (
       after_old_look reader,

@@ -50,6 +50,8 @@ pub record HasCaughtUp (before after : Sat) (place number : ℕ) : Type 0 where
   pub seen : (reader_in after.0).seen ≡ (reader_in before.0).seen
   pub look : ℕ
   pub looks : (reader_in after.0).looks ≡ (reader_in before.0).looks ++ look ∷ []
+  pub look_is_not_before_last : (reader_in before.0).number ≤ look
+  pub look_is_not_before_told : (reader_in before.0).told ≤ look
   pub look_is_met : look ≤ number
   pub told : (reader_in after.0).told ≡ (reader_in before.0).told
   pub told_is_met : (reader_in before.0).told ≤ number
