@@ -167,12 +167,7 @@ impl<R: Wait, const W: usize> StateCell<W> for SeqState<R, W> {
     }
 
     /// It never takes memory.
-    fn copy_note(
-        &self,
-        _alloc: Global,
-        _way: &R,
-        note: &mut SeqNote,
-    ) -> Result<SeqNote, AllocError>
+    fn copy_note(&self, _alloc: Global, _way: &R, note: &mut SeqNote) -> Result<SeqNote, AllocError>
         requires { note.old.pass.table_id ≡ self.now.cell.table.shared.table_id }
         ensures made { IsOk result }
         ensures copy { IfOk result (λ copy. noting_of copy.pass.table_id (cell_view copy.pass) ≡ noting_of note.old.pass.table_id (cell_view note.old.pass)) }

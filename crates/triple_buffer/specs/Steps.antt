@@ -1,4 +1,4 @@
--- What each kind of step tells: the seat's new view, and what it learned.
+-- Only for proofs: what each kind of step tells: the seat's new view, and what it learned.
 use Rattle.std.specs.Prelude.{◌≡◌, ◌≢◌, ℕ, ◌^◌, ◌<◌, ◌≤◌}
 use Rattle.atomic_table.specs.Table.{Me, Step}
 use Rattle.audio_handoff.specs.Cell.{Grows}

@@ -1,4 +1,4 @@
--- What a token is between two calls, and what it stands for.
+-- Only for proofs: what a token is between two calls, and what it stands for.
 use Rattle.std.specs.Prelude.{◌≡◌, ℕ, ◌+◌, ◌*◌, ◌^◌, ◌<◌, ◌≤◌, ◌⊎◌, List, [], ◌∷◌, ◌++◌, length}
 use Rattle.atomic_table.specs.Seated.{TableId}
 use Rattle.audio_handoff.specs.Cell.{WriterView, ReaderView, NoteView}

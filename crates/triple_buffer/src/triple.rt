@@ -28,11 +28,9 @@ pub struct Triple<const W: usize> {
 /// W + 1 or W + 2 steps of the reader.
 pub fn triple_tells_its_steps<const W: usize>()
     ensures { ⟦<Triple<W> as StateCell<W>>⟧.tells_steps ≡ true }
-{
-}
+{}
 
 impl<const W: usize> StateCell<W> for Triple<W> {
-
     type Way = ();
 
     type Writer = TripleWriter<W>;

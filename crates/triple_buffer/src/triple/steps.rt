@@ -30,7 +30,12 @@ impl<const W: usize> Triple<W> {
     }
 
     /// Looks, and takes the back row where it is new to the reader. Answers the reader's row and its number.
-    pub(super) fn catch_up(&self, seat: &mut Seat<(), View>, place: usize, number: u64) -> (usize, u64)
+    pub(super) fn catch_up(
+        &self,
+        seat: &mut Seat<(), View>,
+        place: usize,
+        number: u64,
+    ) -> (usize, u64)
         requires table { seat.old.table_id ≡ self.now.table.shared.table_id }
         requires rests { RestsAsReader place number seat.old.me }
         ensures table { seat.new.table_id ≡ seat.old.table_id }
