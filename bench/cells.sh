@@ -91,14 +91,23 @@ impl Times {
     }
 }
 
-/// What reads have seen: the number of the last row, and the words folded.
+/// What reads have seen: the numbers of the first and the last row, and the words folded.
 #[derive(Clone, Copy)]
 struct Seen {
+    oldest: u64,
     newest: u64,
     sum: u64,
 }
 
 impl Seen {
+    fn none() -> Seen {
+        Seen {
+            oldest: u64::MAX,
+            newest: 0,
+            sum: 0,
+        }
+    }
+
     #[inline(always)]
     fn with<const W: usize>(self, number: u64, row: &[u64; W]) -> Seen {
         let mut sum = self.sum;
@@ -106,6 +115,7 @@ impl Seen {
             sum = sum.wrapping_add(*word);
         }
         Seen {
+            oldest: self.oldest.min(number),
             newest: number,
             sum,
         }
@@ -153,7 +163,7 @@ fn read_round<const W: usize>(
     requires { reader.seat.table_id ≡ cell.now.table.shared.table_id }
     ensures { result.0.seat.table_id ≡ cell.entry.now.table.shared.table_id }
 {
-    let mut seen = Seen { newest: 0, sum: 0 };
+    let mut seen = Seen::none();
     for _read in 0..1000 {
         let read = cell.read(&(), &mut reader);
         seen = seen.with(read.number, &read.row);
@@ -176,7 +186,7 @@ fn round_of_both<const W: usize>(
     ensures reader { result.1.seat.table_id ≡ cell.entry.now.table.shared.table_id }
     ensures made { length (writer_in result.0.seat.me.0).made ≡ made + 1000 }
 {
-    let mut seen = Seen { newest: 0, sum: 0 };
+    let mut seen = Seen::none();
     for k in 0..1000 {
         cell.publish(&(), &mut writer, &[made + k; W]);
         let read = cell.read(&(), &mut reader);
@@ -196,7 +206,7 @@ fn store_round<const W: usize>(rows: &mut [[u64; W]; 4], made: u64) {
 // 1,000 rows taken plainly, in turn from the four rows of a list.
 #[inline(never)]
 fn load_round<const W: usize>(rows: &[[u64; W]; 4]) -> Seen {
-    let mut seen = Seen { newest: 0, sum: 0 };
+    let mut seen = Seen::none();
     for k in 0..1000 {
         let row = rows[(k % 4) as usize];
         seen = seen.with(k, &row);
@@ -321,11 +331,12 @@ fn publish_beside<R: Clock, const W: usize>(
 {
     let mut times = Times::new();
     for round in 0..ROUNDS {
-        let before = marks.reads.load(Ordering::SeqCst);
         let start = now(rt);
+        let before = marks.reads.load(Ordering::SeqCst);
         writer = publish_round(cell, writer, round * 1000 + 1);
+        let rounds = marks.reads.load(Ordering::SeqCst).wrapping_sub(before);
         let ns = since(rt, start);
-        if marks.reads.load(Ordering::SeqCst).wrapping_sub(before) >= 2 {
+        if rounds >= 2 {
             times.add(ns, 0);
         }
     }
@@ -333,7 +344,7 @@ fn publish_beside<R: Clock, const W: usize>(
     (writer, times)
 }
 
-// Rounds of reads until the other thread is done. One counts if 40 rows were made meanwhile.
+// Rounds of reads until the other thread is done. One counts if 40 rows were made between its first read and its last.
 fn read_beside<R: Clock, const W: usize>(
     rt: &R,
     cell: &Triple<W>,
@@ -344,7 +355,6 @@ fn read_beside<R: Clock, const W: usize>(
     ensures { result.0.seat.table_id ≡ cell.entry.now.table.shared.table_id }
 {
     let mut times = Times::new();
-    let mut last: u64 = 0;
     for round in 0..u64::MAX {
         let start = now(rt);
         let (next, seen) = read_round(cell, reader);
@@ -354,10 +364,9 @@ fn read_beside<R: Clock, const W: usize>(
         if marks.done.load(Ordering::SeqCst) == 1 {
             break;
         }
-        if seen.newest.wrapping_sub(last) >= 40 {
+        if seen.newest.wrapping_sub(seen.oldest) >= 40 {
             times.add(ns, seen.sum);
         }
-        last = seen.newest;
     }
     (reader, times)
 }

@@ -64,6 +64,23 @@ beside_a_read made reader next w r at (Notes note) a g h = (h.0, g note.seen h.1
 beside_a_read made reader next w r at Spent a g h = tt
 beside_a_read made reader next w r at Blank a g h = h
 
+-- other views, and other seats of the two ends
+with_ends : (width : ℕ) (words : List ℕ) (views next : List Known) (r : Running width words views) (writer_seat reader_seat : ℕ) → AllSeats (FitsSeat r.made r.reader writer_seat reader_seat) next → Running width words next
+with_ends width words views next r writer_seat reader_seat each = record {
+  made = r.made;
+  reader = r.reader;
+  writer_seat = writer_seat;
+  reader_seat = reader_seat;
+  last = r.last;
+  reads_agree = r.reads_agree;
+  numbers_fit = r.numbers_fit;
+  each_seat = each;
+}
+
+-- other views, of which the rule holds too
+with_views : (width : ℕ) (words : List ℕ) (views next : List Known) (r : Running width words views) → AllSeats (FitsSeat r.made r.reader r.writer_seat r.reader_seat) next → Running width words next
+with_views width words views next r each = with_ends width words views next r r.writer_seat r.reader_seat each
+
 no_reads : (row : List ℕ) → ReadsAgree (row ∷ []) first_reader
 no_reads row = record {
   seen_were_made = λ k pair e. absurd (some-ne-none pair (sym e));
@@ -120,18 +137,10 @@ module _ (width id : ℕ) where
       let vs : List Known = set views id l in
       let F : ℕ → Known → Type 0 = FitsSeat r.made r.reader id (length vs) in (
         long,
-        inr record {
-          made = r.made;
-          reader = r.reader;
-          writer_seat = id;
-          reader_seat = length vs;
-          last = r.last;
-          reads_agree = r.reads_agree;
-          numbers_fit = r.numbers_fit;
-          each_seat = all_more F vs (parted_right view) (refl, mine.3)
-              (all_set F views id l (refl, mine.2)
-              (λ j u apart e. not_an_end r.made r.reader r.writer_seat r.reader_seat id (length vs) j u (λ s. apart (s ∙ sym mine.0)) (λ s. apart (s ∙ sym mine.1)) (r.each_seat j u e)));
-        },
+        inr (with_ends _ _ _ _ r id (length vs)
+            (all_more F vs (parted_right view) (refl, mine.3)
+            (all_set F views id l (refl, mine.2)
+            (λ j u apart e. not_an_end r.made r.reader r.writer_seat r.reader_seat id (length vs) j u (λ s. apart (s ∙ sym mine.0)) (λ s. apart (s ∙ sym mine.1)) (r.each_seat j u e))))),
       )
 
   pub publishes : (view : Known) (words row : List ℕ) (count : ℕ) → view ≡ Writes (rows_in view) → length words ≡ 16 → number_of words ≡ count → length (rows_in view) ≡ count → count < 2 ^ 60 → Turns (Kept width) id view (λ _. words) (Published width)
@@ -227,16 +236,8 @@ module _ (width id : ℕ) where
   kept_beside view right x views r at long fits =
       let F : ℕ → Known → Type 0 = FitsSeat r.made r.reader r.writer_seat r.reader_seat in (
         long,
-        inr record {
-          made = r.made;
-          reader = r.reader;
-          writer_seat = r.writer_seat;
-          reader_seat = r.reader_seat;
-          last = r.last;
-          reads_agree = r.reads_agree;
-          numbers_fit = r.numbers_fit;
-          each_seat = all_more F (set views id view) right (fits _) (all_set F views id view (r.each_seat id view at) (λ j u apart e. r.each_seat j u e));
-        },
+        inr (with_views _ _ _ _ r
+            (all_more F (set views id view) right (fits _) (all_set F views id view (r.each_seat id view at) (λ j u apart e. r.each_seat j u e)))),
       )
 
   notes_writer : (rows : List (List ℕ)) → Forks (Kept width) id (Writes rows) (noted_left (Writes rows)) (noted_right (Writes rows))
@@ -264,16 +265,8 @@ module _ (width id : ℕ) where
       let mine = r.each_seat id (Notes note) at in
       let F : ℕ → Known → Type 0 = FitsSeat r.made r.reader r.writer_seat r.reader_seat in (
         long,
-        inr record {
-          made = r.made;
-          reader = r.reader;
-          writer_seat = r.writer_seat;
-          reader_seat = r.reader_seat;
-          last = r.last;
-          reads_agree = r.reads_agree;
-          numbers_fit = r.numbers_fit;
-          each_seat = all_more F (set views id Spent) (Notes note) mine (all_set F views id Spent tt (λ j u apart e. r.each_seat j u e));
-        },
+        inr (with_views _ _ _ _ r
+            (all_more F (set views id Spent) (Notes note) mine (all_set F views id Spent tt (λ j u apart e. r.each_seat j u e)))),
       )
 
   moves_reader : (reader : ReaderKnown) → Forks (Kept width) id (Reads reader) Spent (Reads reader)
@@ -283,17 +276,9 @@ module _ (width id : ℕ) where
       let vs : List Known = set views id Spent in
       let F : ℕ → Known → Type 0 = FitsSeat r.made r.reader r.writer_seat (length vs) in (
         long,
-        inr record {
-          made = r.made;
-          reader = r.reader;
-          writer_seat = r.writer_seat;
-          reader_seat = length vs;
-          last = r.last;
-          reads_agree = r.reads_agree;
-          numbers_fit = r.numbers_fit;
-          each_seat = all_more F vs (Reads reader) (refl, mine.1)
-              (all_set F views id Spent tt (λ j u apart e. not_the_reader r.made r.reader r.writer_seat r.reader_seat (length vs) j u (λ s. apart (s ∙ sym mine.0)) (r.each_seat j u e)));
-        },
+        inr (with_ends _ _ _ _ r r.writer_seat (length vs)
+            (all_more F vs (Reads reader) (refl, mine.1)
+            (all_set F views id Spent tt (λ j u apart e. not_the_reader r.made r.reader r.writer_seat r.reader_seat (length vs) j u (λ s. apart (s ∙ sym mine.0)) (r.each_seat j u e))))),
       )
 
   tells_reader : (other : ℕ) (reader : ReaderKnown) (note : NoteKnown) → Merges (Kept width) id (Reads reader) other (Notes note) (Reads (after_tell reader note)) Spent
@@ -343,16 +328,8 @@ module _ (width id : ℕ) where
       let set_once : AllSeats G (set views id both) = all_set G views id both (λ _. (refl, refl, mine.1, theirs.1))
       (λ j u different e not_other. not_an_end r.made r.reader r.writer_seat r.reader_seat id id j u (λ s. different (s ∙ sym mine.0)) (λ s. not_other (s ∙ sym theirs.0)) (r.each_seat j u e)) in (
         long,
-        inr record {
-          made = r.made;
-          reader = r.reader;
-          writer_seat = id;
-          reader_seat = id;
-          last = r.last;
-          reads_agree = r.reads_agree;
-          numbers_fit = r.numbers_fit;
-          each_seat = all_set F (set views id both) other Spent tt (λ j u different e. set_once j u e different);
-        },
+        inr (with_ends _ _ _ _ r id id
+            (all_set F (set views id both) other Spent tt (λ j u different e. set_once j u e different))),
       )
 
   pub checks : (view : Known) → view ≡ Reads (reader_in view) → Turns (Kept width) id view (λ x. x) Checked
@@ -362,16 +339,8 @@ module _ (width id : ℕ) where
         view,
         (
           long,
-          inr record {
-            made = r.made;
-            reader = r.reader;
-            writer_seat = r.writer_seat;
-            reader_seat = r.reader_seat;
-            last = r.last;
-            reads_agree = r.reads_agree;
-            numbers_fit = r.numbers_fit;
-            each_seat = all_set (FitsSeat r.made r.reader r.writer_seat r.reader_seat) views id view (r.each_seat id view at) (λ j u apart e. r.each_seat j u e);
-          },
+          inr (with_views _ _ _ _ r
+              (all_set (FitsSeat r.made r.reader r.writer_seat r.reader_seat) views id view (r.each_seat id view at) (λ j u apart e. r.each_seat j u e))),
         ),
         (refl, subst (λ (k : ReaderKnown). Grows k.heard k.seen) (sym mine.1) r.reads_agree.heard_was_read),
       )
@@ -392,16 +361,8 @@ module _ (width id : ℕ) where
         view,
         (
           long,
-          inr record {
-            made = r.made;
-            reader = r.reader;
-            writer_seat = r.writer_seat;
-            reader_seat = r.reader_seat;
-            last = r.last;
-            reads_agree = r.reads_agree;
-            numbers_fit = r.numbers_fit;
-            each_seat = all_set (FitsSeat r.made r.reader r.writer_seat r.reader_seat) views id view (r.each_seat id view at) (λ j u apart e. r.each_seat j u e);
-          },
+          inr (with_views _ _ _ _ r
+              (all_set (FitsSeat r.made r.reader r.writer_seat r.reader_seat) views id view (r.each_seat id view at) (λ j u apart e. r.each_seat j u e))),
         ),
         (
           subst (λ rows. IsLast rows (number_of x) (row_of width x)) (sym mine.2) r.last,

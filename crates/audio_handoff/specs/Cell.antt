@@ -77,9 +77,13 @@ pub record HasSameRows (before after : WriterView) : Type 0 where
   pub cell : after.cell ≡ before.cell
   pub made : after.made ≡ before.made
 
--- what one read adds: the pair that it answers, and its look, which is no greater than the pair's number
+-- What one read adds: the pair that it answers, and its look. The look is no older than the row last read and than each row told of before, and
+-- the pair's number is no older than the look. That the look is the number of the last row made at the step that looked is what each cell's
+-- own rule keeps of that step; it isn't said here, where the rows made aren't known
 pub record IsOneRead (before after : ReaderView) (number : ℕ) (row : List ℕ) : Type 0 where
   pub seen : after.seen ≡ before.seen ++ (number, row) ∷ []
   pub look : ℕ
   pub looks : after.looks ≡ before.looks ++ look ∷ []
+  pub look_is_not_before_last : before.number ≤ look
+  pub look_is_not_before_told : before.told ≤ look
   pub look_was_answered : look ≤ number

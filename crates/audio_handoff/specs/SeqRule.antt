@@ -1,4 +1,4 @@
--- The rule of the cell whose words are the last row and its number, and what each step tells.
+-- Only for proofs: the rule of the cell whose words are the last row and its number, and what each step tells.
 use Rattle.std.specs.Prelude.{◌≡◌, ℕ, ◌-◌, ◌^◌, ◌<◌, ◌≤◌, ◌⊎◌, List, [], ◌∷◌, ◌++◌, length, take, max, slice_index}
 use mathlib.Core.Option.{some}
 use lib.ListN.{get_elem?}

@@ -20,18 +20,18 @@ pub struct Read<const W: usize> {
 /// Its one writer makes rows. Its one reader reads whole rows whose numbers never fall. A note carries a number to
 /// the reader, which then reads no older row. Every token that is handed to a call is of that cell. A call waits only
 /// through its `way`, so never where the way is `()`.
-pub trait StateCell<const W: usize>: Sized {
+pub trait StateCell<const W: usize>: Sized + Drop {
     /// What a call needs in order to wait: the runtime's handle, or `()` where no call waits.
     type Way;
 
     /// The right to make rows.
-    type Writer;
+    type Writer: Drop + Send;
 
     /// The right to read rows.
-    type Reader;
+    type Reader: Drop + Send;
 
     /// A number on its way to the reader.
-    type Note;
+    type Note: Drop + Send;
 
     /// Which cell it is.
     ghost cell: { Self → TableId };

@@ -1,17 +1,18 @@
 //! A cell that may wait: one cell of 16 words, the row first and its number last.
-ghost use Rattle.std.specs.Prelude.{◌≡◌, ◌<◌};
+ghost use Rattle.std.specs.Prelude.{◌≡◌, ◌+◌, ◌<◌, [], length, IfOk, IfErr};
+ghost use Rattle.std.specs.Result.{IsOk};
 ghost use Rattle.crossbeam_utils.specs.Seq.{cell_view};
-ghost use Rattle.audio_handoff.specs.SeqRule.{RestsAsWriter, RestsAsReader, RestsAsNote};
+ghost use Rattle.audio_handoff.specs.Cell.{HasSameReads, HasSameRows};
+ghost use Rattle.audio_handoff.specs.SeqRule.{RestsAsWriter, RestsAsReader, RestsAsNote, row_of, number_of, writing_of, reading_of, noting_of};
 
 use crate::cell::{Read, StateCell};
 use crossbeam_utils::atomic::seq_cell::{Pass, RuledSeqCell};
-use plays::{Known, LastRow};
+use plays::{Check, End, Known, LastRow, Look, Note, Open, Part, Publish, Settle, Tell, Whole};
 use std::alloc::{AllocError, Global};
 use std::marker::PhantomData;
 use std::sync::Wait;
 
 mod plays;
-mod steps;
 
 /// A cell of rows of `W` words, from 1 to 15. A call that reads or writes the words may wait for another one, through
 /// the runtime's handle.
@@ -47,9 +48,21 @@ pub struct SeqNote {
     ghost rests: { RestsAsNote (cell_view pass) },
 }
 
+/// The words of a row and its number.
+fn words_of(row: &[u64], number: u64) -> [u64; 16]
+    requires { length row.now < 16 }
+    ensures row { row_of (length row.now) result ≡ row.now }
+    ensures number { number_of result ≡ number }
+    ensures length { length result ≡ 16 }
+{
+    let mut words = [0u64; 16];
+    words[..row.len()].copy_from_slice(row);
+    words[15] = number;
+    words
+}
+
 impl<R: Wait, const W: usize> StateCell<W> for SeqState<R, W> {
     ghost use Rattle.std.specs.Prelude.{false};
-    ghost use Rattle.audio_handoff.specs.SeqRule.{writing_of, reading_of, noting_of};
 
     type Way = R;
 
@@ -74,11 +87,29 @@ impl<R: Wait, const W: usize> StateCell<W> for SeqState<R, W> {
         way: &R,
         row: &[u64],
     ) -> Result<(SeqState<R, W>, SeqWriter, SeqReader), AllocError> {
-        SeqState::opened(alloc, way, row)
+        let (cell, mut pass) = RuledSeqCell::ruled(alloc, [0u64; 16])?;
+        cell.swap_as::<Open<W>, R>(way, &mut pass, words_of(row, 0));
+        let reader = cell.split_pass::<Part>(&mut pass);
+        Ok((
+            SeqState {
+                cell,
+                runtime: PhantomData,
+            },
+            SeqWriter { made: 1, pass },
+            SeqReader {
+                number: 0,
+                pass: reader,
+            },
+        ))
     }
 
     fn publish(&self, way: &R, writer: &mut SeqWriter, row: &[u64; W]) -> u64 {
-        self.publish_row(way, writer, row)
+        let SeqWriter { made, pass } = writer;
+        let number = *made;
+        self.cell
+            .swap_as::<Publish<W>, R>(way, pass, words_of(row, number));
+        *made = number + 1;
+        number
     }
 
     fn is_spent(&self, writer: &SeqWriter) -> bool {
@@ -86,42 +117,89 @@ impl<R: Wait, const W: usize> StateCell<W> for SeqState<R, W> {
     }
 
     fn read(&self, way: &R, reader: &mut SeqReader) -> Read<W> {
-        self.read_row(way, reader)
+        let SeqReader { number, pass } = reader;
+        let words = self.cell.load_as::<Look<W>, R>(way, pass);
+        *number = words[15];
+        let mut row = [0u64; W];
+        row.copy_from_slice(&words[..W]);
+        Read {
+            number: words[15],
+            row,
+        }
     }
 
+    /// It never takes memory.
     fn note_of_writer(
         &self,
         _alloc: Global,
         _way: &R,
         writer: &mut SeqWriter,
-    ) -> Result<SeqNote, AllocError> {
-        Ok(self.writer_note(writer))
+    ) -> Result<SeqNote, AllocError>
+        requires { writer.old.pass.table_id ≡ self.now.cell.table.shared.table_id }
+        ensures made { IsOk result }
+        ensures note { IfOk result (λ note. ((noting_of note.pass.table_id (cell_view note.pass)).cell ≡ self.now.cell.table.shared.table_id) × ((noting_of note.pass.table_id (cell_view note.pass)).number + 1 ≡ length (writing_of writer.old.pass.table_id (cell_view writer.old.pass)).made) × ((noting_of note.pass.table_id (cell_view note.pass)).seen ≡ [])) }
+        ensures writer { HasSameRows (writing_of writer.old.pass.table_id (cell_view writer.old.pass)) (writing_of writer.new.pass.table_id (cell_view writer.new.pass)) }
+        ensures refused { IfErr result (λ _. writing_of writer.new.pass.table_id (cell_view writer.new.pass) ≡ writing_of writer.old.pass.table_id (cell_view writer.old.pass)) }
+    {
+        let SeqWriter { made: _, pass } = writer;
+        Ok(SeqNote {
+            pass: self.cell.split_pass::<Note>(pass),
+        })
     }
 
+    /// It never takes memory.
     fn note_of_reader(
         &self,
         _alloc: Global,
         _way: &R,
         reader: &mut SeqReader,
-    ) -> Result<SeqNote, AllocError> {
-        Ok(self.reader_note(reader))
+    ) -> Result<SeqNote, AllocError>
+        requires { reader.old.pass.table_id ≡ self.now.cell.table.shared.table_id }
+        ensures made { IsOk result }
+        ensures note { IfOk result (λ note. ((noting_of note.pass.table_id (cell_view note.pass)).cell ≡ self.now.cell.table.shared.table_id) × ((noting_of note.pass.table_id (cell_view note.pass)).number ≡ (reading_of reader.old.pass.table_id (cell_view reader.old.pass)).number) × ((noting_of note.pass.table_id (cell_view note.pass)).seen ≡ (reading_of reader.old.pass.table_id (cell_view reader.old.pass)).seen)) }
+        ensures reader { HasSameReads (reading_of reader.old.pass.table_id (cell_view reader.old.pass)) (reading_of reader.new.pass.table_id (cell_view reader.new.pass)) }
+        ensures refused { IfErr result (λ _. reading_of reader.new.pass.table_id (cell_view reader.new.pass) ≡ reading_of reader.old.pass.table_id (cell_view reader.old.pass)) }
+    {
+        let SeqReader { number: _, pass } = reader;
+        Ok(SeqNote {
+            pass: self.cell.split_pass::<Note>(pass),
+        })
     }
 
-    fn copy_note(
-        &self,
-        _alloc: Global,
-        _way: &R,
-        note: &mut SeqNote,
-    ) -> Result<SeqNote, AllocError> {
-        Ok(self.second_note(note))
+    /// It never takes memory.
+    fn copy_note(&self, _alloc: Global, _way: &R, note: &mut SeqNote) -> Result<SeqNote, AllocError>
+        requires { note.old.pass.table_id ≡ self.now.cell.table.shared.table_id }
+        ensures made { IsOk result }
+        ensures copy { IfOk result (λ copy. noting_of copy.pass.table_id (cell_view copy.pass) ≡ noting_of note.old.pass.table_id (cell_view note.old.pass)) }
+        ensures note { noting_of note.new.pass.table_id (cell_view note.new.pass) ≡ noting_of note.old.pass.table_id (cell_view note.old.pass) }
+    {
+        let SeqNote { pass } = note;
+        Ok(SeqNote {
+            pass: self.cell.split_pass::<Note>(pass),
+        })
     }
 
     fn tell(&self, way: &R, reader: &mut SeqReader, note: SeqNote) {
-        self.tell_note(way, reader, note);
+        let SeqReader { number: _, pass } = reader;
+        let SeqNote { pass: mut noted } = note;
+        let whole = self.cell.split_pass::<Whole>(&mut noted);
+        self.cell.join_pass::<Tell>(pass, whole);
+        self.cell.load_as::<Check, R>(way, pass);
     }
 
     fn settle(self, way: &R, writer: SeqWriter, reader: SeqReader) -> Read<W> {
-        self.settled(way, writer, reader)
+        let SeqWriter { made: _, mut pass } = writer;
+        let SeqReader {
+            number: _,
+            pass: mut read,
+        } = reader;
+        let whole = self.cell.split_pass::<Whole>(&mut read);
+        self.cell.join_pass::<Settle>(&mut pass, whole);
+        let words = self.cell.load_as::<End<W>, R>(way, &mut pass);
+        let mut row = [0u64; W];
+        row.copy_from_slice(&words[..W]);
+        let number = words[15];
+        Read { number, row }
     }
 
     fn last_read(&self, reader: &SeqReader) -> u64 {

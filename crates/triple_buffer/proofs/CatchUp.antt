@@ -11,8 +11,8 @@ use Rattle.triple_buffer.specs.declared.views.View.TheVariants.{Reads}
 use Rattle.triple_buffer.specs.declared.views.ReaderState.{ReaderState}
 
 pub caught_up : (before mid after : Sat) (place number looked found : ℕ) (st : Step (Unit {0})) → RestsAsReader place number before → mid.0 ≡ Reads (after_new_look (reader_in before.0) looked) → mid.1 ≡ before.1
-    → Turned st mid found after → HasCaughtUp before after (back_in found) (number_in found)
-caught_up before mid after place number looked found st rests look bare turned =
+    → (reader_in before.0).number ≤ number_in looked → (reader_in before.0).told ≤ number_in looked → Turned st mid found after → HasCaughtUp before after (back_in found) (number_in found)
+caught_up before mid after place number looked found st rests look bare not_before_last not_before_told turned =
     let e : ReaderState = reader_in before.0 in
     let x : ReaderState = after_turn (after_new_look e looked) found in
     let now : after.0 ≡ Reads x = turned.0 ∙ ap (λ v. Reads (after_turn (reader_in v) found)) look in
@@ -28,6 +28,8 @@ caught_up before mid after place number looked found st rests look bare turned =
       seen = ap (λ (r : ReaderState). r.seen) view;
       look = number_in looked;
       looks = ap (λ (r : ReaderState). r.looks) view;
+      look_is_not_before_last = not_before_last;
+      look_is_not_before_told = not_before_told;
       look_is_met = met (length e.looks) (number_in looked) (at_last e.looks (number_in looked) (length e.looks) refl);
       told = ap (λ (r : ReaderState). r.told) view;
       told_is_met = subst (λ v. (reader_in v).told ≤ number_in found) look turned.5;

@@ -14,24 +14,17 @@ use Rattle.triple_buffer.specs.declared.views.ReaderState.{ReaderState}
 use Rattle.triple_buffer.specs.declared.views.NoteState.{NoteState}
 use Rattle.triple_buffer.specs.declared.views.Phase.TheVariants.{Idle}
 use Rattle.audio_handoff.proofs.CellLists.{below_length, snoc_at, grows_none, grows_self}
-use Rattle.triple_buffer.proofs.SeatFinds.{opening_at, find_writer, find_reader, find_note}
+use Rattle.triple_buffer.proofs.SeatFinds.{steps_of_ends, opening_at, find_writer, find_reader, find_note}
 
 module _ (w : ℕ) (words : List ℕ) (writer : WriterState) (reader : ReaderState) (others : List View) (r : Rule w words writer reader others) where
   -- other seats, of which the rule holds too
   with_others : (next : List View) → ((k : ℕ) (view : View) → get_elem? next k ≡ some view → IsNoteOf writer.made reader.seen view) → Rule w words writer reader next
   with_others next each = record {
-    wide = r.wide;
-    state = r.state;
-    is_state = r.is_state;
-    rows_are_apart = r.rows_are_apart;
-    back_is_made = r.back_is_made;
-    own_is_made = r.own_is_made;
-    newest = r.newest;
+    rows = r.rows;
     saw_new = r.saw_new;
     parts_agree = r.parts_agree;
     reads_agree = r.reads_agree;
     notes_agree = record { told_was_made = r.notes_agree.told_was_made; heard_was_read = r.notes_agree.heard_was_read; each_note = each };
-    numbers_fit = r.numbers_fit;
   }
 
   note_added : (view : View) → IsNoteOf writer.made reader.seen view → Rule w words writer reader (others ++ view ∷ [])
@@ -41,23 +34,6 @@ module _ (w : ℕ) (words : List ℕ) (writer : WriterState) (reader : ReaderSta
   note_set : (at : ℕ) (view : View) → IsNoteOf writer.made reader.seen view → Rule w words writer reader (set others at view)
   note_set at view new = with_others (set others at view)
       (λ k v e. ⊎_elim (λ (t : (k ≡ at) × (view ≡ v)). subst (IsNoteOf writer.made reader.seen) t.1 new) (λ (t : (k ≢ at) × (get_elem? others k ≡ some v)). r.notes_agree.each_note k v t.1) (at_set others at k view v e))
-
-  steps_of_ends : (writer_steps reader_steps : ℕ)
-      → Rule w words record { place = writer.place; made = writer.made; stored = writer.stored; steps = writer_steps } record reader { steps = reader_steps } others
-  steps_of_ends writer_steps reader_steps = record {
-    wide = r.wide;
-    state = r.state;
-    is_state = r.is_state;
-    rows_are_apart = r.rows_are_apart;
-    back_is_made = r.back_is_made;
-    own_is_made = r.own_is_made;
-    newest = r.newest;
-    saw_new = r.saw_new;
-    parts_agree = r.parts_agree;
-    reads_agree = r.reads_agree;
-    notes_agree = r.notes_agree;
-    numbers_fit = r.numbers_fit;
-  }
 
   some_made : 0 < length writer.made
   some_made = let l = below_length writer.made _ r.own_is_made.row r.own_is_made.is_made in omega arith
@@ -70,28 +46,18 @@ module _ (w : ℕ) (words : List ℕ) (writer : WriterState) (reader : ReaderSta
       let reads = r.reads_agree in
       let told = r.notes_agree.told_was_made in
       let new = is.0 in record {
-        wide = r.wide;
-        state = r.state;
-        is_state = r.is_state;
-        rows_are_apart = r.rows_are_apart;
-        back_is_made = r.back_is_made;
-        own_is_made = r.own_is_made;
-        newest = r.newest;
+        rows = r.rows;
         saw_new = r.saw_new;
         parts_agree = r.parts_agree;
         reads_agree = record {
-          seen_were_made = reads.seen_were_made;
-          numbers_never_fall = reads.numbers_never_fall;
-          none_is_newer = reads.none_is_newer;
-          told_is_met = λ l. absurd (cc);
-          looks_are_met = λ l. absurd (cc);
-          looks_were_made = reads.looks_were_made;
-          looks_were_answered = reads.looks_were_answered;
-          one_look_a_read = reads.one_look_a_read;
-          one_look_more = reads.one_look_more;
+          pairs = reads.pairs;
+          looks_agree = reads.looks_agree;
+          met = record {
+            told_is_met = λ l. absurd (cc);
+            looks_are_met = λ l. absurd (cc);
+          };
         };
         notes_agree = record { told_was_made = omega arith; heard_was_read = is.1; each_note = r.notes_agree.each_note };
-        numbers_fit = r.numbers_fit;
       }
 
 seats_added : (settled : Bool) (writer : WriterState) (reader : ReaderState) (others : List View) (view : View) → seats_of settled writer reader others ++ view ∷ [] ≡ seats_of settled writer reader (others ++ view ∷ [])

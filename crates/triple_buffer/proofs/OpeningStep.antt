@@ -34,35 +34,43 @@ module _ (row : List ℕ) where
 
   begins : Rule (length row) thrice (first_writer row) first_reader []
   begins = record {
-    wide = omega (arith, length-append (row ++ row) row, length-append row row);
-    state = 1;
-    is_state = refl;
-    rows_are_apart = record {
-      writer_fits = omega arith;
-      back_fits = omega arith;
-      reader_fits = omega arith;
-      writer_from_back = λ e. omega arith;
-      writer_from_reader = λ e. omega arith;
-      back_from_reader = λ e. omega arith;
+    rows = record {
+      wide = omega (arith, length-append (row ++ row) row, length-append row row);
+      state = 1;
+      is_state = refl;
+      rows_are_apart = record {
+        writer_fits = omega arith;
+        back_fits = omega arith;
+        reader_fits = omega arith;
+        writer_from_back = λ e. omega arith;
+        writer_from_reader = λ e. omega arith;
+        back_from_reader = λ e. omega arith;
+      };
+      back_is_made = record { row = row; is_made = refl; is_whole = refl; begins = second_begins };
+      own_is_made = record { row = row; is_made = refl; is_whole = refl; begins = first_begins };
+      newest = record { fresh = λ e. absurd (omega arith); stale = λ _. (refl, inr (refl, refl)) };
+      numbers_fit = omega arith;
     };
-    back_is_made = record { row = row; is_made = refl; is_whole = refl; begins = second_begins };
-    own_is_made = record { row = row; is_made = refl; is_whole = refl; begins = first_begins };
-    newest = record { fresh = λ e. absurd (omega arith); stale = λ _. (refl, inr (refl, refl)) };
     saw_new = λ e. absurd (cc);
     parts_agree = record { stored_begins = begins_none (length row) thrice 2; loaded_begins = begins_none (length row) thrice 0; none_outside = λ _. refl };
     reads_agree = record {
-      seen_were_made = λ k pair e. absurd (some-ne-none pair (sym e));
-      numbers_never_fall = λ j k first second le e f. absurd (some-ne-none first (sym e));
-      none_is_newer = λ k pair e. absurd (some-ne-none pair (sym e));
-      told_is_met = λ _. omega arith;
-      looks_are_met = λ _ k look e. absurd (some-ne-none look (sym e));
-      looks_were_made = λ k look e. absurd (some-ne-none look (sym e));
-      looks_were_answered = λ k look pair e f. absurd (some-ne-none look (sym e));
-      one_look_a_read = λ _. refl;
-      one_look_more = λ busy. absurd (busy refl);
+      pairs = record {
+        seen_were_made = λ k pair e. absurd (some-ne-none pair (sym e));
+        numbers_never_fall = λ j k first second le e f. absurd (some-ne-none first (sym e));
+        none_is_newer = λ k pair e. absurd (some-ne-none pair (sym e));
+      };
+      looks_agree = record {
+        looks_were_made = λ k look e. absurd (some-ne-none look (sym e));
+        looks_were_answered = λ k look pair e f. absurd (some-ne-none look (sym e));
+        one_look_a_read = λ _. refl;
+        one_look_more = λ busy. absurd (busy refl);
+      };
+      met = record {
+        told_is_met = λ _. omega arith;
+        looks_are_met = λ _ k look e. absurd (some-ne-none look (sym e));
+      };
     };
     notes_agree = record { told_was_made = omega arith; heard_was_read = grows_none []; each_note = λ k view e. absurd (some-ne-none view (sym e)) };
-    numbers_fit = omega arith;
   }
 
   at_zero : (id : ℕ) (view : View) → get_elem? (Opens row ∷ []) id ≡ some view → id ≡ 0

@@ -19,7 +19,7 @@ use Rattle.triple_buffer.specs.declared.views.ReaderState.{ReaderState}
 use Rattle.triple_buffer.specs.declared.views.Phase.TheVariants.{Idle, SawNew, Loading}
 use Rattle.audio_handoff.proofs.CellLists.{grows_by, made_pair, all_at_most_more, newest_pair, never_fall_more, answered_more, looked_more, snoc_at}
 use Rattle.triple_buffer.proofs.RowLists.{begins_none, begins_at_state, begins_more, holds_at_state, loaded_whole}
-use Rattle.triple_buffer.proofs.SeatFinds.{unmoved, reader_step}
+use Rattle.triple_buffer.proofs.SeatFinds.{steps_of_ends, unmoved, reader_step}
 
 below_count : (e : ReaderState) (writer : WriterState) (x : ℕ) → x < length writer.made → ((k : ℕ) (look : ℕ) → get_elem? e.looks k ≡ some look → look < length writer.made)
     → (k : ℕ) (look : ℕ) → get_elem? (e.looks ++ x ∷ []) k ≡ some look → look < length writer.made
@@ -35,29 +35,34 @@ new_look_keeps w words writer reader others r idle is_fresh =
     let fresh : fresh_in r.state ≡ 1 = ap fresh_in (sym at) ∙ is_fresh in
     let newest = (r.newest.fresh fresh).0 in
     let same : length reader.looks ≡ length reader.seen = reads.one_look_a_read idle in record {
-      wide = r.wide;
-      state = r.state;
-      is_state = r.is_state;
-      rows_are_apart = r.rows_are_apart;
-      back_is_made = r.back_is_made;
-      own_is_made = r.own_is_made;
-      newest = r.newest;
+      rows = r.rows;
       saw_new = λ _. fresh;
       parts_agree = record { stored_begins = parts.stored_begins; loaded_begins = parts.loaded_begins; none_outside = λ _. parts.none_outside (λ l. absurd (cc)) };
       reads_agree = record {
-        seen_were_made = reads.seen_were_made;
-        numbers_never_fall = reads.numbers_never_fall;
-        none_is_newer = reads.none_is_newer;
-        told_is_met = λ l. absurd (cc);
-        looks_are_met = λ l. absurd (cc);
-        looks_were_made = below_count reader writer (number_in (slice_index words 0)) (omega arith) reads.looks_were_made;
-        looks_were_answered = looked_more reader.looks reader.seen (number_in (slice_index words 0)) same reads.looks_were_answered;
-        one_look_a_read = λ l. absurd (cc);
-        one_look_more = λ _. omega (arith, length-append reader.looks (number_in (slice_index words 0) ∷ []));
+        pairs = reads.pairs;
+        looks_agree = record {
+          looks_were_made = below_count reader writer (number_in (slice_index words 0)) (omega arith) reads.looks_were_made;
+          looks_were_answered = looked_more reader.looks reader.seen (number_in (slice_index words 0)) same reads.looks_were_answered;
+          one_look_a_read = λ l. absurd (cc);
+          one_look_more = λ _. omega (arith, length-append reader.looks (number_in (slice_index words 0) ∷ []));
+        };
+        met = record {
+          told_is_met = λ l. absurd (cc);
+          looks_are_met = λ l. absurd (cc);
+        };
       };
       notes_agree = r.notes_agree;
-      numbers_fit = r.numbers_fit;
     }
+
+-- a look at a new row is no older than the reader's row, nor than a row told of
+new_look_tells : (w : ℕ) (words : List ℕ) (writer : WriterState) (reader : ReaderState) (others : List View) → Rule w words writer reader others → fresh_in (slice_index words 0) ≡ 1
+    → (reader.number ≤ number_in (slice_index words 0)) × (reader.told ≤ number_in (slice_index words 0))
+new_look_tells w words writer reader others r is_fresh =
+    let newest = subst (λ n. fresh_in n ≡ 1 → (number_in n + 1 ≡ length writer.made) × (reader.number < number_in n)) (sym r.is_state) r.newest.fresh is_fresh in
+    let last = newest.0 in
+    let more = newest.1 in
+    let told = r.notes_agree.told_was_made in
+    (omega arith, omega arith)
 
 module _ (w : ℕ) (words : List ℕ) (writer : WriterState) (reader : ReaderState) (others : List View) (r : Rule w words writer reader others) (idle : reader.phase ≡ Idle) (not_fresh : fresh_in (slice_index words 0) ≢ 1) where
   own_is_last : reader.number + 1 ≡ length writer.made
@@ -75,28 +80,23 @@ module _ (w : ℕ) (words : List ℕ) (writer : WriterState) (reader : ReaderSta
       let reads = r.reads_agree in
       let last = own_is_last in
       let same : length reader.looks ≡ length reader.seen = reads.one_look_a_read idle in record {
-        wide = r.wide;
-        state = r.state;
-        is_state = r.is_state;
-        rows_are_apart = r.rows_are_apart;
-        back_is_made = r.back_is_made;
-        own_is_made = r.own_is_made;
-        newest = r.newest;
+        rows = r.rows;
         saw_new = λ l. absurd (cc);
         parts_agree = record { stored_begins = parts.stored_begins; loaded_begins = parts.loaded_begins; none_outside = λ l. absurd (l refl) };
         reads_agree = record {
-          seen_were_made = reads.seen_were_made;
-          numbers_never_fall = reads.numbers_never_fall;
-          none_is_newer = reads.none_is_newer;
-          told_is_met = λ _. told_by_old_look;
-          looks_are_met = λ _. all_at_most_more reader.looks reader.number reader.number (le_refl reader.number) (λ k look e. let l = reads.looks_were_made k look e in omega arith);
-          looks_were_made = below_count reader writer reader.number (omega arith) reads.looks_were_made;
-          looks_were_answered = looked_more reader.looks reader.seen reader.number same reads.looks_were_answered;
-          one_look_a_read = λ l. absurd (cc);
-          one_look_more = λ _. omega (arith, length-append reader.looks (reader.number ∷ []));
+          pairs = reads.pairs;
+          looks_agree = record {
+            looks_were_made = below_count reader writer reader.number (omega arith) reads.looks_were_made;
+            looks_were_answered = looked_more reader.looks reader.seen reader.number same reads.looks_were_answered;
+            one_look_a_read = λ l. absurd (cc);
+            one_look_more = λ _. omega (arith, length-append reader.looks (reader.number ∷ []));
+          };
+          met = record {
+            told_is_met = λ _. told_by_old_look;
+            looks_are_met = λ _. all_at_most_more reader.looks reader.number reader.number (le_refl reader.number) (λ k look e. let l = reads.looks_were_made k look e in omega arith);
+          };
         };
         notes_agree = r.notes_agree;
-        numbers_fit = r.numbers_fit;
       }
 
 pub looks : (row : List ℕ) (slots id : ℕ) (me : Sat) (reader : ReaderState) → me.0 ≡ Reads reader → reader.phase ≡ Idle → Allows (Kept row) slots id me 0 (λ n. n) (Looked (step slots 0 0 0 none) me)
@@ -107,7 +107,15 @@ looks row slots id me reader is idle =
     (λ is_fresh. (
       after_new_look reader (slice_index words 0),
       unmoved (length row) words 0 writer (after_new_look reader (slice_index words 0)) others (new_look_keeps (length row) words writer reader others r idle is_fresh),
-      (refl, (λ _. ap (λ v. Reads (after_new_look (reader_in v) (slice_index words 0))) (sym is)), (λ not. absurd (not is_fresh))),
+      (
+        refl,
+        (λ _. (
+          ap (λ v. Reads (after_new_look (reader_in v) (slice_index words 0))) (sym is),
+          subst (λ v. (reader_in v).number ≤ number_in (slice_index words 0)) (sym is) (new_look_tells (length row) words writer reader others r is_fresh).0,
+          subst (λ v. (reader_in v).told ≤ number_in (slice_index words 0)) (sym is) (new_look_tells (length row) words writer reader others r is_fresh).1,
+        )),
+        (λ not. absurd (not is_fresh)),
+      ),
     ))
     (λ not. (
       after_old_look reader,
@@ -152,20 +160,23 @@ module _ (w new : ℕ) (words : List ℕ) (writer : WriterState) (reader : Reade
       let is_stale : fresh_in new ≡ 0 = omega arith in
       let at : r.state ≡ slice_index words 0 = sym r.is_state in
       let none_loaded : reader.loaded ≡ [] = parts.none_outside (λ l. absurd (cc)) in record {
-        wide = length-set words 0 new ∙ r.wide;
-        state = new;
-        is_state = get_or-set_same words 0 new 0 (omega arith);
-        rows_are_apart = record {
-          writer_fits = a.writer_fits;
-          back_fits = omega arith;
-          reader_fits = tells.0;
-          writer_from_back = λ e. a.writer_from_reader (e ∙ place_is);
-          writer_from_reader = λ e. a.writer_from_back (e ∙ sym (ap back_in at));
-          back_from_reader = λ e. a.back_from_reader (ap back_in at ∙ (sym e ∙ place_is));
+        rows = record {
+          wide = length-set words 0 new ∙ r.wide;
+          state = new;
+          is_state = get_or-set_same words 0 new 0 (omega arith);
+          rows_are_apart = record {
+            writer_fits = a.writer_fits;
+            back_fits = omega arith;
+            reader_fits = tells.0;
+            writer_from_back = λ e. a.writer_from_reader (e ∙ place_is);
+            writer_from_reader = λ e. a.writer_from_back (e ∙ sym (ap back_in at));
+            back_from_reader = λ e. a.back_from_reader (ap back_in at ∙ (sym e ∙ place_is));
+          };
+          back_is_made = subst (λ (z : ℕ × ℕ). HoldsMade w (set words 0 new) writer.made z.0 z.1) (λ k. (sym place_is k, sym number_is k)) (holds_at_state w words writer.made new reader.place reader.number r.own_is_made);
+          own_is_made = subst (λ n. HoldsMade w (set words 0 new) writer.made (back_in n) (number_in n)) at (holds_at_state w words writer.made new _ _ r.back_is_made);
+          newest = record { fresh = λ e. absurd (omega arith); stale = λ _. (last, inl (omega arith)) };
+          numbers_fit = r.numbers_fit;
         };
-        back_is_made = subst (λ (z : ℕ × ℕ). HoldsMade w (set words 0 new) writer.made z.0 z.1) (λ k. (sym place_is k, sym number_is k)) (holds_at_state w words writer.made new reader.place reader.number r.own_is_made);
-        own_is_made = subst (λ n. HoldsMade w (set words 0 new) writer.made (back_in n) (number_in n)) at (holds_at_state w words writer.made new _ _ r.back_is_made);
-        newest = record { fresh = λ e. absurd (omega arith); stale = λ _. (last, inl (omega arith)) };
         saw_new = λ l. absurd (cc);
         parts_agree = record {
           stored_begins = begins_at_state w words new writer.place writer.stored parts.stored_begins;
@@ -173,18 +184,23 @@ module _ (w new : ℕ) (words : List ℕ) (writer : WriterState) (reader : Reade
           none_outside = λ l. absurd (l refl);
         };
         reads_agree = record {
-          seen_were_made = reads.seen_were_made;
-          numbers_never_fall = reads.numbers_never_fall;
-          none_is_newer = λ k pair e. let n = reads.none_is_newer k pair e in omega arith;
-          told_is_met = λ _. tells.3;
-          looks_are_met = λ _. tells.4;
-          looks_were_made = reads.looks_were_made;
-          looks_were_answered = reads.looks_were_answered;
-          one_look_a_read = λ l. absurd (cc);
-          one_look_more = λ _. reads.one_look_more (λ l. absurd (cc));
+          pairs = record {
+            seen_were_made = reads.seen_were_made;
+            numbers_never_fall = reads.numbers_never_fall;
+            none_is_newer = λ k pair e. let n = reads.none_is_newer k pair e in omega arith;
+          };
+          looks_agree = record {
+            looks_were_made = reads.looks_were_made;
+            looks_were_answered = reads.looks_were_answered;
+            one_look_a_read = λ l. absurd (cc);
+            one_look_more = λ _. reads.one_look_more (λ l. absurd (cc));
+          };
+          met = record {
+            told_is_met = λ _. tells.3;
+            looks_are_met = λ _. tells.4;
+          };
         };
         notes_agree = r.notes_agree;
-        numbers_fit = r.numbers_fit;
       }
 
 pub turns : (row : List ℕ) (slots id new : ℕ) (me : Sat) (reader : ReaderState) (place number : ℕ) → me.0 ≡ Reads reader → reader.phase ≡ SawNew → reader.place ≡ place → reader.number ≡ number → number < 2 ^ 60
@@ -212,13 +228,7 @@ module _ (w i : ℕ) (words : List ℕ) (writer : WriterState) (reader : ReaderS
   load_keeps : i < w → Rule w words writer (after_load reader found) others
   load_keeps inside =
       let parts = r.parts_agree in record {
-        wide = r.wide;
-        state = r.state;
-        is_state = r.is_state;
-        rows_are_apart = r.rows_are_apart;
-        back_is_made = r.back_is_made;
-        own_is_made = r.own_is_made;
-        newest = r.newest;
+        rows = r.rows;
         saw_new = r.saw_new;
         parts_agree = record {
           stored_begins = parts.stored_begins;
@@ -227,7 +237,6 @@ module _ (w i : ℕ) (words : List ℕ) (writer : WriterState) (reader : ReaderS
         };
         reads_agree = r.reads_agree;
         notes_agree = r.notes_agree;
-        numbers_fit = r.numbers_fit;
       }
 
   last_load_keeps : i + 1 ≡ w → Rule w words writer (after_last_load reader found) others
@@ -239,32 +248,31 @@ module _ (w i : ℕ) (words : List ℕ) (writer : WriterState) (reader : ReaderS
       let begins = begins_more w words found reader.place i reader.loaded long (omega arith) refl parts.loaded_begins in
       let is_row = loaded_whole w words writer.made reader.place reader.number row r.own_is_made (omega (arith, length-append reader.loaded (found ∷ []))) begins in
       let busy : reader.phase ≢ Idle = λ l. absurd (cc) in record {
-        wide = r.wide;
-        state = r.state;
-        is_state = r.is_state;
-        rows_are_apart = r.rows_are_apart;
-        back_is_made = r.back_is_made;
-        own_is_made = r.own_is_made;
-        newest = r.newest;
+        rows = r.rows;
         saw_new = λ l. absurd (cc);
         parts_agree = record { stored_begins = parts.stored_begins; loaded_begins = begins_none w words _; none_outside = λ _. refl };
         reads_agree = record {
-          seen_were_made = made_pair writer.made reader.seen reader.number row is_row reads.seen_were_made;
-          numbers_never_fall = never_fall_more reader.seen reader.number row reads.numbers_never_fall reads.none_is_newer;
-          none_is_newer = newest_pair reader.seen reader.number row reads.none_is_newer;
-          told_is_met = λ l. absurd (cc);
-          looks_are_met = λ l. absurd (cc);
-          looks_were_made = reads.looks_were_made;
-          looks_were_answered = answered_more reader.looks reader.seen reader.number row (reads.looks_are_met loading) reads.looks_were_answered;
-          one_look_a_read = λ _. let more = reads.one_look_more busy in omega (arith, length-append reader.seen ((reader.number, row) ∷ []));
-          one_look_more = λ l. absurd (l refl);
+          pairs = record {
+            seen_were_made = made_pair writer.made reader.seen reader.number row is_row reads.seen_were_made;
+            numbers_never_fall = never_fall_more reader.seen reader.number row reads.numbers_never_fall reads.none_is_newer;
+            none_is_newer = newest_pair reader.seen reader.number row reads.none_is_newer;
+          };
+          looks_agree = record {
+            looks_were_made = reads.looks_were_made;
+            looks_were_answered = answered_more reader.looks reader.seen reader.number row (reads.looks_are_met loading) reads.looks_were_answered;
+            one_look_a_read = λ _. let more = reads.one_look_more busy in omega (arith, length-append reader.seen ((reader.number, row) ∷ []));
+            one_look_more = λ l. absurd (l refl);
+          };
+          met = record {
+            told_is_met = λ l. absurd (cc);
+            looks_are_met = λ l. absurd (cc);
+          };
         };
         notes_agree = record {
           told_was_made = notes.told_was_made;
           heard_was_read = grows_by reader.heard reader.seen (reader.number, row) notes.heard_was_read;
           each_note = λ k view e. note_longer writer.made reader.seen (reader.number, row) view (notes.each_note k view e);
         };
-        numbers_fit = r.numbers_fit;
       }
     where
       note_longer : (made : List (List ℕ)) (seen : List Pair) (pair : Pair) (view : View) → IsNoteOf made seen view → IsNoteOf made (seen ++ pair ∷ []) view
@@ -302,22 +310,6 @@ checks row slots id me reader is =
     reader_step row slots id 0 (λ n. n) me reader (Checked (step slots 0 0 0 none) me) is
     (λ words writer others r. (
       reader_stepped reader,
-      unmoved (length row) words 0 writer (reader_stepped reader) others (stepped (length row) words writer reader others r),
+      unmoved (length row) words 0 writer (reader_stepped reader) others (steps_of_ends (length row) words writer reader others r writer.steps (reader.steps + 1)),
       (ap (λ v. Reads (reader_stepped (reader_in v))) (sym is), refl, subst (λ v. Grows (reader_in v).heard (reader_in v).seen) (sym is) r.notes_agree.heard_was_read),
     ))
-  where
-    stepped : (w : ℕ) (words : List ℕ) (writer : WriterState) (reader : ReaderState) (others : List View) → Rule w words writer reader others → Rule w words writer (reader_stepped reader) others
-    stepped w words writer reader others r = record {
-      wide = r.wide;
-      state = r.state;
-      is_state = r.is_state;
-      rows_are_apart = r.rows_are_apart;
-      back_is_made = r.back_is_made;
-      own_is_made = r.own_is_made;
-      newest = r.newest;
-      saw_new = r.saw_new;
-      parts_agree = r.parts_agree;
-      reads_agree = r.reads_agree;
-      notes_agree = r.notes_agree;
-      numbers_fit = r.numbers_fit;
-    }

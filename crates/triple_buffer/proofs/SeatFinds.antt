@@ -61,6 +61,17 @@ find_settled true writer reader others made seen zero w r notes at = let e = som
 find_settled true writer reader others made seen (suc zero) w r notes at = let e = some-injective Spent (Settled w r) at in absurd (cc)
 find_settled true writer reader others made seen (suc (suc k)) w r notes at = absurd (notes k (Settled w r) at)
 
+-- the rule doesn't care for the steps that the two ends took
+pub steps_of_ends : (width : ℕ) (words : List ℕ) (writer : WriterState) (reader : ReaderState) (others : List View) → Rule width words writer reader others → (writer_steps reader_steps : ℕ)
+    → Rule width words (record writer { steps = writer_steps }) (record reader { steps = reader_steps }) others
+steps_of_ends width words writer reader others r writer_steps reader_steps = record {
+  rows = r.rows;
+  saw_new = r.saw_new;
+  parts_agree = r.parts_agree;
+  reads_agree = r.reads_agree;
+  notes_agree = r.notes_agree;
+}
+
 -- a step that changes no word
 pub unmoved : (width : ℕ) (words : List ℕ) (i : ℕ) (writer : WriterState) (reader : ReaderState) (others : List View) → Rule width words writer reader others → Rule width (set words i (slice_index words i)) writer reader others
 unmoved width words i writer reader others = subst (λ l. Rule width l writer reader others) (sym (set-get_or words i 0))

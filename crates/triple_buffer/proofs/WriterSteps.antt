@@ -28,13 +28,16 @@ store_keeps w i x words writer reader others r long inside =
     let parts = r.parts_agree in
     let wide = r.wide in
     let n = word_fits w q i a.writer_fits inside in record {
-      wide = length-set words (word_at w q i) x ∙ r.wide;
-      state = r.state;
-      is_state = get_or-set_other words (word_at w q i) 0 x 0 (λ e. omega arith) ∙ r.is_state;
-      rows_are_apart = a;
-      back_is_made = holds_elsewhere w words writer.made x _ q i _ (λ e. a.writer_from_back (sym e)) inside r.back_is_made;
-      own_is_made = holds_elsewhere w words writer.made x _ q i _ (λ e. a.writer_from_reader (sym e)) inside r.own_is_made;
-      newest = r.newest;
+      rows = record {
+        wide = length-set words (word_at w q i) x ∙ r.wide;
+        state = r.state;
+        is_state = get_or-set_other words (word_at w q i) 0 x 0 (λ e. omega arith) ∙ r.is_state;
+        rows_are_apart = a;
+        back_is_made = holds_elsewhere w words writer.made x _ q i _ (λ e. a.writer_from_back (sym e)) inside r.back_is_made;
+        own_is_made = holds_elsewhere w words writer.made x _ q i _ (λ e. a.writer_from_reader (sym e)) inside r.own_is_made;
+        newest = r.newest;
+        numbers_fit = r.numbers_fit;
+      };
       saw_new = r.saw_new;
       parts_agree = record {
         stored_begins = begins_more w (set words (word_at w q i) x) x q i writer.stored long inside (get_or-set_same words (word_at w q i) x 0 (omega arith))
@@ -44,7 +47,6 @@ store_keeps w i x words writer reader others r long inside =
       };
       reads_agree = r.reads_agree;
       notes_agree = r.notes_agree;
-      numbers_fit = r.numbers_fit;
     }
 
 pub stores : (row : List ℕ) (slots id i x : ℕ) (me : Sat) (writer : WriterState) (w place : ℕ) → length row ≡ w → me.0 ≡ Writes writer → writer.place ≡ place → length writer.stored ≡ i → i < w
@@ -83,25 +85,28 @@ show_keeps w new words writer reader others r long room is =
     let newer : reader.number < length writer.made = dite (ℕ_discrete (fresh_in r.state) 1)
     (λ e. let n = r.newest.fresh e in omega arith)
     (λ ne. let n = r.newest.stale (omega arith) in let m = n.0 in omega arith) in record {
-      wide = length-set words 0 new ∙ r.wide;
-      state = new;
-      is_state = get_or-set_same words 0 new 0 (omega arith);
-      rows_are_apart = record {
-        writer_fits = subst (λ x. x < 3) back_is a.back_fits;
-        back_fits = omega arith;
-        reader_fits = a.reader_fits;
-        writer_from_back = λ e. a.writer_from_back (sym place_is ∙ (sym e ∙ sym back_is));
-        writer_from_reader = λ e. a.back_from_reader (back_is ∙ e);
-        back_from_reader = λ e. a.writer_from_reader (sym place_is ∙ e);
+      rows = record {
+        wide = length-set words 0 new ∙ r.wide;
+        state = new;
+        is_state = get_or-set_same words 0 new 0 (omega arith);
+        rows_are_apart = record {
+          writer_fits = subst (λ x. x < 3) back_is a.back_fits;
+          back_fits = omega arith;
+          reader_fits = a.reader_fits;
+          writer_from_back = λ e. a.writer_from_back (sym place_is ∙ (sym e ∙ sym back_is));
+          writer_from_reader = λ e. a.back_from_reader (back_is ∙ e);
+          back_from_reader = λ e. a.writer_from_reader (sym place_is ∙ e);
+        };
+        back_is_made = record {
+          row = writer.stored;
+          is_made = at_last writer.made writer.stored (number_in new) (sym number_is);
+          is_whole = long;
+          begins = subst (λ x. Begins w (set words 0 new) x writer.stored) (sym place_is) (begins_at_state w words new writer.place writer.stored parts.stored_begins);
+        };
+        own_is_made = holds_longer w (set words 0 new) writer.made writer.stored reader.place reader.number (holds_at_state w words writer.made new reader.place reader.number r.own_is_made);
+        newest = record { fresh = λ _. (omega arith, omega arith); stale = λ e. absurd (omega arith) };
+        numbers_fit = omega arith;
       };
-      back_is_made = record {
-        row = writer.stored;
-        is_made = at_last writer.made writer.stored (number_in new) (sym number_is);
-        is_whole = long;
-        begins = subst (λ x. Begins w (set words 0 new) x writer.stored) (sym place_is) (begins_at_state w words new writer.place writer.stored parts.stored_begins);
-      };
-      own_is_made = holds_longer w (set words 0 new) writer.made writer.stored reader.place reader.number (holds_at_state w words writer.made new reader.place reader.number r.own_is_made);
-      newest = record { fresh = λ _. (omega arith, omega arith); stale = λ e. absurd (omega arith) };
       saw_new = λ _. is_fresh;
       parts_agree = record {
         stored_begins = begins_none w (set words 0 new) _;
@@ -109,22 +114,24 @@ show_keeps w new words writer reader others r long room is =
         none_outside = parts.none_outside;
       };
       reads_agree = record {
-        seen_were_made = made_longer writer.made writer.stored reader.seen reads.seen_were_made;
-        numbers_never_fall = reads.numbers_never_fall;
-        none_is_newer = reads.none_is_newer;
-        told_is_met = reads.told_is_met;
-        looks_are_met = reads.looks_are_met;
-        looks_were_made = λ k look e. let l = reads.looks_were_made k look e in omega arith;
-        looks_were_answered = reads.looks_were_answered;
-        one_look_a_read = reads.one_look_a_read;
-        one_look_more = reads.one_look_more;
+        pairs = record {
+          seen_were_made = made_longer writer.made writer.stored reader.seen reads.seen_were_made;
+          numbers_never_fall = reads.numbers_never_fall;
+          none_is_newer = reads.none_is_newer;
+        };
+        looks_agree = record {
+          looks_were_made = λ k look e. let l = reads.looks_were_made k look e in omega arith;
+          looks_were_answered = reads.looks_were_answered;
+          one_look_a_read = reads.one_look_a_read;
+          one_look_more = reads.one_look_more;
+        };
+        met = reads.met;
       };
       notes_agree = record {
         told_was_made = let t = notes.told_was_made in omega arith;
         heard_was_read = notes.heard_was_read;
         each_note = λ k view e. notes_longer writer.made writer.stored reader.seen view (notes.each_note k view e);
       };
-      numbers_fit = omega arith;
     }
 
 pub shows : (row : List ℕ) (slots id new : ℕ) (me : Sat) (writer : WriterState) (w made place : ℕ) → length row ≡ w → me.0 ≡ Writes writer → length writer.stored ≡ w

@@ -1,4 +1,4 @@
--- The rule of the three rows, which holds between any two steps.
+-- Only for proofs: the rule of the three rows, which holds between any two steps.
 use Rattle.std.specs.Prelude.{◌≡◌, ◌≢◌, ℕ, ◌+◌, ◌*◌, ◌^◌, ◌<◌, ◌≤◌, ◌⊎◌, Bool, true, false, List, [], ◌∷◌, ◌++◌, length, slice_index}
 use mathlib.Core.Option.{some}
 use lib.ListN.{get_elem?}
@@ -52,17 +52,31 @@ pub record PartsAgree (width : ℕ) (words : List ℕ) (writer_place : ℕ) (sto
 abbrev pub AllAtMost : List ℕ → ℕ → Type 0
 AllAtMost numbers limit = (k : ℕ) (number : ℕ) → get_elem? numbers k ≡ some number → number ≤ limit
 
--- what was read was made, and was new enough
-pub record ReadsAgree (made : List (List ℕ)) (number : ℕ) (phase : Phase) (seen : List Pair) (looks : List ℕ) (told : ℕ) : Type 0 where
+-- each pair read was made as it was read, and no number is above the reader's
+pub record PairsAgree (made : List (List ℕ)) (number : ℕ) (seen : List Pair) : Type 0 where
   pub seen_were_made : WereMade made seen
   pub numbers_never_fall : NumbersNeverFall seen
   pub none_is_newer : (k : ℕ) (pair : Pair) → get_elem? seen k ≡ some pair → pair.0 ≤ number
-  pub told_is_met : phase ≡ Loading → told ≤ number
-  pub looks_are_met : phase ≡ Loading → AllAtMost looks number
+
+-- a look for each pair, one more within a read
+pub record LooksAgree (made : List (List ℕ)) (phase : Phase) (seen : List Pair) (looks : List ℕ) : Type 0 where
   pub looks_were_made : (k : ℕ) (look : ℕ) → get_elem? looks k ≡ some look → look < length made
   pub looks_were_answered : LooksWereAnswered looks seen
   pub one_look_a_read : phase ≡ Idle → length looks ≡ length seen
   pub one_look_more : phase ≢ Idle → length looks ≡ length seen + 1
+
+-- a reader that loads its row has one that is new enough
+pub record IsNewEnough (number : ℕ) (phase : Phase) (looks : List ℕ) (told : ℕ) : Type 0 where
+  pub told_is_met : phase ≡ Loading → told ≤ number
+  pub looks_are_met : phase ≡ Loading → AllAtMost looks number
+
+pub record ReadsAgree (made : List (List ℕ)) (number : ℕ) (phase : Phase) (seen : List Pair) (looks : List ℕ) (told : ℕ) : Type 0 where
+  pub pairs : PairsAgree made number seen
+  pub open pairs use *
+  pub looks_agree : LooksAgree made phase seen looks
+  pub open looks_agree use *
+  pub met : IsNewEnough number phase looks told
+  pub open met use *
 
 -- of the seats but the two ends: a note's number was made, and its list was read
 abbrev pub IsNoteOf : List (List ℕ) → List Pair → View → Type 0
@@ -78,19 +92,24 @@ pub record NotesAgree (made : List (List ℕ)) (seen : List Pair) (told : ℕ) (
   pub heard_was_read : Grows heard seen
   pub each_note : (k : ℕ) (view : View) → get_elem? others k ≡ some view → IsNoteOf made seen view
 
-pub record Rule (width : ℕ) (words : List ℕ) (writer : WriterState) (reader : ReaderState) (others : List View) : Type 0 where
+-- where the rows are, under which numbers they were made, and which is the newest
+pub record RowsAgree (width : ℕ) (words : List ℕ) (made : List (List ℕ)) (writer_place reader_place number : ℕ) : Type 0 where
   pub wide : length words ≡ 3 * width + 1
   pub state : ℕ
   pub is_state : slice_index words 0 ≡ state
-  pub rows_are_apart : AreApart writer.place (back_in state) reader.place
-  pub back_is_made : HoldsMade width words writer.made (back_in state) (number_in state)
-  pub own_is_made : HoldsMade width words writer.made reader.place reader.number
-  pub newest : KnowsNewest (length writer.made) state reader.number
+  pub rows_are_apart : AreApart writer_place (back_in state) reader_place
+  pub back_is_made : HoldsMade width words made (back_in state) (number_in state)
+  pub own_is_made : HoldsMade width words made reader_place number
+  pub newest : KnowsNewest (length made) state number
+  pub numbers_fit : length made ≤ 2 ^ 60
+
+pub record Rule (width : ℕ) (words : List ℕ) (writer : WriterState) (reader : ReaderState) (others : List View) : Type 0 where
+  pub rows : RowsAgree width words writer.made writer.place reader.place reader.number
+  pub open rows use *
   pub saw_new : reader.phase ≡ SawNew → fresh_in state ≡ 1
   pub parts_agree : PartsAgree width words writer.place writer.stored reader.place reader.phase reader.loaded
   pub reads_agree : ReadsAgree writer.made reader.number reader.phase reader.seen reader.looks reader.told
   pub notes_agree : NotesAgree writer.made reader.seen reader.told reader.heard others
-  pub numbers_fit : length writer.made ≤ 2 ^ 60
 
 -- the seats: the writer's, the reader's, and those of the notes; or the one of both ends, the one that it took in, and those of the notes
 abbrev pub seats_of : Bool → WriterState → ReaderState → List View → List View

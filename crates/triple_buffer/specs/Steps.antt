@@ -1,4 +1,4 @@
--- What each kind of step tells: the seat's new view, and what it learned.
+-- Only for proofs: what each kind of step tells: the seat's new view, and what it learned.
 use Rattle.std.specs.Prelude.{◌≡◌, ◌≢◌, ℕ, ◌^◌, ◌<◌, ◌≤◌}
 use Rattle.atomic_table.specs.Table.{Me, Step}
 use Rattle.audio_handoff.specs.Cell.{Grows}
@@ -21,7 +21,7 @@ Shown step before found after = (after.0 ≡ Writes (after_show (writer_in befor
 abbrev pub Looked : Step (Unit {0}) → Sat → ℕ → Sat → Type 0
 Looked step before found after =
     (after.1 ≡ before.1)
-    × (fresh_in found ≡ 1 → after.0 ≡ Reads (after_new_look (reader_in before.0) found))
+    × (fresh_in found ≡ 1 → (after.0 ≡ Reads (after_new_look (reader_in before.0) found)) × ((reader_in before.0).number ≤ number_in found) × ((reader_in before.0).told ≤ number_in found))
     × (fresh_in found ≢ 1 → (after.0 ≡ Reads (after_old_look (reader_in before.0))) × ((reader_in before.0).told ≤ (reader_in before.0).number))
 
 abbrev pub Turned : Step (Unit {0}) → Sat → ℕ → Sat → Type 0

@@ -1,4 +1,4 @@
--- What a token is between two calls, and what it stands for.
+-- Only for proofs: what a token is between two calls, and what it stands for.
 use Rattle.std.specs.Prelude.{◌≡◌, ℕ, ◌+◌, ◌*◌, ◌^◌, ◌<◌, ◌≤◌, ◌⊎◌, List, [], ◌∷◌, ◌++◌, length}
 use Rattle.atomic_table.specs.Seated.{TableId}
 use Rattle.audio_handoff.specs.Cell.{WriterView, ReaderView, NoteView}
@@ -50,6 +50,8 @@ pub record HasCaughtUp (before after : Sat) (place number : ℕ) : Type 0 where
   pub seen : (reader_in after.0).seen ≡ (reader_in before.0).seen
   pub look : ℕ
   pub looks : (reader_in after.0).looks ≡ (reader_in before.0).looks ++ look ∷ []
+  pub look_is_not_before_last : (reader_in before.0).number ≤ look
+  pub look_is_not_before_told : (reader_in before.0).told ≤ look
   pub look_is_met : look ≤ number
   pub told : (reader_in after.0).told ≡ (reader_in before.0).told
   pub told_is_met : (reader_in before.0).told ≤ number

@@ -1,4 +1,4 @@
--- What a seat of the table knows, and how its steps change it.
+-- Only for proofs: what a seat of the table knows, and how its steps change it.
 use Rattle.std.specs.Prelude.{ℕ, ◌+◌, ◌-◌, List, [], ◌∷◌, ◌++◌, length, max}
 use Rattle.audio_handoff.specs.Cell.{Pair}
 use Rattle.triple_buffer.specs.Word.{number_in, back_in}

@@ -1,4 +1,4 @@
--- The state word: the number of the back row, whether the reader hasn't had it yet, and which row it is.
+-- Only for proofs: the state word: the number of the back row, whether the reader hasn't had it yet, and which row it is.
 use Rattle.std.specs.Prelude.{ℕ, ◌+◌, ◌*◌, ◌/◌, ◌%◌}
 
 abbrev pub word_of : ℕ → ℕ → ℕ → ℕ

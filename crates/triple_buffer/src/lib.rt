@@ -1,7 +1,7 @@
 //! A cell whose calls never wait: three rows of words, of which the writer has one, the reader has one, and one is
 //! handed over by a swap of the state word.
 //!
-//! In reading order: `word`, `views`, `plays`, `tokens`, `triple`, and of its calls `steps`, `publish`, `read`, `notes`,
+//! In reading order: `word`, `views`, `plays`, `tokens`, `triple`, and of its calls `steps`,
 //! `settle`.
 #![tactic(auto)]
 
@@ -14,4 +14,4 @@ mod views;
 mod word;
 
 pub use tokens::{TripleNote, TripleReader, TripleWriter};
-pub use triple::Triple;
+pub use triple::{Triple, triple_tells_its_steps};

@@ -1,14 +1,17 @@
 ghost use Rattle.std.specs.Prelude.{◌≡◌, ◌+◌, ◌<◌, length};
 ghost use Rattle.std.specs.Option.{ForSome};
+ghost use Rattle.std.specs.Thread.{IsSync};
 ghost use Rattle.triple_buffer.specs.Views.{writer_in};
 
 use super::*;
 use audio_handoff::{Read, SeqState, StateCell};
 use std::alloc::{AllocError, Global};
 use std::process::Abort;
+use std::sync::Wait;
+use std::sync::atomic::{AtomicU64, Ordering};
 use std::test::*;
 use std::thread;
-use std::thread::Threads;
+use std::thread::{Threads, yield_now};
 
 /// The row of that number. The opening row is that of number 0.
 fn row_of(number: u64) -> [u64; 9]
@@ -30,12 +33,7 @@ fn row_of(number: u64) -> [u64; 9]
 
 /// A cell with its tokens, at most one note, and how many rows were made.
 #[derive(Drop)]
-struct Bench<C: StateCell<9> + Drop>
-where
-    C::Writer: Drop,
-    C::Reader: Drop,
-    C::Note: Drop,
-{
+struct Bench<C: StateCell<9>> {
     cell: C,
     writer: C::Writer,
     reader: C::Reader,
@@ -80,12 +78,7 @@ fn a_second_read_answers_the_same_row_until_a_row_is_made(rt: HostRuntime) -> Re
     Ok(())
 }
 
-impl<C: StateCell<9> + Drop> Bench<C>
-where
-    C::Writer: Drop,
-    C::Reader: Drop,
-    C::Note: Drop,
-{
+impl<C: StateCell<9>> Bench<C> {
     fn open(alloc: Global, way: &C::Way) -> Result<Bench<C>, AllocError> {
         let (cell, writer, reader) = C::make(alloc, way, &row_of(0))?;
         Ok(Bench {
@@ -137,17 +130,13 @@ where
 }
 
 /// Takes the steps of a case, and settles. A digit is the number that the read before it answers.
-fn run_case<C: StateCell<9> + Drop>(
+fn run_case<C: StateCell<9>>(
     rt: &impl Abort,
     alloc: Global,
     way: &C::Way,
     case: &str,
     last: u64,
 ) -> Result<(), AllocError>
-where
-    C::Writer: Drop,
-    C::Reader: Drop,
-    C::Note: Drop,
     requires { last < 1000 }
 {
     let mut bench = Bench::<C>::open(alloc, way)?;
@@ -245,87 +234,191 @@ fn either_cell_answers_as_the_lists_say(rt: HostRuntime) -> Result<(), Fail> {
     Ok(())
 }
 
-/// Makes the rows 1 to 10,000, each of equal words.
-fn publish_all<const W: usize>(cell: &Triple<W>, mut writer: TripleWriter<W>) -> TripleWriter<W>
-    requires cell { writer.seat.table_id ≡ cell.now.table.shared.table_id }
-    requires made { length (writer_in writer.seat.me.0).made ≡ 1 }
-    ensures { result.seat.table_id ≡ cell.entry.now.table.shared.table_id }
+/// How many rows one thread makes beside another that reads them, and after how many it waits until the last one was read.
+const ROWS: u64 = 40_000;
+
+const PHASE: u64 = 4_000;
+
+/// How often a thread looks for what another is to do. It lets others run after each look.
+const LOOKS: u64 = 10_000_000;
+
+/// What two threads tell each other: how many of them are there, and the number of the row last read.
+#[derive(Drop)]
+struct Marks {
+    there: AtomicU64,
+    read: AtomicU64,
+}
+
+impl Marks {
+    fn new() -> Marks {
+        Marks {
+            there: AtomicU64::new(0),
+            read: AtomicU64::new(0),
+        }
+    }
+}
+
+/// What a reader has found: how many numbers, and whether each row was of its number's words and none older than the one
+/// before.
+#[derive(Clone, Copy, Debug, PartialEq, Eq)]
+struct Found {
+    numbers: u64,
+    whole: bool,
+}
+
+fn wait_for(mark: &AtomicU64, number: u64) {
+    for _look in 0..LOOKS {
+        if mark.load(Ordering::SeqCst) >= number {
+            break;
+        }
+        yield_now();
+    }
+}
+
+/// Waits until both threads are there.
+fn meet(marks: &Marks) {
+    marks.there.fetch_add(1, Ordering::SeqCst);
+    wait_for(&marks.there, 2);
+}
+
+/// Makes the rows, each of words that are its number. At the end of each phase it waits until that row was read.
+fn publish_all<C: StateCell<W>, const W: usize>(
+    cell: &C,
+    way: &C::Way,
+    mut writer: C::Writer,
+    marks: &Marks,
+) -> C::Writer
+    requires width { W < 16 }
+    requires cell { (C.writing writer).cell ≡ C.cell cell.now }
+    requires made { length (C.writing writer).made ≡ 1 }
+    ensures { (C.writing result).cell ≡ C.cell cell.entry.now }
 {
-    for number in 0..10_000 {
-        cell.publish(&(), &mut writer, &[number + 1; W]);
+    meet(marks);
+    for number in 0..ROWS {
+        cell.publish(way, &mut writer, &[number + 1; W]);
+        if (number + 1) % PHASE == 0 {
+            wait_for(&marks.read, number + 1);
+        }
     }
     writer
 }
 
-/// Reads 10,000 times. Tells whether each was one whole row, and none was older than the one before.
-fn read_all<const W: usize>(
-    cell: &Triple<W>,
-    mut reader: TripleReader<W>,
-) -> (TripleReader<W>, bool)
-    requires { reader.seat.table_id ≡ cell.now.table.shared.table_id }
-    ensures { result.0.seat.table_id ≡ cell.entry.now.table.shared.table_id }
+/// Reads until the last row, and tells the other thread each number.
+fn read_all<C: StateCell<W>, const W: usize>(
+    cell: &C,
+    way: &C::Way,
+    mut reader: C::Reader,
+    marks: &Marks,
+) -> (C::Reader, Found)
+    requires width { W < 16 }
+    requires cell { (C.reading reader).cell ≡ C.cell cell.now }
+    ensures { (C.reading result.0).cell ≡ C.cell cell.entry.now }
 {
-    let mut whole = true;
+    let mut found = Found {
+        numbers: 1,
+        whole: true,
+    };
     let mut newest = 0;
-    for _read in 0..10_000 {
-        let Read { number, row } = cell.read(&(), &mut reader);
-        whole = whole && number >= newest && row.iter().all(|word| *word == number);
+    meet(marks);
+    for _read in 0..LOOKS {
+        let Read { number, row } = cell.read(way, &mut reader);
+        found.whole = found.whole && number >= newest && row.iter().all(|word| *word == number);
+        if number != newest {
+            found.numbers = found.numbers.saturating_add(1);
+            marks.read.store(number, Ordering::SeqCst);
+        } else {
+            yield_now();
+        }
         newest = number;
+        if number >= ROWS {
+            break;
+        }
     }
-    (reader, whole)
+    (reader, found)
 }
 
-/// Hands rows from one thread to another, and answers the last one if each read was whole and none was older.
+/// Hands rows from one thread to another. Answers the last one, and what the other thread found.
 fn hand_over<R: Threads + Sync, const W: usize>(
     rt: &R,
     alloc: Global,
-) -> Result<Option<Read<W>>, AllocError>
+) -> Result<(Read<W>, Found), AllocError>
     requires { (0 < W) × (W < 16) }
 {
     let (cell, writer, reader) = Triple::<W>::make(alloc, &(), &[0; W])?;
     let shared = &cell;
-    let (writer, (reader, whole)) = thread::join(
+    let told = Marks::new();
+    let marks = &told;
+    let (writer, (reader, found)) = thread::join(
         rt,
         move ||
-            requires { (writer.seat.table_id ≡ shared.now.table.shared.table_id) × (length (writer_in writer.seat.me.0).made ≡ 1) }
+            requires { (W < 16) × (writer.seat.table_id ≡ shared.now.table.shared.table_id) × (length (writer_in writer.seat.me.0).made ≡ 1) }
             ensures { result.seat.table_id ≡ shared.entry.now.table.shared.table_id }
-        { publish_all(shared, writer) },
+        { publish_all::<Triple<W>, W>(shared, &(), writer, marks) },
         move ||
-            requires { reader.seat.table_id ≡ shared.now.table.shared.table_id }
+            requires { (W < 16) × (reader.seat.table_id ≡ shared.now.table.shared.table_id) }
             ensures { result.0.seat.table_id ≡ shared.entry.now.table.shared.table_id }
-        { read_all(shared, reader) },
+        { read_all::<Triple<W>, W>(shared, &(), reader, marks) },
     );
-    let last = cell.settle(&(), writer, reader);
-    Ok(if whole { Some(last) } else { None })
+    Ok((cell.settle(&(), writer, reader), found))
+}
+
+/// The same over a cell that may wait.
+fn hand_over_waiting<R: Threads + Wait + Sync, const W: usize>(
+    rt: &R,
+    alloc: Global,
+) -> Result<(Read<W>, Found), AllocError>
+    requires { (0 < W) × (W < 16) }
+{
+    let (cell, writer, reader) = SeqState::<R, W>::make(alloc, rt, &[0; W])?;
+    let shared = &cell;
+    let told = Marks::new();
+    let marks = &told;
+    let (writer, (reader, found)) = thread::join(
+        rt,
+        move ||
+            requires { IsSync R.row × (W < 16) × (writer.pass.table_id ≡ shared.now.cell.table.shared.table_id) × (writer.made ≡ 1) }
+            ensures { result.pass.table_id ≡ shared.entry.now.cell.table.shared.table_id }
+        { publish_all::<SeqState<R, W>, W>(shared, rt, writer, marks) },
+        move ||
+            requires { IsSync R.row × (W < 16) × (reader.pass.table_id ≡ shared.now.cell.table.shared.table_id) }
+            ensures { result.0.pass.table_id ≡ shared.entry.now.cell.table.shared.table_id }
+        { read_all::<SeqState<R, W>, W>(shared, rt, reader, marks) },
+    );
+    Ok((cell.settle(rt, writer, reader), found))
+}
+
+/// The last row is the last one made, each row was whole, none older than the one before, and rows were read while rows
+/// were made.
+fn check_found<const W: usize>(rt: &impl Abort, last: Read<W>, found: Found)
+    requires { W < 16 }
+{
+    let row = [ROWS; W];
+    assert_eq!(rt; last, Read { number: ROWS, row }, "of rows of {W} words");
+    assert!(rt; found.whole, "of rows of {W} words");
+    let numbers = found.numbers;
+    assert!(rt; numbers > 2, "{numbers} numbers of rows of {W} words");
+}
+
+fn check_threads<R: Threads + Wait + Sync + Abort, const W: usize>(
+    rt: &R,
+    alloc: Global,
+) -> Result<(), AllocError>
+    requires { (0 < W) × (W < 16) }
+{
+    let (last, found) = hand_over::<R, W>(rt, alloc)?;
+    check_found(rt, last, found);
+    let (last, found) = hand_over_waiting::<R, W>(rt, alloc)?;
+    check_found(rt, last, found);
+    Ok(())
 }
 
 #[test]
 fn rows_that_one_thread_makes_are_read_whole_and_in_order_by_another(
     rt: HostRuntime,
 ) -> Result<(), Fail> {
-    let last = hand_over::<HostRuntime, 9>(&rt, rt.alloc())?;
-    assert_eq!(rt;
-        last,
-        Some(Read {
-            number: 10_000,
-            row: [10_000; 9]
-        })
-    );
-    let last = hand_over::<HostRuntime, 1>(&rt, rt.alloc())?;
-    assert_eq!(rt;
-        last,
-        Some(Read {
-            number: 10_000,
-            row: [10_000; 1]
-        })
-    );
-    let last = hand_over::<HostRuntime, 15>(&rt, rt.alloc())?;
-    assert_eq!(rt;
-        last,
-        Some(Read {
-            number: 10_000,
-            row: [10_000; 15]
-        })
-    );
+    check_threads::<HostRuntime, 1>(&rt, rt.alloc())?;
+    check_threads::<HostRuntime, 9>(&rt, rt.alloc())?;
+    check_threads::<HostRuntime, 11>(&rt, rt.alloc())?;
+    check_threads::<HostRuntime, 15>(&rt, rt.alloc())?;
     Ok(())
 }

@@ -1,18 +1,18 @@
-//! The triple buffer, and how it is made.
-ghost use Rattle.std.specs.Prelude.{◌≡◌, [], ◌∷◌, ◌<◌, length, IfOk};
-ghost use Rattle.triple_buffer.specs.Tokens.{IsThreeRows};
-ghost use Rattle.triple_buffer.specs.Views.{writer_in, reader_in, first_writer, first_reader};
+//! The triple buffer, and its calls.
+ghost use Rattle.std.specs.Prelude.{◌≡◌, ◌+◌, [], ◌∷◌, ◌<◌, length, true, IfOk, IfErr};
+ghost use Rattle.std.specs.Result.{IsOk};
+ghost use Rattle.audio_handoff.specs.Cell.{HasSameReads, HasSameRows};
+ghost use Rattle.triple_buffer.specs.Tokens.{IsThreeRows, writing_of, reading_of, noting_of};
 
-use crate::plays::{Open, ThreeRows};
+use crate::plays::{Note, Open, Settle, Show, Tell, ThreeRows};
 use crate::tokens::{TripleNote, TripleReader, TripleWriter};
 use crate::views::View;
+use crate::word::StateWord;
 use atomic_table::Table;
 use audio_handoff::{Read, StateCell};
+use settle::{copy_row, newest};
 use std::alloc::{AllocError, Global};
 
-mod notes;
-mod publish;
-mod read;
 mod settle;
 mod steps;
 
@@ -24,42 +24,13 @@ pub struct Triple<const W: usize> {
     ghost wide: { IsThreeRows W table.shared.table_id table.shared.key },
 }
 
-impl<const W: usize> Triple<W> {
-    fn opened(
-        alloc: Global,
-        row: &[u64; W],
-    ) -> Result<(Triple<W>, TripleWriter<W>, TripleReader<W>), AllocError>
-        requires { (0 < W) × (W < 16) }
-        ensures cell { IfOk result (λ t. (t.1.seat.table_id ≡ t.0.table.shared.table_id) × (t.2.seat.table_id ≡ t.0.table.shared.table_id)) }
-        ensures views { IfOk result (λ t. (writer_in t.1.seat.me.0 ≡ first_writer row.now) × (reader_in t.2.seat.me.0 ≡ first_reader)) }
-    {
-        let mut words = Vec::new(alloc);
-        words.push(1)?;
-        words.extend_from_slice(row)?;
-        words.extend_from_slice(row)?;
-        words.extend_from_slice(row)?;
-        let (table, mut seat) = Table::of_words(alloc, words.as_slice(), row)?;
-        let reader = table.shared.split_seat::<Open>(&mut seat);
-        Ok((
-            Triple { table },
-            TripleWriter {
-                place: 2,
-                made: 1,
-                seat,
-            },
-            TripleReader {
-                place: 0,
-                number: 0,
-                seat: reader,
-            },
-        ))
-    }
-}
+/// A triple buffer tells its steps: a publish of W words takes W + 1 steps of the writer, so 10 where W is 9, and a read
+/// W + 1 or W + 2 steps of the reader.
+pub fn triple_tells_its_steps<const W: usize>()
+    ensures { ⟦<Triple<W> as StateCell<W>>⟧.tells_steps ≡ true }
+{}
 
 impl<const W: usize> StateCell<W> for Triple<W> {
-    ghost use Rattle.std.specs.Prelude.{true};
-    ghost use Rattle.triple_buffer.specs.Tokens.{writing_of, reading_of, noting_of};
-
     type Way = ();
 
     type Writer = TripleWriter<W>;
@@ -83,56 +54,162 @@ impl<const W: usize> StateCell<W> for Triple<W> {
         _way: &(),
         row: &[u64],
     ) -> Result<(Triple<W>, TripleWriter<W>, TripleReader<W>), AllocError> {
-        let mut own = [0u64; W];
-        own.copy_from_slice(row);
-        Triple::opened(alloc, &own)
+        let mut key = [0u64; W];
+        key.copy_from_slice(row);
+        let mut words = Vec::new(alloc);
+        words.push(1)?;
+        words.extend_from_slice(&key)?;
+        words.extend_from_slice(&key)?;
+        words.extend_from_slice(&key)?;
+        let (table, mut seat) = Table::of_words(alloc, words.as_slice(), &key)?;
+        let reader = table.shared.split_seat::<Open>(&mut seat);
+        Ok((
+            Triple { table },
+            TripleWriter {
+                place: 2,
+                made: 1,
+                seat,
+            },
+            TripleReader {
+                place: 0,
+                number: 0,
+                seat: reader,
+            },
+        ))
     }
 
     fn publish(&self, _way: &(), writer: &mut TripleWriter<W>, row: &[u64; W]) -> u64 {
-        self.publish_row(writer, row)
+        let TripleWriter { place, made, seat } = writer;
+        let number = *made;
+        self.store(seat, *place, row);
+        let shown = StateWord {
+            number,
+            fresh: true,
+            back: *place,
+        };
+        let found = self.table.shared.swap::<Show>(seat, 0, shown.pack());
+        *place = StateWord::unpack(found).back;
+        *made = number + 1;
+        number
     }
 
     fn is_spent(&self, writer: &TripleWriter<W>) -> bool {
-        self.has_no_room(writer)
+        writer.made == 1 << 60
     }
 
     fn read(&self, _way: &(), reader: &mut TripleReader<W>) -> Read<W> {
-        self.read_row(reader)
+        let TripleReader {
+            place,
+            number,
+            seat,
+        } = reader;
+        let (own, newest) = self.catch_up(seat, *place, *number);
+        let row = self.gather(seat, own);
+        *place = own;
+        *number = newest;
+        Read {
+            number: newest,
+            row,
+        }
     }
 
+    /// It never takes memory.
     fn note_of_writer(
         &self,
         _alloc: Global,
         _way: &(),
         writer: &mut TripleWriter<W>,
-    ) -> Result<TripleNote<W>, AllocError> {
-        Ok(self.writer_note(writer))
+    ) -> Result<TripleNote<W>, AllocError>
+        requires { writer.old.seat.table_id ≡ self.now.table.shared.table_id }
+        ensures made { IsOk result }
+        ensures note { IfOk result (λ note. ((noting_of note.seat.table_id note.seat.me.0).cell ≡ self.now.table.shared.table_id) × ((noting_of note.seat.table_id note.seat.me.0).number + 1 ≡ length (writing_of writer.old.seat.table_id writer.old.seat.me.0).made) × ((noting_of note.seat.table_id note.seat.me.0).seen ≡ [])) }
+        ensures writer { HasSameRows (writing_of writer.old.seat.table_id writer.old.seat.me.0) (writing_of writer.new.seat.table_id writer.new.seat.me.0) }
+        ensures refused { IfErr result (λ _. writing_of writer.new.seat.table_id writer.new.seat.me.0 ≡ writing_of writer.old.seat.table_id writer.old.seat.me.0) }
+    {
+        let TripleWriter {
+            place: _,
+            made: _,
+            seat,
+        } = writer;
+        Ok(TripleNote {
+            seat: self.table.shared.split_seat::<Note>(seat),
+        })
     }
 
+    /// It never takes memory.
     fn note_of_reader(
         &self,
         _alloc: Global,
         _way: &(),
         reader: &mut TripleReader<W>,
-    ) -> Result<TripleNote<W>, AllocError> {
-        Ok(self.reader_note(reader))
+    ) -> Result<TripleNote<W>, AllocError>
+        requires { reader.old.seat.table_id ≡ self.now.table.shared.table_id }
+        ensures made { IsOk result }
+        ensures note { IfOk result (λ note. ((noting_of note.seat.table_id note.seat.me.0).cell ≡ self.now.table.shared.table_id) × ((noting_of note.seat.table_id note.seat.me.0).number ≡ (reading_of reader.old.seat.table_id reader.old.seat.me.0).number) × ((noting_of note.seat.table_id note.seat.me.0).seen ≡ (reading_of reader.old.seat.table_id reader.old.seat.me.0).seen)) }
+        ensures reader { HasSameReads (reading_of reader.old.seat.table_id reader.old.seat.me.0) (reading_of reader.new.seat.table_id reader.new.seat.me.0) }
+        ensures refused { IfErr result (λ _. reading_of reader.new.seat.table_id reader.new.seat.me.0 ≡ reading_of reader.old.seat.table_id reader.old.seat.me.0) }
+    {
+        let TripleReader {
+            place: _,
+            number: _,
+            seat,
+        } = reader;
+        Ok(TripleNote {
+            seat: self.table.shared.split_seat::<Note>(seat),
+        })
     }
 
+    /// It never takes memory.
     fn copy_note(
         &self,
         _alloc: Global,
         _way: &(),
         note: &mut TripleNote<W>,
-    ) -> Result<TripleNote<W>, AllocError> {
-        Ok(self.second_note(note))
+    ) -> Result<TripleNote<W>, AllocError>
+        requires { note.old.seat.table_id ≡ self.now.table.shared.table_id }
+        ensures made { IsOk result }
+        ensures copy { IfOk result (λ copy. noting_of copy.seat.table_id copy.seat.me.0 ≡ noting_of note.old.seat.table_id note.old.seat.me.0) }
+        ensures note { noting_of note.new.seat.table_id note.new.seat.me.0 ≡ noting_of note.old.seat.table_id note.old.seat.me.0 }
+    {
+        let TripleNote { seat } = note;
+        Ok(TripleNote {
+            seat: self.table.shared.split_seat::<Note>(seat),
+        })
     }
 
     fn tell(&self, _way: &(), reader: &mut TripleReader<W>, note: TripleNote<W>) {
-        self.tell_note(reader, note);
+        let TripleReader {
+            place: _,
+            number: _,
+            seat,
+        } = reader;
+        let TripleNote { seat: other } = note;
+        self.table.shared.join_seat::<Tell>(seat, other);
+        self.check(seat);
     }
 
     fn settle(self, _way: &(), writer: TripleWriter<W>, reader: TripleReader<W>) -> Read<W> {
-        self.settled(writer, reader)
+        let TripleWriter {
+            place: _,
+            made: _,
+            mut seat,
+        } = writer;
+        let TripleReader {
+            place,
+            number,
+            seat: other,
+        } = reader;
+        let Triple { table } = self;
+        table.shared.join_seat::<Settle>(&mut seat, other);
+        let closed = table.close_with(seat);
+        let (last, newest) = newest(closed.word(0), place, number);
+        let mut row = [0u64; W];
+        copy_row(&closed, last, &mut row);
+        closed.free();
+        Read {
+            number: newest,
+            row,
+        }
     }
 
     fn last_read(&self, reader: &TripleReader<W>) -> u64 {

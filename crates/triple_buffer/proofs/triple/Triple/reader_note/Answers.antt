@@ -1,9 +1,0 @@
-use Rattle.std.proofs.Common.{arith}
-use Rattle.triple_buffer.proofs.NoteSteps.{notes_of_reader}
-use Rattle.triple_buffer.proofs.triple.Triple.reader_note.Goals as goal
-
-pub split_seat-requires : goal.split_seat-requires
-split_seat-requires g c =
-    let wide = c.args.self.now.wide in
-    let words = wide.words in
-    (c.requires, omega arith, notes_of_reader _ _ _ c.args.reader.now.rests.is)
