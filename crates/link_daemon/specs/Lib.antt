@@ -6,5 +6,6 @@ pub mod Outlet
 pub mod ReplayText
 pub mod HexLines
 pub mod DecodeText
+pub mod Adapters
 pub mod Statuses
 pub mod OneStatus
