@@ -6,13 +6,13 @@ use Rattle.std.proofs.lemmas.List.Elements.{All-nil, All-push, All-tail, All-wea
 use Rattle.std.proofs.Math.Nat.{le-max_left, le-max_right, max-le}
 use Rattle.hex.specs.Hex.{decode_of, is_hex_digit}
 use Rattle.hex.proofs.HexLemmas.{decode_of-ok, decode_of-digits}
-use Rattle.link_daemon.specs.Lines.{lines_of}
+use Rattle.link_daemon.specs.TextLines.{lines_of}
 use Rattle.link_daemon.specs.HexLines.{IsHexLine, IsDecodable, IsBadLine, IsFirstBadLine, HasLinesWithin}
 use Rattle.link_daemon.specs.DecodeText.{AreDecodedLines, IsDecodeText}
 use Rattle.link_daemon.proofs.ScriptLemmas.{lines_end}
 
 -- a line outside the grammar says no bytes
-bad_line : (line bytes : List ℕ) → IsBadLine line → decode_of line ≡ Ok bytes → ⊥
+pub bad_line : (line bytes : List ℕ) → IsBadLine line → decode_of line ≡ Ok bytes → ⊥
 bad_line line bytes (inl odd) e =
     let ok = decode_of-ok line bytes e in
     omega (arith, ok.0)
@@ -24,18 +24,18 @@ bad_line line bytes (inr (k, within, other)) e =
     differ : true ≡ false → ⊥
     differ h = cc
 
-bad_among : (before : List (List ℕ)) (line : List ℕ) (after told : List (List ℕ)) → AreDecodedLines (before ++ line ∷ after) told
+bad_among : (before : List (List ℕ)) (line : List ℕ) (after reading_lines : List (List ℕ)) → AreDecodedLines (before ++ line ∷ after) reading_lines
     → IsBadLine line → ⊥
 bad_among [] line after [] are bad = are
-bad_among [] line after (t ∷ told) are bad = bad_line line are.0.bytes bad are.0.spelled
+bad_among [] line after (t ∷ reading_lines) are bad = bad_line line are.0.bytes bad are.0.spelled
 bad_among (b ∷ before) line after [] are bad = are
-bad_among (b ∷ before) line after (t ∷ told) are bad = bad_among before line after told are.1 bad
+bad_among (b ∷ before) line after (t ∷ reading_lines) are bad = bad_among before line after reading_lines are.1 bad
 
 -- a text with a first line at fault has no output
 pub bad_and_decoded : (text output : List ℕ) (k : ℕ) → IsFirstBadLine text k → IsDecodeText text output → ⊥
 bad_and_decoded text output k first whole =
-    bad_among first.before first.line first.after whole.told
-    (subst (λ (lines : List (List ℕ)). AreDecodedLines lines whole.told) first.split whole.lines) first.bad
+    bad_among first.before first.line first.after whole.reading_lines
+    (subst (λ (lines : List (List ℕ)). AreDecodedLines lines whole.reading_lines) first.split whole.lines) first.bad
 
 -- an even number of hex digits
 pub good_line : (line : List ℕ) (n : ℕ) → (length line % 2 ≡ 1 → ⊥) → AllPass is_hex_digit (take n line) → length line ≤ n → IsHexLine line

@@ -7,11 +7,11 @@ use Rattle.lk_base.specs.declared.ids.NodeId.{NodeId}
 use Rattle.lk_base.specs.declared.endpoint.Endpoint.{Endpoint}
 use Rattle.link_daemon.specs.declared.script.Head.{Head}
 use Rattle.link_daemon.specs.declared.script.Arrival.{Arrival}
-use Rattle.link_daemon.specs.Lines.{lines_of}
+use Rattle.link_daemon.specs.TextLines.{lines_of}
 use Rattle.link_text.specs.Words.{endpoint_text_of, IsEndpoint}
 use Rattle.link_daemon.specs.Script.{IsHead, IsArrivalLine, AreArrivalLines, IsScript, IsScriptOf, IsNoScript, BeginsScript, IsFirstFault, version_line, node_line, gate_line}
 use Rattle.link_daemon.specs.Reading.{HasHead, TakesArrival, LacksArrival, HasRead}
-use Rattle.link_daemon.specs.Faults.{IsLineFault}
+use Rattle.link_daemon.specs.ScriptFaults.{IsLineFault}
 use Rattle.link_daemon.proofs.LineLemmas.{lines_none}
 use Rattle.link_daemon.proofs.HeadLemmas.{one_id}
 

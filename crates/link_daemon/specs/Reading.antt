@@ -3,7 +3,7 @@ use Rattle.std.specs.Prelude.{◌≡◌, ℕ, ◌+◌, ◌≤◌, ◌<◌, List,
 use Rattle.lk_base.specs.declared.ids.NodeId.{NodeId}
 use Rattle.link_daemon.specs.declared.script.Head.{Head}
 use Rattle.link_daemon.specs.declared.script.Arrival.{Arrival}
-use Rattle.link_daemon.specs.Lines.{lines_of}
+use Rattle.link_daemon.specs.TextLines.{lines_of}
 use Rattle.link_daemon.specs.Script.{version_line, node_line, gate_line, IsHead, IsArrivalLine, IsScript}
 
 -- the lines of this head end where `at` is

@@ -8,7 +8,7 @@ ghost use Rattle.lk_outside.specs.Transfer.{AppendsPrefix};
 ghost use Rattle.link_daemon.specs.Outlet.{HandsOver, HandsPart};
 ghost use Rattle.link_daemon.specs.HexLines.{HasLinesWithin, IsDecodable, IsHexLine};
 ghost use Rattle.link_daemon.specs.DecodeText.{IsDecodedLine, IsDecodeText};
-ghost use Rattle.link_daemon.specs.Statuses.{EndsDecode, EndsText, decode_command, seen};
+ghost use Rattle.link_daemon.specs.Statuses.{EndsDecode, EndsText, IfNothingWritten, decode_command, seen};
 
 use crate::command_line::is_only;
 use crate::hex_lines::longest_line;
@@ -22,10 +22,10 @@ use lk_outside::{InputFault, Sink, Source, read_all};
 use std::alloc::Global;
 
 /// How many bytes of a text are read at most.
-const LIMIT: usize = 16_777_216;
+const TEXT_MAX: usize = 16_777_216;
 
 /// Decodes the datagrams on `input`: reads and checks the whole text, and then writes to `out` a line for each of its lines,
-/// which tells how the bytes that the line says are read. Nothing is written unless the whole text is in the grammar.
+/// which says how the bytes that the line spells are read. Nothing is written unless the whole text is in the grammar.
 ///
 /// Waits: in the objects' calls alone. Memory: the text, the longest line's bytes and the outlet, all of it before the first write.
 pub fn decode_main<S: Source, K: Sink>(
@@ -38,17 +38,18 @@ pub fn decode_main<S: Source, K: Sink>(
         (seen S.left S.faults input.old) (seen S.left S.faults input.new)
         (seen K.written K.faults out.old) (seen K.written K.faults out.new) result }
 
-    // No object is called.
+    // No object is called, or the sink isn't.
     ensures untouched { result ≡ Status.Words → (input.new ≡ input.old) × (out.new ≡ out.old) }
+    ensures unwritten { IfNothingWritten result (out.new ≡ out.old) }
 {
     if !is_only(words, "decode") {
         return Status::Words;
     }
-    match read_all(alloc, input, LIMIT) {
+    match read_all(alloc, input, TEXT_MAX) {
         Ok(text) => decode_text(alloc, &text, out),
         Err(InputFault::Failed) => Status::Input,
         Err(InputFault::TooLong) => Status::TooLong {
-            limit: LIMIT as u64,
+            limit: TEXT_MAX as u64,
         },
         Err(InputFault::Memory(_)) => Status::Memory,
     }
@@ -57,8 +58,9 @@ pub fn decode_main<S: Source, K: Sink>(
 // Decodes a text that was read.
 fn decode_text<K: Sink>(alloc: Global, text: &[u8], out: &mut K) -> Status
     requires { length text.now ≤ 16_777_216 }
-    ensures { EndsText decode_command text.now
+    ensures ends { EndsText decode_command text.now
         (seen K.written K.faults out.old) (seen K.written K.faults out.new) result }
+    ensures unwritten { IfNothingWritten result (out.new ≡ out.old) }
 {
     let longest = match longest_line(text) {
         Ok(longest) => longest,
@@ -104,7 +106,7 @@ fn write_decode<K: Sink>(text: &[u8], bytes: &mut [u8], outlet: &mut Outlet, out
     true
 }
 
-// Hands over what is told of each line. False is the sink's failure.
+// Hands over how each line is read. False is the sink's failure.
 fn hand_lines<K: Sink>(text: &[u8], bytes: &mut [u8], outlet: &mut Outlet, out: &mut K) -> bool
     requires lines { IsDecodable text.now }
     requires room { HasLinesWithin (length bytes.old) text.now }
@@ -131,7 +133,7 @@ fn hand_lines<K: Sink>(text: &[u8], bytes: &mut [u8], outlet: &mut Outlet, out: 
     true
 }
 
-// Puts what is told of a line in place of what the buffer held.
+// Puts how a line is read in place of what the buffer held.
 fn put_reading(line: &mut LineBuf, digits: &[u8], bytes: &mut [u8])
     requires hex { IsHexLine digits.now }
     requires room { length digits.now ≤ 2 * length bytes.old }

@@ -8,7 +8,7 @@ ghost use Rattle.lk_outside.specs.Sink.{Appends};
 ghost use Rattle.lk_outside.specs.Transfer.{AppendsPrefix};
 ghost use Rattle.link_daemon.specs.Outlet.{HandsOver, HandsPart};
 ghost use Rattle.link_daemon.specs.ReplayText.{answer_text_of, done_line_of, is_answered, opening_line_of, replay_text_of, response_hex_of};
-ghost use Rattle.link_daemon.specs.Statuses.{EndsReplay, EndsText, replay_command, seen};
+ghost use Rattle.link_daemon.specs.Statuses.{EndsReplay, EndsText, IfNothingWritten, replay_command, seen};
 
 use crate::command_line::is_only;
 use crate::outlet::Outlet;
@@ -20,7 +20,7 @@ use lk_outside::{InputFault, Sink, Source, read_all};
 use std::alloc::Global;
 
 /// How many bytes of a script are read at most.
-const LIMIT: usize = 1_073_741_824;
+const SCRIPT_MAX: usize = 1_073_741_824;
 
 /// Replays the script on `input`: reads and checks it whole, and then writes to `out` the opening state, a response
 /// to each alive that the node answers, and how much there was. Nothing is written unless the whole script is in the grammar.
@@ -36,17 +36,18 @@ pub fn replay_main<S: Source, K: Sink>(
         (seen S.left S.faults input.old) (seen S.left S.faults input.new)
         (seen K.written K.faults out.old) (seen K.written K.faults out.new) result }
 
-    // No object is called.
+    // No object is called, or the sink isn't.
     ensures untouched { result ≡ Status.Words → (input.new ≡ input.old) × (out.new ≡ out.old) }
+    ensures unwritten { IfNothingWritten result (out.new ≡ out.old) }
 {
     if !is_only(words, "replay") {
         return Status::Words;
     }
-    match read_all(alloc, input, LIMIT) {
+    match read_all(alloc, input, SCRIPT_MAX) {
         Ok(text) => replay_text(alloc, &text, out),
         Err(InputFault::Failed) => Status::Input,
         Err(InputFault::TooLong) => Status::TooLong {
-            limit: LIMIT as u64,
+            limit: SCRIPT_MAX as u64,
         },
         Err(InputFault::Memory(_)) => Status::Memory,
     }
@@ -55,7 +56,8 @@ pub fn replay_main<S: Source, K: Sink>(
 // Replays a script that was read.
 fn replay_text<K: Sink>(alloc: Global, text: &[u8], out: &mut K) -> Status
     requires { length text.now ≤ 1_073_741_824 }
-    ensures { EndsText replay_command text.now (seen K.written K.faults out.old) (seen K.written K.faults out.new) result }
+    ensures ends { EndsText replay_command text.now (seen K.written K.faults out.old) (seen K.written K.faults out.new) result }
+    ensures unwritten { IfNothingWritten result (out.new ≡ out.old) }
 {
     let script = match read_script(alloc, text) {
         Ok(script) => script,
