@@ -35,9 +35,11 @@ impl Outlet {
         })
     }
 
-    /// Hands over a line. Where there might be no room for it, what is kept is written first. False is the sink's failure.
+    /// Hands over a line. Where there might be no room for it, what is kept is written first, which is at least 64,337 bytes. False is
+    /// the sink's failure.
     pub fn put_line<K: Sink>(&mut self, out: &mut K, line: &[u8]) -> bool
         requires { length line.now ≤ 1200 }
+        ensures bounded { length self.new.kept.items ≤ 65_536 }
         ensures kept { OnTrue result (HandsOver line.now (K.written out.old) self.old.kept.items (K.written out.new) self.new.kept.items) }
         ensures part { OnFalse result (HandsPart line.now (K.written out.old) self.old.kept.items (K.written out.new)) }
         ensures quiet { OnTrue result (K.faults out.new ≡ K.faults out.old) }
