@@ -124,7 +124,7 @@ fn hand_lines<K: Sink>(text: &[u8], bytes: &mut [u8], outlet: &mut Outlet, out: 
         let (digits, next) = line_at(text, at);
         put_reading(&mut line, digits, bytes);
         if !outlet.put_line(out, line.as_slice()) {
-            // So the lines left have an output too.
+            // A law, for the proof: the lines left are read as something, so that the text has an output.
             all_are_read();
             return false;
         }
