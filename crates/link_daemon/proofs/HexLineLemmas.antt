@@ -79,8 +79,8 @@ longest_of before line longest longer reached even greatest =
     let more : longest ≤ longer = rw greatest (le-max_left longest (length line / 2)) in
     let enough : length line / 2 ≤ longer = rw greatest (le-max_right longest (length line / 2)) in
     elim (eq-or-lt_of_le enough) [
-      inl same ↦ inl (line, Contains-push before line, omega (arith, even, same))
-    | inr less ↦ kept less (eq-or-lt_of_le more) reached
+      | inl same ↦ inl (line, Contains-push before line, omega (arith, even, same))
+      | inr less ↦ kept less (eq-or-lt_of_le more) reached
     ]
   where
     kept : length line / 2 < longer → (longest ≡ longer) ⊎ (longest < longer) → HasLineAmong before longest

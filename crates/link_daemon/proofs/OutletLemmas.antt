@@ -1,11 +1,17 @@
 -- Text on its way to a sink: what a line, a whole write and a write that failed make of it, and several in order.
-use Rattle.std.proofs.Common.{◌≡◌, ◌≤◌, ◌+◌, ◌⊎◌, ◌++◌, [], inl, inr, length, take, List, ℕ, Option, Some, None, refl, ap, sym, ◌∙◌, append_assoc, length-append, arith}
+use Rattle.std.proofs.Common.{◌≡◌, ◌≤◌, ◌+◌, ◌⊎◌, ◌++◌, [], inl, inr, length, take, List, ℕ, Option, Some, None, Result, Ok, Err, refl, ap, sym, ◌∙◌, append_assoc, length-append, arith}
 use Rattle.std.specs.Option.{option_map}
+use Rattle.std.specs.Result.{OnErr}
 use Rattle.std.proofs.Math.Seq.{take-append-add}
 use Rattle.std.proofs.lemmas.List.{append-nil, take-append-le}
 use Rattle.lk_outside.specs.Sink.{Appends}
 use Rattle.lk_outside.specs.Transfer.{AppendsPrefix}
 use Rattle.link_daemon.specs.Outlet.{HandsOver, HandsPart}
+
+-- what holds anyway holds where a failure is handed on
+pub on_failure : {T E P : Type 0} (result : Result T E) → P → OnErr result P
+on_failure (Ok value) holds = tt
+on_failure (Err failure) holds = holds
 
 -- nothing is appended
 pub appends_none : (told : Option (List ℕ)) → Appends told [] told

@@ -1,7 +1,6 @@
 //! The command `decode`: how each datagram of a text is read.
 
-ghost use Rattle.std.specs.Prelude.{◌≡◌, ◌≤◌, ◌*◌, List, ℕ, [], length};
-ghost use Rattle.std.specs.Bool.{OnTrue, OnFalse};
+ghost use Rattle.std.specs.Prelude.{◌≡◌, ◌≤◌, ◌*◌, List, ℕ, [], length, OnOk, OnErr};
 ghost use Rattle.lk_outside.specs.Faults.{Rose};
 ghost use Rattle.lk_outside.specs.Sink.{Appends};
 ghost use Rattle.lk_outside.specs.Transfer.{AppendsPrefix};
@@ -14,7 +13,7 @@ use crate::command_line::is_only;
 use crate::hex_lines::longest_line;
 use crate::laws::all_are_read;
 use crate::line::line_at;
-use crate::outlet::Outlet;
+use crate::outlet::{Outlet, SinkFailed};
 use crate::status::{Grammar, Status};
 use asdp_messages::read_datagram;
 use link_text::{LineBuf, write_reading};
@@ -77,60 +76,63 @@ fn decode_text<K: Sink>(alloc: Global, text: &[u8], out: &mut K) -> Status
     let Ok(mut outlet) = Outlet::new(alloc) else {
         return Status::Memory;
     };
-    if write_decode(text, &mut bytes, &mut outlet, out) {
-        Status::Done
-    } else {
-        Status::Sink
+    match write_decode(text, &mut bytes, &mut outlet, out) {
+        Ok(()) => Status::Done,
+        Err(SinkFailed) => Status::Sink,
     }
 }
 
-// Writes the whole output through an outlet that keeps nothing yet. False is the sink's failure.
-fn write_decode<K: Sink>(text: &[u8], bytes: &mut [u8], outlet: &mut Outlet, out: &mut K) -> bool
+// Writes the whole output through an outlet that keeps nothing yet.
+fn write_decode<K: Sink>(
+    text: &[u8],
+    bytes: &mut [u8],
+    outlet: &mut Outlet,
+    out: &mut K,
+) -> Result<(), SinkFailed>
     requires lines { IsDecodable text.now }
     requires room { HasLinesWithin (length bytes.old) text.now }
     requires few { length bytes.old ≤ 16_777_216 }
     requires empty { outlet.old.kept.items ≡ [] }
-    ensures whole { OnTrue result ((output : List ℕ) × IsDecodeText text.now output
+    ensures whole { OnOk result ((output : List ℕ) × IsDecodeText text.now output
         × Appends (K.written out.old) output (K.written out.new)) }
-    ensures part { OnFalse result ((output : List ℕ) × IsDecodeText text.now output
+    ensures part { OnErr result ((output : List ℕ) × IsDecodeText text.now output
         × AppendsPrefix (K.written out.old) output (K.written out.new)) }
-    ensures quiet { OnTrue result (K.faults out.new ≡ K.faults out.old) }
-    ensures cause { OnFalse result (Rose (K.faults out.old) (K.faults out.new)) }
+    ensures quiet { OnOk result (K.faults out.new ≡ K.faults out.old) }
+    ensures cause { OnErr result (Rose (K.faults out.old) (K.faults out.new)) }
 {
-    if !hand_lines(text, bytes, outlet, out) {
-        return false;
-    }
-    if !outlet.flush(out) {
-        return false;
-    }
-    true
+    hand_lines(text, bytes, outlet, out)?;
+    outlet.flush(out)?;
+    Ok(())
 }
 
-// Hands over how each line is read. False is the sink's failure.
-fn hand_lines<K: Sink>(text: &[u8], bytes: &mut [u8], outlet: &mut Outlet, out: &mut K) -> bool
+// Hands over how each line is read.
+fn hand_lines<K: Sink>(
+    text: &[u8],
+    bytes: &mut [u8],
+    outlet: &mut Outlet,
+    out: &mut K,
+) -> Result<(), SinkFailed>
     requires lines { IsDecodable text.now }
     requires room { HasLinesWithin (length bytes.old) text.now }
     requires few { length bytes.old ≤ 16_777_216 }
-    ensures kept { OnTrue result ((output : List ℕ) × IsDecodeText text.now output
+    ensures kept { OnOk result ((output : List ℕ) × IsDecodeText text.now output
         × HandsOver output (K.written out.old) outlet.old.kept.items (K.written out.new) outlet.new.kept.items) }
-    ensures part { OnFalse result ((output : List ℕ) × IsDecodeText text.now output
+    ensures part { OnErr result ((output : List ℕ) × IsDecodeText text.now output
         × HandsPart output (K.written out.old) outlet.old.kept.items (K.written out.new)) }
-    ensures quiet { OnTrue result (K.faults out.new ≡ K.faults out.old) }
-    ensures cause { OnFalse result (Rose (K.faults out.old) (K.faults out.new)) }
+    ensures quiet { OnOk result (K.faults out.new ≡ K.faults out.old) }
+    ensures cause { OnErr result (Rose (K.faults out.old) (K.faults out.new)) }
 {
+    // A law, for the proof: every line is read as something, so that the text has an output where the sink fails too.
+    all_are_read();
     let mut line = LineBuf::new();
     let mut at = 0;
     while at < text.len() {
         let (digits, next) = line_at(text, at);
         put_reading(&mut line, digits, bytes);
-        if !outlet.put_line(out, line.as_slice()) {
-            // A law, for the proof: the lines left are read as something, so that the text has an output.
-            all_are_read();
-            return false;
-        }
+        outlet.put_line(out, line.as_slice())?;
         at = next;
     }
-    true
+    Ok(())
 }
 
 // Puts how a line is read in place of what the buffer held.

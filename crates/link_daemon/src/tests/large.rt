@@ -40,10 +40,9 @@ fn a_text_of_more_than_a_million_bytes_is_decoded(rt: HostRuntime) -> Result<(),
     assert!(rt; input.len() > 1_000_000);
     let found = run_in(rt.alloc(), &["decode"], &input, sound(), 1_100_000)?;
     assert_eq!(rt; found.status, Status::Done);
-    let wanted =
-        b"alive 4142434445464748 5 0 500000 0 0 4142434445464748 0 0 0 127.0.0.1:20808\n\
+    let wanted = b"alive 4142434445464748 5 0 500000 0 0 4142434445464748 0 0 0 127.0.0.1:20808\n\
           response 5152535455565758 5 0 500000 0 0 5152535455565758 0 0 0 127.0.0.1:20809\n"
-            .as_slice();
+        .as_slice();
     // 77 bytes for each alive and 80 for each response.
     assert_eq!(rt; found.written.len(), 376_800);
     assert!(rt; found.written.as_slice().starts_with(wanted));

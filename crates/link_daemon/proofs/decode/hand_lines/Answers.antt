@@ -1,6 +1,7 @@
 use Rattle.std.proofs.Common.{◌≤◌, ◌*◌, ◌∙◌, length, refl, arith}
 use Rattle.link_daemon.specs.HexLines.{IsHexLine}
 use Rattle.link_daemon.proofs.DecodeLemmas.{decoded_none, line_holds, decoded_more, decoded_whole, decoded_part}
+use Rattle.link_daemon.proofs.OutletLemmas.{on_failure}
 use Rattle.link_daemon.proofs.decode.hand_lines.Goals as goal
 
 pub loop-at-init : goal.loop-at-init
@@ -16,18 +17,19 @@ put_reading-requires-clause-room g c =
     line_holds (λ line. length line ≤ 2 * length c.args.bytes.now) c.args.text.now c.line_at-next.result.0.now c.loop-at.at _ _ _ _ _ c.loop-at.invariant.decoded c.line_at-next.ensures.lines c.requires.room in
     omega (arith, c.loop-at.invariant.room)
 
-pub returns-then-not-put_line-clause-part : goal.returns-then-not-put_line-clause-part
-returns-then-not-put_line-clause-part g c =
-    decoded_part c.all_are_read.ensures c.args.text.now c.line_at-next.result.0.now c.put_reading.new.line.items c.loop-at.at c.line_at-next.result.1 (length c.args.bytes.now) _ _ _ _ _
+pub returns-in_err-put_line-clause-part : goal.returns-in_err-put_line-clause-part
+returns-in_err-put_line-clause-part g c =
+    on_failure c.from_residual.result
+    (decoded_part c.all_are_read.ensures c.args.text.now c.line_at-next.result.0.now c.put_reading.new.line.items c.loop-at.at c.line_at-next.result.1 (length c.args.bytes.now) _ _ _ _ _
     c.loop-at.invariant.decoded c.line_at-next.ensures.lines c.requires.lines c.requires.room c.requires.few
-    c.put_reading.ensures (rw c.as_slice.ensures.value at c.if-not-put_line.ensures.part)
+    c.put_reading.ensures (rw c.as_slice.ensures.value at c.in_err-put_line.ensures.part))
 
 pub loop-at-preserved : goal.loop-at-preserved
 loop-at-preserved g c = record {
   decoded = decoded_more c.args.text.now c.line_at-next.result.0.now c.put_reading.new.line.items c.loop-at.at c.line_at-next.result.1 _ _ _ _ _ _
       c.loop-at.invariant.decoded c.line_at-next.ensures.lines c.line_at-next.ensures.within
-      c.put_reading.ensures (rw c.as_slice.ensures.value at c.if-not-put_line.ensures.kept);
-  quiet = c.if-not-put_line.ensures.quiet ∙ c.loop-at.invariant.quiet;
+      c.put_reading.ensures (rw c.as_slice.ensures.value at c.in_ok-put_line.ensures.kept);
+  quiet = c.in_ok-put_line.ensures.quiet ∙ c.loop-at.invariant.quiet;
   room = c.put_reading.auto.bytes ∙ c.loop-at.invariant.room;
 }
 
