@@ -1,4 +1,4 @@
--- What is told of the lines of a text, one after the other.
+-- What is said of the lines of a text, one after the other.
 use Rattle.std.proofs.Common.{◌≡◌, inl, inr, refl, sym, subst, ap, ◌∙◌, arith, ℕ, ◌+◌, ◌*◌, ◌/◌, ◌<◌, ◌≤◌, ◌^◌, List, [], ◌∷◌, ◌++◌, length, drop, Option, Result, Ok, Err}
 use Rattle.std.specs.List.{All, concat}
 use Rattle.std.proofs.lemmas.List.{append_assoc, append-nil}
@@ -11,7 +11,7 @@ use Rattle.link_payload.specs.Entries.{AreBytes}
 use Rattle.asdp_messages.specs.declared.fault.WireFault.{WireFault}
 use Rattle.asdp_messages.specs.Datagram.{AreAllRead, MessageValue, IsReadAs}
 use Rattle.link_text.specs.ReadingLine.{reading_line_of}
-use Rattle.link_daemon.specs.Lines.{lines_of}
+use Rattle.link_daemon.specs.TextLines.{lines_of}
 use Rattle.link_daemon.specs.HexLines.{IsHexLine, IsDecodable, HasLinesWithin}
 use Rattle.link_daemon.specs.DecodeText.{IsDecodedLine, AreDecodedLines, IsDecodeText, HasOneOutput}
 use Rattle.link_daemon.specs.Outlet.{HandsOver, HandsPart}
@@ -20,9 +20,9 @@ use Rattle.link_daemon.proofs.ScriptLemmas.{lines_end}
 
 -- ---- one line
 
-some_told : (law : AreAllRead) (line : List ℕ) (most : ℕ) → IsHexLine line → length line ≤ 2 * most → most ≤ 16_777_216
-    → (told : List ℕ) × IsDecodedLine line told
-some_told law line most (bytes, spelled) short few =
+some_decoded : (law : AreAllRead) (line : List ℕ) (most : ℕ) → IsHexLine line → length line ≤ 2 * most → most ≤ 16_777_216
+    → (reading_line : List ℕ) × IsDecodedLine line reading_line
+some_decoded law line most (bytes, spelled) short few =
     let ok = decode_of-ok line bytes spelled in
     let reading = law bytes ok.3 (omega (arith, ok.2)) in (
       reading_line_of reading.0,
@@ -31,39 +31,39 @@ some_told law line most (bytes, spelled) short few =
 
 -- ---- several lines
 
-all_told : (law : AreAllRead) (lines : List (List ℕ)) (most : ℕ) → All IsHexLine lines → All (λ line. length line ≤ 2 * most) lines → most ≤ 16_777_216
-    → (told : List (List ℕ)) × AreDecodedLines lines told
-all_told law [] most good short few = ([], tt)
-all_told law (line ∷ lines) most good short few =
-    let first = some_told law line most (All-head IsHexLine line lines good) (All-head (λ l. length l ≤ 2 * most) line lines short) few in
-    let rest = all_told law lines most (All-tail IsHexLine line lines good) (All-tail (λ l. length l ≤ 2 * most) line lines short) few in
+all_decoded : (law : AreAllRead) (lines : List (List ℕ)) (most : ℕ) → All IsHexLine lines → All (λ line. length line ≤ 2 * most) lines → most ≤ 16_777_216
+    → (reading_lines : List (List ℕ)) × AreDecodedLines lines reading_lines
+all_decoded law [] most good short few = ([], tt)
+all_decoded law (line ∷ lines) most good short few =
+    let first = some_decoded law line most (All-head IsHexLine line lines good) (All-head (λ l. length l ≤ 2 * most) line lines short) few in
+    let rest = all_decoded law lines most (All-tail IsHexLine line lines good) (All-tail (λ l. length l ≤ 2 * most) line lines short) few in
     (first.0 ∷ rest.0, (first.1, rest.1))
 
-told_both : (lines more told rest : List (List ℕ)) → AreDecodedLines lines told → AreDecodedLines more rest
-    → AreDecodedLines (lines ++ more) (told ++ rest)
-told_both [] more [] rest are others = others
-told_both [] more (t ∷ told) rest are others = absurd are
-told_both (l ∷ lines) more [] rest are others = absurd are
-told_both (l ∷ lines) more (t ∷ told) rest are others = (are.0, told_both lines more told rest are.1 others)
+decoded_both : (lines more reading_lines rest : List (List ℕ)) → AreDecodedLines lines reading_lines → AreDecodedLines more rest
+    → AreDecodedLines (lines ++ more) (reading_lines ++ rest)
+decoded_both [] more [] rest are others = others
+decoded_both [] more (t ∷ reading_lines) rest are others = absurd are
+decoded_both (l ∷ lines) more [] rest are others = absurd are
+decoded_both (l ∷ lines) more (t ∷ reading_lines) rest are others = (are.0, decoded_both lines more reading_lines rest are.1 others)
 
 -- what holds of all lines holds of the last of them
-all_back : (P : List ℕ → Type 0) (before rest : List (List ℕ)) → All P (before ++ rest) → All P rest
+pub all_back : (P : List ℕ → Type 0) (before rest : List (List ℕ)) → All P (before ++ rest) → All P rest
 all_back P [] rest all = all
 all_back P (line ∷ before) rest all = all_back P before rest (All-tail P line (before ++ rest) all)
 
--- the lines before `at` are told, and their text is handed over
-pub record HasTold (text : List ℕ) (at : ℕ) (start : Option (List ℕ)) (kept : List ℕ) (now : Option (List ℕ)) (kept' : List ℕ) : Type 0 where
+-- the lines before `at` are decoded, and their text is handed over
+pub record HasDecoded (text : List ℕ) (at : ℕ) (start : Option (List ℕ)) (kept : List ℕ) (now : Option (List ℕ)) (kept' : List ℕ) : Type 0 where
   pub before : List (List ℕ)
-  pub told : List (List ℕ)
+  pub reading_lines : List (List ℕ)
   pub lines : lines_of text ≡ before ++ lines_of (drop at text)
-  pub decoded : AreDecodedLines before told
-  pub way : HandsOver (concat told) start kept now kept'
+  pub decoded : AreDecodedLines before reading_lines
+  pub way : HandsOver (concat reading_lines) start kept now kept'
   pub within : at ≤ length text
 
-pub told_none : (text : List ℕ) (start : Option (List ℕ)) (kept : List ℕ) → HasTold text 0 start kept start kept
-told_none text start kept = record {
+pub decoded_none : (text : List ℕ) (start : Option (List ℕ)) (kept : List ℕ) → HasDecoded text 0 start kept start kept
+decoded_none text start kept = record {
   before = [];
-  told = [];
+  reading_lines = [];
   lines = refl;
   decoded = tt;
   way = hands_none start kept;
@@ -72,68 +72,68 @@ told_none text start kept = record {
 
 -- the line at `at` is one of the text
 pub line_holds : (P : List ℕ → Type 0) (text line : List ℕ) (at : ℕ) (rest : List (List ℕ)) (start : Option (List ℕ)) (kept : List ℕ) (now : Option (List ℕ)) (kept' : List ℕ)
-    → HasTold text at start kept now kept' → lines_of (drop at text) ≡ line ∷ rest → All P (lines_of text) → P line
+    → HasDecoded text at start kept now kept' → lines_of (drop at text) ≡ line ∷ rest → All P (lines_of text) → P line
 line_holds P text line at rest start kept now kept' has lines all =
     let whole : All P (has.before ++ line ∷ rest) = All-same P (has.before ++ line ∷ rest) (lines_of text) (sym (has.lines ∙ ap (λ (ls : List (List ℕ)). has.before ++ ls) lines)) all in
     All-head P line rest (all_back P has.before (line ∷ rest) whole)
 
-concat_push : (told : List (List ℕ)) (said : List ℕ) → concat (told ++ said ∷ []) ≡ concat told ++ said
-concat_push told said = concat-append told (said ∷ []) ∙ ap (λ (xs : List ℕ). concat told ++ xs) (append-nil said)
+concat_push : (reading_lines : List (List ℕ)) (said : List ℕ) → concat (reading_lines ++ said ∷ []) ≡ concat reading_lines ++ said
+concat_push reading_lines said = concat-append reading_lines (said ∷ []) ∙ ap (λ (xs : List ℕ). concat reading_lines ++ xs) (append-nil said)
 
--- the next line is told too
-pub told_more : (text line said : List ℕ) (at next : ℕ) (start : Option (List ℕ)) (kept : List ℕ) (now : Option (List ℕ)) (kept' : List ℕ) (after : Option (List ℕ)) (kept'' : List ℕ)
-    → HasTold text at start kept now kept'
+-- the next line is decoded too
+pub decoded_more : (text line said : List ℕ) (at next : ℕ) (start : Option (List ℕ)) (kept : List ℕ) (now : Option (List ℕ)) (kept' : List ℕ) (after : Option (List ℕ)) (kept'' : List ℕ)
+    → HasDecoded text at start kept now kept'
     → lines_of (drop at text) ≡ line ∷ lines_of (drop next text) → next ≤ length text
     → IsDecodedLine line said → HandsOver said now kept' after kept''
-    → HasTold text next start kept after kept''
-told_more text line said at next start kept now kept' after kept'' has lines within decoded over = record {
+    → HasDecoded text next start kept after kept''
+decoded_more text line said at next start kept now kept' after kept'' has lines within decoded over = record {
   before = has.before ++ line ∷ [];
-  told = has.told ++ said ∷ [];
+  reading_lines = has.reading_lines ++ said ∷ [];
   lines = has.lines ∙ ap (λ (ls : List (List ℕ)). has.before ++ ls) lines
       ∙ sym (append_assoc has.before (line ∷ []) (lines_of (drop next text)));
-  decoded = told_both has.before (line ∷ []) has.told (said ∷ []) has.decoded (decoded, tt);
-  way = rw (concat_push has.told said) (hands_both start now after kept kept' kept'' (concat has.told) said has.way over);
+  decoded = decoded_both has.before (line ∷ []) has.reading_lines (said ∷ []) has.decoded (decoded, tt);
+  way = rw (concat_push has.reading_lines said) (hands_both start now after kept kept' kept'' (concat has.reading_lines) said has.way over);
   within = within;
 }
 
--- the whole text is told
-pub told_whole : (text : List ℕ) (at : ℕ) (start : Option (List ℕ)) (kept : List ℕ) (now : Option (List ℕ)) (kept' : List ℕ)
-    → HasTold text at start kept now kept' → length text ≤ at
+-- the whole text is decoded
+pub decoded_whole : (text : List ℕ) (at : ℕ) (start : Option (List ℕ)) (kept : List ℕ) (now : Option (List ℕ)) (kept' : List ℕ)
+    → HasDecoded text at start kept now kept' → length text ≤ at
     → (output : List ℕ) × IsDecodeText text output × HandsOver output start kept now kept'
-told_whole text at start kept now kept' has all =
+decoded_whole text at start kept now kept' has all =
     let lines : lines_of text ≡ has.before =
     has.lines ∙ ap (λ (ls : List (List ℕ)). has.before ++ ls) (lines_end text at all) ∙ append-nil has.before in (
-      concat has.told,
+      concat has.reading_lines,
       record {
-        told = has.told;
-        lines = subst (λ (ls : List (List ℕ)). AreDecodedLines ls has.told) (sym lines) has.decoded;
+        reading_lines = has.reading_lines;
+        lines = subst (λ (ls : List (List ℕ)). AreDecodedLines ls has.reading_lines) (sym lines) has.decoded;
         whole = refl;
       },
       has.way,
     )
 
 -- the sink failed at the next line
-pub told_part : (law : AreAllRead) (text line said : List ℕ) (at next most : ℕ) (start : Option (List ℕ)) (kept : List ℕ) (now : Option (List ℕ)) (kept' : List ℕ) (after : Option (List ℕ))
-    → HasTold text at start kept now kept'
+pub decoded_part : (law : AreAllRead) (text line said : List ℕ) (at next most : ℕ) (start : Option (List ℕ)) (kept : List ℕ) (now : Option (List ℕ)) (kept' : List ℕ) (after : Option (List ℕ))
+    → HasDecoded text at start kept now kept'
     → lines_of (drop at text) ≡ line ∷ lines_of (drop next text)
     → IsDecodable text → HasLinesWithin most text → most ≤ 16_777_216
     → IsDecodedLine line said → HandsPart said now kept' after
     → (output : List ℕ) × IsDecodeText text output × HandsPart output start kept after
-told_part law text line said at next most start kept now kept' after has lines good short few decoded part =
+decoded_part law text line said at next most start kept now kept' after has lines good short few decoded part =
     let more = lines_of (drop next text) in
     let split : lines_of text ≡ has.before ++ line ∷ more = has.lines ∙ ap (λ (ls : List (List ℕ)). has.before ++ ls) lines in
     let good_rest = All-tail IsHexLine line more (all_back IsHexLine has.before (line ∷ more) (All-same IsHexLine (has.before ++ line ∷ more) (lines_of text) (sym split) good)) in
     let short_rest = All-tail (λ l. length l ≤ 2 * most) line more (all_back (λ l. length l ≤ 2 * most) has.before (line ∷ more) (All-same (λ l. length l ≤ 2 * most) (has.before ++ line ∷ more) (lines_of text) (sym split) short)) in
-    let rest = all_told law more most good_rest short_rest few in
-    let here = part_after start now after kept kept' (concat has.told) said has.way part in
-    let longer = part_of_more start after kept (concat has.told ++ said) (concat rest.0) here in
-    let same : concat (has.told ++ said ∷ rest.0) ≡ (concat has.told ++ said) ++ concat rest.0 =
-    concat-append has.told (said ∷ rest.0) ∙ sym (append_assoc (concat has.told) said (concat rest.0)) in (
-      concat (has.told ++ said ∷ rest.0),
+    let rest = all_decoded law more most good_rest short_rest few in
+    let here = part_after start now after kept kept' (concat has.reading_lines) said has.way part in
+    let longer = part_of_more start after kept (concat has.reading_lines ++ said) (concat rest.0) here in
+    let same : concat (has.reading_lines ++ said ∷ rest.0) ≡ (concat has.reading_lines ++ said) ++ concat rest.0 =
+    concat-append has.reading_lines (said ∷ rest.0) ∙ sym (append_assoc (concat has.reading_lines) said (concat rest.0)) in (
+      concat (has.reading_lines ++ said ∷ rest.0),
       record {
-        told = has.told ++ said ∷ rest.0;
-        lines = subst (λ (ls : List (List ℕ)). AreDecodedLines ls (has.told ++ said ∷ rest.0)) (sym split)
-            (told_both has.before (line ∷ more) has.told (said ∷ rest.0) has.decoded (decoded, rest.1));
+        reading_lines = has.reading_lines ++ said ∷ rest.0;
+        lines = subst (λ (ls : List (List ℕ)). AreDecodedLines ls (has.reading_lines ++ said ∷ rest.0)) (sym split)
+            (decoded_both has.before (line ∷ more) has.reading_lines (said ∷ rest.0) has.decoded (decoded, rest.1));
         whole = refl;
       },
       rw same longer,
@@ -153,22 +153,22 @@ over_part_last text before now after kept kept' none (output, is, over) wrote =
 abbrev pub IsReadOnce : Type 0
 IsReadOnce = (bytes : List ℕ) (a b : Result MessageValue WireFault) → IsReadAs bytes a → IsReadAs bytes b → a ≡ b
 
-one_told : (law : IsReadOnce) (line told other : List ℕ) → IsDecodedLine line told → IsDecodedLine line other → told ≡ other
-one_told law line told other p q =
+one_decoded : (law : IsReadOnce) (line one other : List ℕ) → IsDecodedLine line one → IsDecodedLine line other → one ≡ other
+one_decoded law line one other p q =
     let same : p.bytes ≡ q.bytes = decode_of-same line p.bytes q.bytes p.spelled q.spelled in
     let read : IsReadAs q.bytes p.reading = (let P : List ℕ → Type 0 = λ bytes. IsReadAs bytes p.reading in subst P same p.read) in
     p.said ∙ ap reading_line_of (law q.bytes p.reading q.reading read q.read) ∙ sym q.said
 
-lines_once : (law : IsReadOnce) (lines told others : List (List ℕ)) → AreDecodedLines lines told → AreDecodedLines lines others → told ≡ others
+lines_once : (law : IsReadOnce) (lines reading_lines others : List (List ℕ)) → AreDecodedLines lines reading_lines → AreDecodedLines lines others → reading_lines ≡ others
 lines_once law [] [] [] p q = refl
 lines_once law [] [] (o ∷ others) p q = absurd q
-lines_once law [] (t ∷ told) others p q = absurd p
+lines_once law [] (t ∷ reading_lines) others p q = absurd p
 lines_once law (l ∷ lines) [] others p q = absurd p
-lines_once law (l ∷ lines) (t ∷ told) [] p q = absurd q
-lines_once law (l ∷ lines) (t ∷ told) (o ∷ others) p q =
-    ap (λ (x : List ℕ). x ∷ told) (one_told law l t o p.0 q.0)
-    ∙ ap (λ (xs : List (List ℕ)). o ∷ xs) (lines_once law lines told others p.1 q.1)
+lines_once law (l ∷ lines) (t ∷ reading_lines) [] p q = absurd q
+lines_once law (l ∷ lines) (t ∷ reading_lines) (o ∷ others) p q =
+    ap (λ (x : List ℕ). x ∷ reading_lines) (one_decoded law l t o p.0 q.0)
+    ∙ ap (λ (xs : List (List ℕ)). o ∷ xs) (lines_once law lines reading_lines others p.1 q.1)
 
 pub one_output : (law : IsReadOnce) → HasOneOutput
 one_output law text output other p q =
-    p.whole ∙ ap concat (lines_once law (lines_of text) p.told q.told p.lines q.lines) ∙ sym q.whole
+    p.whole ∙ ap concat (lines_once law (lines_of text) p.reading_lines q.reading_lines p.lines q.lines) ∙ sym q.whole

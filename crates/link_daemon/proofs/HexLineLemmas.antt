@@ -1,18 +1,18 @@
 -- Lines of hex digits: which of them say bytes, and how far a text is checked.
-use Rattle.std.proofs.Common.{◌≡◌, inl, inr, refl, sym, subst, ap, ◌∙◌, arith, true, false, ℕ, ◌+◌, ◌*◌, ◌/◌, ◌%◌, ◌<◌, ◌≤◌, ◌^◌, max, List, [], ◌∷◌, ◌++◌, length, take, drop, slice_index, Ok}
+use Rattle.std.proofs.Common.{◌≡◌, ◌⊎◌, inl, inr, refl, sym, subst, ap, ◌∙◌, arith, true, false, ℕ, ◌+◌, ◌-◌, ◌*◌, ◌/◌, ◌%◌, ◌<◌, ◌≤◌, ◌^◌, max, List, [], ◌∷◌, ◌++◌, length, take, drop, slice_index, Ok}
 use Rattle.std.specs.List.{All, AllPass}
 use Rattle.std.proofs.lemmas.List.{append_assoc, append-nil, length_push, take_all}
-use Rattle.std.proofs.lemmas.List.Elements.{All-nil, All-push, All-tail, All-weaker, All-same}
-use Rattle.std.proofs.Math.Nat.{le-max_left, le-max_right, max-le}
+use Rattle.std.proofs.lemmas.List.Elements.{All-nil, All-push, All-tail, All-weaker, All-same, Contains-append_left, Contains-push}
+use Rattle.std.proofs.Math.Nat.{le-max_left, le-max_right, max-le, eq-or-lt_of_le}
 use Rattle.hex.specs.Hex.{decode_of, is_hex_digit}
 use Rattle.hex.proofs.HexLemmas.{decode_of-ok, decode_of-digits}
-use Rattle.link_daemon.specs.Lines.{lines_of}
-use Rattle.link_daemon.specs.HexLines.{IsHexLine, IsDecodable, IsBadLine, IsFirstBadLine, HasLinesWithin}
+use Rattle.link_daemon.specs.TextLines.{lines_of}
+use Rattle.link_daemon.specs.HexLines.{IsHexLine, IsDecodable, IsBadLine, IsFirstBadLine, HasLineAmong, IsLongestLine}
 use Rattle.link_daemon.specs.DecodeText.{AreDecodedLines, IsDecodeText}
 use Rattle.link_daemon.proofs.ScriptLemmas.{lines_end}
 
 -- a line outside the grammar says no bytes
-bad_line : (line bytes : List ℕ) → IsBadLine line → decode_of line ≡ Ok bytes → ⊥
+pub bad_line : (line bytes : List ℕ) → IsBadLine line → decode_of line ≡ Ok bytes → ⊥
 bad_line line bytes (inl odd) e =
     let ok = decode_of-ok line bytes e in
     omega (arith, ok.0)
@@ -24,18 +24,18 @@ bad_line line bytes (inr (k, within, other)) e =
     differ : true ≡ false → ⊥
     differ h = cc
 
-bad_among : (before : List (List ℕ)) (line : List ℕ) (after told : List (List ℕ)) → AreDecodedLines (before ++ line ∷ after) told
+bad_among : (before : List (List ℕ)) (line : List ℕ) (after reading_lines : List (List ℕ)) → AreDecodedLines (before ++ line ∷ after) reading_lines
     → IsBadLine line → ⊥
 bad_among [] line after [] are bad = are
-bad_among [] line after (t ∷ told) are bad = bad_line line are.0.bytes bad are.0.spelled
+bad_among [] line after (t ∷ reading_lines) are bad = bad_line line are.0.bytes bad are.0.spelled
 bad_among (b ∷ before) line after [] are bad = are
-bad_among (b ∷ before) line after (t ∷ told) are bad = bad_among before line after told are.1 bad
+bad_among (b ∷ before) line after (t ∷ reading_lines) are bad = bad_among before line after reading_lines are.1 bad
 
 -- a text with a first line at fault has no output
 pub bad_and_decoded : (text output : List ℕ) (k : ℕ) → IsFirstBadLine text k → IsDecodeText text output → ⊥
 bad_and_decoded text output k first whole =
-    bad_among first.before first.line first.after whole.told
-    (subst (λ (lines : List (List ℕ)). AreDecodedLines lines whole.told) first.split whole.lines) first.bad
+    bad_among first.before first.line first.after whole.reading_lines
+    (subst (λ (lines : List (List ℕ)). AreDecodedLines lines whole.reading_lines) first.split whole.lines) first.bad
 
 -- an even number of hex digits
 pub good_line : (line : List ℕ) (n : ℕ) → (length line % 2 ≡ 1 → ⊥) → AllPass is_hex_digit (take n line) → length line ≤ n → IsHexLine line
@@ -47,12 +47,13 @@ even_line line (bytes, e) =
     let ok = decode_of-ok line bytes e in
     ok.0
 
--- the lines before `at` are in the grammar, each says `longest` bytes at most, and `number` is the line there
+-- the lines before `at` are in the grammar, the longest of them says `longest` bytes, and `number` is the line there
 pub record HasChecked (text : List ℕ) (number at longest : ℕ) : Type 0 where
   pub before : List (List ℕ)
   pub lines : lines_of text ≡ before ++ lines_of (drop at text)
   pub good : All IsHexLine before
   pub most : All (λ line. length line ≤ 2 * longest) before
+  pub reached : HasLineAmong before longest
   pub numbered : number ≡ length before + 1
   pub further : number ≤ at + 1
   pub within : at ≤ length text
@@ -64,11 +65,32 @@ checked_none text = record {
   lines = refl;
   good = All-nil IsHexLine;
   most = All-nil (λ line. length line ≤ 2 * 0);
+  reached = inr (refl, refl);
   numbered = refl;
   further = omega arith;
   within = omega arith;
   less = omega arith;
 }
+
+-- the longest line of some, or the one behind them
+longest_of : (before : List (List ℕ)) (line : List ℕ) (longest longer : ℕ) → HasLineAmong before longest → length line % 2 ≡ 0
+    → longer ≡ max longest (length line / 2) → HasLineAmong (before ++ line ∷ []) longer
+longest_of before line longest longer reached even greatest =
+    let more : longest ≤ longer = rw greatest (le-max_left longest (length line / 2)) in
+    let enough : length line / 2 ≤ longer = rw greatest (le-max_right longest (length line / 2)) in
+    elim (eq-or-lt_of_le enough) [
+      | inl same ↦ inl (line, Contains-push before line, omega (arith, even, same))
+      | inr less ↦ kept less (eq-or-lt_of_le more) reached
+    ]
+  where
+    kept : length line / 2 < longer → (longest ≡ longer) ⊎ (longest < longer) → HasLineAmong before longest
+        → HasLineAmong (before ++ line ∷ []) longer
+    kept less (inl same) (inl (found, among, long)) =
+        inl (found, Contains-append_left before (line ∷ []) found among, omega (arith, same, long))
+    kept less (inl same) (inr (none, zero)) = absurd (omega (arith, same, zero, less))
+    kept less (inr above) found =
+        let least : max longest (length line / 2) ≤ longer - 1 = max-le (omega (arith, above)) (omega (arith, less)) in
+        absurd (omega (arith, greatest, least, above))
 
 -- a line more
 pub checked_more : (text line : List ℕ) (number at next longest longer : ℕ) → HasChecked text number at longest
@@ -86,6 +108,7 @@ checked_more text line number at next longest longer has lines further within sh
       good = All-push IsHexLine has.before line has.good good;
       most = All-push (λ l. length l ≤ 2 * longer) has.before line (All-weaker (λ l. length l ≤ 2 * longest) (λ l. length l ≤ 2 * longer) (λ l h. omega arith) has.before has.most)
           (omega (arith, even_line line good));
+      reached = longest_of has.before line longest longer has.reached (even_line line good) greatest;
       numbered = omega (arith, has.numbered, length_push has.before line);
       further = omega (arith, has.further);
       within = within;
@@ -114,7 +137,10 @@ pub checked_whole : (text : List ℕ) (number at longest : ℕ) → HasChecked t
 checked_whole text number at longest has all =
     All-same IsHexLine (lines_of text) has.before (all_lines text number at longest has all) has.good
 
-pub checked_within : (text : List ℕ) (number at longest : ℕ) → HasChecked text number at longest → length text ≤ at
-    → HasLinesWithin longest text
-checked_within text number at longest has all =
-    All-same (λ line. length line ≤ 2 * longest) (lines_of text) has.before (all_lines text number at longest has all) has.most
+pub checked_longest : (text : List ℕ) (number at longest : ℕ) → HasChecked text number at longest → length text ≤ at
+    → IsLongestLine text longest
+checked_longest text number at longest has all =
+    let lines = all_lines text number at longest has all in (
+      All-same (λ line. length line ≤ 2 * longest) (lines_of text) has.before lines has.most,
+      let P : List (List ℕ) → Type 0 = λ ls. HasLineAmong ls longest in subst P (sym lines) has.reached,
+    )

@@ -12,4 +12,6 @@ mod HexLineLemmas
 mod ReadingLemmas
 mod DecodeLemmas
 mod StatusLemmas
+mod FaultLineLemmas
 mod OneStatusLemmas
+mod ValidInputLemmas

@@ -3,7 +3,7 @@ use Rattle.std.proofs.Common.{◌≡◌, refl, sym, ◌∙◌, ap, arith, ℕ, z
 use Rattle.std.specs.List.{Contains, onto_first}
 use Rattle.std.proofs.lemmas.List.{take_rest, drop-drop, drop_at, length-drop, length-append, append_assoc, drop_all}
 use Rattle.std.proofs.lemmas.Bool.Decides.{nat_tests}
-use Rattle.link_daemon.specs.Lines.{lines_of}
+use Rattle.link_daemon.specs.TextLines.{lines_of}
 
 -- a byte that a list with more in front lacks is absent behind it too
 lacks_tail : (b x : ℕ) (xs : List ℕ) → (Contains (b ∷ xs) x → ⊥) → Contains xs x → ⊥

@@ -3,42 +3,43 @@ use Rattle.std.proofs.Common.{◌≡◌, ◌≢◌, ◌⊎◌, inl, inr, ◌<◌
 use Rattle.std.proofs.lemmas.List.{append-nil}
 use Rattle.lk_outside.specs.Faults.{Rose}
 use Rattle.lk_outside.specs.Source.{Takes, IsAtEnd}
-use Rattle.lk_outside.specs.Transfer.{TakesMoreThan}
+use Rattle.lk_outside.specs.Transfer.{TakesOver}
 use Rattle.std.specs.declared.alloc.Global.{Global}
 use Rattle.std.specs.declared.string.String.{String}
 use Rattle.link_daemon.specs.declared.status.Status.{Status}
 use Rattle.link_daemon.specs.declared.status.Status.TheVariants as status
-use Rattle.link_daemon.specs.Statuses.{Command, Stream, WasRead, ReadsText, ReadsFault, EndsBy, status_number_of, replay_command, decode_command}
-use Rattle.link_daemon.specs.OneStatus.{IsTold, HasOneStatus}
+use Rattle.link_daemon.specs.Statuses.{Command, Stream, WasRead, ReadsText, ReadsFault, EndsBy, replay_command, decode_command}
+use Rattle.link_daemon.specs.OneStatus.{IsTold, HasOneStatus, HasOneFaultLine}
 use Rattle.link_daemon.proofs.StatusLemmas.{not_both}
 use Rattle.link_daemon.proofs.HexLineLemmas.{bad_and_decoded}
+use Rattle.link_daemon.proofs.FaultLineLemmas.{one_script_fault, one_bad_line}
 
 -- a count that can rise does not both rise and stay
 rose_and_quiet : (before now : ℕ) → before < 2 ^ 64 - 1 → Rose before now → now ≡ before → ⊥
 rose_and_quiet before now counts rose quiet = omega (arith, rose.risen)
 
 -- what was taken up to the end is all that was told
-taken_is_all : (xs bytes : List ℕ) (after : Option (List ℕ)) → Takes (Some xs) bytes after → IsAtEnd after → xs ≡ bytes
+pub taken_is_all : (xs bytes : List ℕ) (after : Option (List ℕ)) → Takes (Some xs) bytes after → IsAtEnd after → xs ≡ bytes
 taken_is_all xs bytes None takes end = cc
 taken_is_all xs bytes (Some ys) takes end =
     let all : Some xs ≡ Some (bytes ++ ys) = takes in
     let same : xs ≡ bytes ++ ys = cc in
     same ∙ ap (λ (rest : List ℕ). bytes ++ rest) end ∙ append-nil bytes
 
-one_text : (told after : Option (List ℕ)) (first second : List ℕ) → IsSome told → Takes told first after → Takes told second after → IsAtEnd after → first ≡ second
+pub one_text : (told after : Option (List ℕ)) (first second : List ℕ) → IsSome told → Takes told first after → Takes told second after → IsAtEnd after → first ≡ second
 one_text None after first second tells one two end = cc
 one_text (Some xs) after first second tells one two end = sym (taken_is_all xs first after one end) ∙ taken_is_all xs second after two end
 
 -- what is within the limit is not more than the limit
 more_and_whole : (limit : ℕ) (input input' : Stream) (bytes : List ℕ) → IsSome input.told
-    → TakesMoreThan limit input.told input'.told → WasRead limit input input' bytes → ⊥
-more_and_whole limit input input' bytes tells (others, more, taken) read =
-    let same : others ≡ bytes = one_text input.told input'.told others bytes tells taken read.whole.taken read.whole.ended in
-    let long : length others ≡ length bytes = ap length same in
-    omega (arith, read.within)
+    → TakesOver limit input.told input'.told → WasRead limit input input' bytes → ⊥
+more_and_whole limit input input' bytes tells over read =
+    let same : over.bytes ≡ bytes = one_text input.told input'.told over.bytes bytes tells over.taken read.whole.taken read.whole.ended in
+    let long : length over.bytes ≡ length bytes = ap length same in
+    omega (arith, read.within, over.more)
 
 -- a text for which a command gives an output has no fault
-abbrev AreExclusive : Command → Type 0
+abbrev pub AreExclusive : Command → Type 0
 AreExclusive command = (text output : List ℕ) (line : ℕ) → command.FaultsAt text line → command.Gives text output → ⊥
 
 -- one text is not both in a grammar and outside it
@@ -48,119 +49,128 @@ fault_and_output command exclusive line input input' output tells faulty whole =
     let same : whole.bytes ≡ faulty.bytes = one_text input.told input'.told whole.bytes faulty.bytes tells whole.read.whole.taken faulty.read.whole.taken whole.read.whole.ended in
     exclusive faulty.bytes output line faulty.fault (let P : List ℕ → Type 0 = λ bytes. command.Gives bytes output in subst P same whole.gives)
 
+-- one text has one first line at fault
+one_line : (command : Command) → HasOneFaultLine command → (line other : ℕ) (input input' : Stream) → IsSome input.told
+    → ReadsFault command input input' line → ReadsFault command input input' other → line ≡ other
+one_line command once line other input input' tells p q =
+    let same : p.bytes ≡ q.bytes = one_text input.told input'.told p.bytes q.bytes tells p.read.whole.taken q.read.whole.taken p.read.whole.ended in
+    once q.bytes line other (let P : List ℕ → Type 0 = λ bytes. command.FaultsAt bytes line in subst P same p.fault) q.fault
+
 -- one run of one command
-one_of : (command : Command) → AreExclusive command → (words : List (String Global)) (input input' out out' : Stream) (one other : Status)
+one_of : (command : Command) → AreExclusive command → HasOneFaultLine command → (words : List (String Global)) (input input' out out' : Stream) (one other : Status)
     → IsTold input → out.faults < 2 ^ 64 - 1 → one ≢ status.Memory → other ≢ status.Memory
     → EndsBy command words input input' out out' one → EndsBy command words input input' out out' other
-    → status_number_of one ≡ status_number_of other
-one_of command exclusive words input input' out out' status.Done status.Done tells counts not_one not_other (named, (output, reads, wrote)) (named', (output', reads', wrote')) =
+    → one ≡ other
+one_of command exclusive once words input input' out out' status.Done status.Done tells counts not_one not_other (named, (output, reads, wrote)) (named', (output', reads', wrote')) =
     refl
-one_of command exclusive words input input' out out' status.Done status.Words tells counts not_one not_other (named, (output, reads, wrote)) (unnamed', same_in', same_out') =
+one_of command exclusive once words input input' out out' status.Done status.Words tells counts not_one not_other (named, (output, reads, wrote)) (unnamed', same_in', same_out') =
     absurd (unnamed' named)
-one_of command exclusive words input input' out out' status.Done status.Input tells counts not_one not_other (named, (output, reads, wrote)) (named', rose', same_out') =
+one_of command exclusive once words input input' out out' status.Done status.Input tells counts not_one not_other (named, (output, reads, wrote)) (named', rose', few', same_out') =
     absurd (rose_and_quiet _ _ tells.counts rose' reads.read.quiet)
-one_of command exclusive words input input' out out' status.Done status.Sink tells counts not_one not_other (named, (output, reads, wrote)) (named', (output', reads', wrote')) =
+one_of command exclusive once words input input' out out' status.Done status.Sink tells counts not_one not_other (named, (output, reads, wrote)) (named', (output', reads', wrote')) =
     absurd (rose_and_quiet _ _ counts wrote'.rose wrote.quiet)
-one_of command exclusive words input input' out out' status.Done (status.Script g' line') tells counts not_one not_other (named, (output, reads, wrote)) (named', same_grammar', reads', same_out') =
+one_of command exclusive once words input input' out out' status.Done (status.Script g' line') tells counts not_one not_other (named, (output, reads, wrote)) (named', same_grammar', reads', same_out') =
     absurd (fault_and_output command exclusive _ _ _ _ tells.told reads' reads)
-one_of command exclusive words input input' out out' status.Done status.Memory tells counts not_one not_other (named, (output, reads, wrote)) ends' =
+one_of command exclusive once words input input' out out' status.Done status.Memory tells counts not_one not_other (named, (output, reads, wrote)) ends' =
     absurd (not_other refl)
-one_of command exclusive words input input' out out' status.Done (status.TooLong limit') tells counts not_one not_other (named, (output, reads, wrote)) (named', same_limit', more', quiet', same_out') =
+one_of command exclusive once words input input' out out' status.Done (status.TooLong limit') tells counts not_one not_other (named, (output, reads, wrote)) (named', same_limit', more', quiet', same_out') =
     absurd (more_and_whole _ _ _ _ tells.told more' reads.read)
-one_of command exclusive words input input' out out' status.Words status.Done tells counts not_one not_other (unnamed, same_in, same_out) (named', (output', reads', wrote')) =
+one_of command exclusive once words input input' out out' status.Words status.Done tells counts not_one not_other (unnamed, same_in, same_out) (named', (output', reads', wrote')) =
     absurd (unnamed named')
-one_of command exclusive words input input' out out' status.Words status.Words tells counts not_one not_other (unnamed, same_in, same_out) (unnamed', same_in', same_out') =
+one_of command exclusive once words input input' out out' status.Words status.Words tells counts not_one not_other (unnamed, same_in, same_out) (unnamed', same_in', same_out') =
     refl
-one_of command exclusive words input input' out out' status.Words status.Input tells counts not_one not_other (unnamed, same_in, same_out) (named', rose', same_out') =
+one_of command exclusive once words input input' out out' status.Words status.Input tells counts not_one not_other (unnamed, same_in, same_out) (named', rose', few', same_out') =
     absurd (unnamed named')
-one_of command exclusive words input input' out out' status.Words status.Sink tells counts not_one not_other (unnamed, same_in, same_out) (named', (output', reads', wrote')) =
+one_of command exclusive once words input input' out out' status.Words status.Sink tells counts not_one not_other (unnamed, same_in, same_out) (named', (output', reads', wrote')) =
     absurd (unnamed named')
-one_of command exclusive words input input' out out' status.Words (status.Script g' line') tells counts not_one not_other (unnamed, same_in, same_out) (named', same_grammar', reads', same_out') =
+one_of command exclusive once words input input' out out' status.Words (status.Script g' line') tells counts not_one not_other (unnamed, same_in, same_out) (named', same_grammar', reads', same_out') =
     absurd (unnamed named')
-one_of command exclusive words input input' out out' status.Words status.Memory tells counts not_one not_other (unnamed, same_in, same_out) ends' =
+one_of command exclusive once words input input' out out' status.Words status.Memory tells counts not_one not_other (unnamed, same_in, same_out) ends' =
     absurd (not_other refl)
-one_of command exclusive words input input' out out' status.Words (status.TooLong limit') tells counts not_one not_other (unnamed, same_in, same_out) (named', same_limit', more', quiet', same_out') =
+one_of command exclusive once words input input' out out' status.Words (status.TooLong limit') tells counts not_one not_other (unnamed, same_in, same_out) (named', same_limit', more', quiet', same_out') =
     absurd (unnamed named')
-one_of command exclusive words input input' out out' status.Input status.Done tells counts not_one not_other (named, rose, same_out) (named', (output', reads', wrote')) =
+one_of command exclusive once words input input' out out' status.Input status.Done tells counts not_one not_other (named, rose, few, same_out) (named', (output', reads', wrote')) =
     absurd (rose_and_quiet _ _ tells.counts rose reads'.read.quiet)
-one_of command exclusive words input input' out out' status.Input status.Words tells counts not_one not_other (named, rose, same_out) (unnamed', same_in', same_out') =
+one_of command exclusive once words input input' out out' status.Input status.Words tells counts not_one not_other (named, rose, few, same_out) (unnamed', same_in', same_out') =
     absurd (unnamed' named)
-one_of command exclusive words input input' out out' status.Input status.Input tells counts not_one not_other (named, rose, same_out) (named', rose', same_out') =
+one_of command exclusive once words input input' out out' status.Input status.Input tells counts not_one not_other (named, rose, few, same_out) (named', rose', few', same_out') =
     refl
-one_of command exclusive words input input' out out' status.Input status.Sink tells counts not_one not_other (named, rose, same_out) (named', (output', reads', wrote')) =
+one_of command exclusive once words input input' out out' status.Input status.Sink tells counts not_one not_other (named, rose, few, same_out) (named', (output', reads', wrote')) =
     absurd (rose_and_quiet _ _ tells.counts rose reads'.read.quiet)
-one_of command exclusive words input input' out out' status.Input (status.Script g' line') tells counts not_one not_other (named, rose, same_out) (named', same_grammar', reads', same_out') =
+one_of command exclusive once words input input' out out' status.Input (status.Script g' line') tells counts not_one not_other (named, rose, few, same_out) (named', same_grammar', reads', same_out') =
     absurd (rose_and_quiet _ _ tells.counts rose reads'.read.quiet)
-one_of command exclusive words input input' out out' status.Input status.Memory tells counts not_one not_other (named, rose, same_out) ends' =
+one_of command exclusive once words input input' out out' status.Input status.Memory tells counts not_one not_other (named, rose, few, same_out) ends' =
     absurd (not_other refl)
-one_of command exclusive words input input' out out' status.Input (status.TooLong limit') tells counts not_one not_other (named, rose, same_out) (named', same_limit', more', quiet', same_out') =
+one_of command exclusive once words input input' out out' status.Input (status.TooLong limit') tells counts not_one not_other (named, rose, few, same_out) (named', same_limit', more', quiet', same_out') =
     absurd (rose_and_quiet _ _ tells.counts rose quiet')
-one_of command exclusive words input input' out out' status.Sink status.Done tells counts not_one not_other (named, (output, reads, wrote)) (named', (output', reads', wrote')) =
+one_of command exclusive once words input input' out out' status.Sink status.Done tells counts not_one not_other (named, (output, reads, wrote)) (named', (output', reads', wrote')) =
     absurd (rose_and_quiet _ _ counts wrote.rose wrote'.quiet)
-one_of command exclusive words input input' out out' status.Sink status.Words tells counts not_one not_other (named, (output, reads, wrote)) (unnamed', same_in', same_out') =
+one_of command exclusive once words input input' out out' status.Sink status.Words tells counts not_one not_other (named, (output, reads, wrote)) (unnamed', same_in', same_out') =
     absurd (unnamed' named)
-one_of command exclusive words input input' out out' status.Sink status.Input tells counts not_one not_other (named, (output, reads, wrote)) (named', rose', same_out') =
+one_of command exclusive once words input input' out out' status.Sink status.Input tells counts not_one not_other (named, (output, reads, wrote)) (named', rose', few', same_out') =
     absurd (rose_and_quiet _ _ tells.counts rose' reads.read.quiet)
-one_of command exclusive words input input' out out' status.Sink status.Sink tells counts not_one not_other (named, (output, reads, wrote)) (named', (output', reads', wrote')) =
+one_of command exclusive once words input input' out out' status.Sink status.Sink tells counts not_one not_other (named, (output, reads, wrote)) (named', (output', reads', wrote')) =
     refl
-one_of command exclusive words input input' out out' status.Sink (status.Script g' line') tells counts not_one not_other (named, (output, reads, wrote)) (named', same_grammar', reads', same_out') =
+one_of command exclusive once words input input' out out' status.Sink (status.Script g' line') tells counts not_one not_other (named, (output, reads, wrote)) (named', same_grammar', reads', same_out') =
     absurd (fault_and_output command exclusive _ _ _ _ tells.told reads' reads)
-one_of command exclusive words input input' out out' status.Sink status.Memory tells counts not_one not_other (named, (output, reads, wrote)) ends' =
+one_of command exclusive once words input input' out out' status.Sink status.Memory tells counts not_one not_other (named, (output, reads, wrote)) ends' =
     absurd (not_other refl)
-one_of command exclusive words input input' out out' status.Sink (status.TooLong limit') tells counts not_one not_other (named, (output, reads, wrote)) (named', same_limit', more', quiet', same_out') =
+one_of command exclusive once words input input' out out' status.Sink (status.TooLong limit') tells counts not_one not_other (named, (output, reads, wrote)) (named', same_limit', more', quiet', same_out') =
     absurd (more_and_whole _ _ _ _ tells.told more' reads.read)
-one_of command exclusive words input input' out out' (status.Script g line) status.Done tells counts not_one not_other (named, same_grammar, reads, same_out) (named', (output', reads', wrote')) =
+one_of command exclusive once words input input' out out' (status.Script g line) status.Done tells counts not_one not_other (named, same_grammar, reads, same_out) (named', (output', reads', wrote')) =
     absurd (fault_and_output command exclusive _ _ _ _ tells.told reads reads')
-one_of command exclusive words input input' out out' (status.Script g line) status.Words tells counts not_one not_other (named, same_grammar, reads, same_out) (unnamed', same_in', same_out') =
+one_of command exclusive once words input input' out out' (status.Script g line) status.Words tells counts not_one not_other (named, same_grammar, reads, same_out) (unnamed', same_in', same_out') =
     absurd (unnamed' named)
-one_of command exclusive words input input' out out' (status.Script g line) status.Input tells counts not_one not_other (named, same_grammar, reads, same_out) (named', rose', same_out') =
+one_of command exclusive once words input input' out out' (status.Script g line) status.Input tells counts not_one not_other (named, same_grammar, reads, same_out) (named', rose', few', same_out') =
     absurd (rose_and_quiet _ _ tells.counts rose' reads.read.quiet)
-one_of command exclusive words input input' out out' (status.Script g line) status.Sink tells counts not_one not_other (named, same_grammar, reads, same_out) (named', (output', reads', wrote')) =
+one_of command exclusive once words input input' out out' (status.Script g line) status.Sink tells counts not_one not_other (named, same_grammar, reads, same_out) (named', (output', reads', wrote')) =
     absurd (fault_and_output command exclusive _ _ _ _ tells.told reads reads')
-one_of command exclusive words input input' out out' (status.Script g line) (status.Script g' line') tells counts not_one not_other (named, same_grammar, reads, same_out) (named', same_grammar', reads', same_out') =
-    refl
-one_of command exclusive words input input' out out' (status.Script g line) status.Memory tells counts not_one not_other (named, same_grammar, reads, same_out) ends' =
+one_of command exclusive once words input input' out out' (status.Script g line) (status.Script g' line') tells counts not_one not_other (named, same_grammar, reads, same_out) (named', same_grammar', reads', same_out') =
+    let same : g ≡ g' = same_grammar ∙ sym same_grammar' in
+    let same_line : line ≡ line' = one_line command once line line' input input' tells.told reads reads' in
+    cc
+one_of command exclusive once words input input' out out' (status.Script g line) status.Memory tells counts not_one not_other (named, same_grammar, reads, same_out) ends' =
     absurd (not_other refl)
-one_of command exclusive words input input' out out' (status.Script g line) (status.TooLong limit') tells counts not_one not_other (named, same_grammar, reads, same_out) (named', same_limit', more', quiet', same_out') =
+one_of command exclusive once words input input' out out' (status.Script g line) (status.TooLong limit') tells counts not_one not_other (named, same_grammar, reads, same_out) (named', same_limit', more', quiet', same_out') =
     absurd (more_and_whole _ _ _ _ tells.told more' reads.read)
-one_of command exclusive words input input' out out' status.Memory status.Done tells counts not_one not_other ends (named', (output', reads', wrote')) =
+one_of command exclusive once words input input' out out' status.Memory status.Done tells counts not_one not_other ends (named', (output', reads', wrote')) =
     absurd (not_one refl)
-one_of command exclusive words input input' out out' status.Memory status.Words tells counts not_one not_other ends (unnamed', same_in', same_out') =
+one_of command exclusive once words input input' out out' status.Memory status.Words tells counts not_one not_other ends (unnamed', same_in', same_out') =
     absurd (not_one refl)
-one_of command exclusive words input input' out out' status.Memory status.Input tells counts not_one not_other ends (named', rose', same_out') =
+one_of command exclusive once words input input' out out' status.Memory status.Input tells counts not_one not_other ends (named', rose', few', same_out') =
     absurd (not_one refl)
-one_of command exclusive words input input' out out' status.Memory status.Sink tells counts not_one not_other ends (named', (output', reads', wrote')) =
+one_of command exclusive once words input input' out out' status.Memory status.Sink tells counts not_one not_other ends (named', (output', reads', wrote')) =
     absurd (not_one refl)
-one_of command exclusive words input input' out out' status.Memory (status.Script g' line') tells counts not_one not_other ends (named', same_grammar', reads', same_out') =
+one_of command exclusive once words input input' out out' status.Memory (status.Script g' line') tells counts not_one not_other ends (named', same_grammar', reads', same_out') =
     absurd (not_one refl)
-one_of command exclusive words input input' out out' status.Memory status.Memory tells counts not_one not_other ends ends' =
+one_of command exclusive once words input input' out out' status.Memory status.Memory tells counts not_one not_other ends ends' =
     absurd (not_one refl)
-one_of command exclusive words input input' out out' status.Memory (status.TooLong limit') tells counts not_one not_other ends (named', same_limit', more', quiet', same_out') =
+one_of command exclusive once words input input' out out' status.Memory (status.TooLong limit') tells counts not_one not_other ends (named', same_limit', more', quiet', same_out') =
     absurd (not_one refl)
-one_of command exclusive words input input' out out' (status.TooLong limit) status.Done tells counts not_one not_other (named, same_limit, more, quiet, same_out) (named', (output', reads', wrote')) =
+one_of command exclusive once words input input' out out' (status.TooLong limit) status.Done tells counts not_one not_other (named, same_limit, more, quiet, same_out) (named', (output', reads', wrote')) =
     absurd (more_and_whole _ _ _ _ tells.told more reads'.read)
-one_of command exclusive words input input' out out' (status.TooLong limit) status.Words tells counts not_one not_other (named, same_limit, more, quiet, same_out) (unnamed', same_in', same_out') =
+one_of command exclusive once words input input' out out' (status.TooLong limit) status.Words tells counts not_one not_other (named, same_limit, more, quiet, same_out) (unnamed', same_in', same_out') =
     absurd (unnamed' named)
-one_of command exclusive words input input' out out' (status.TooLong limit) status.Input tells counts not_one not_other (named, same_limit, more, quiet, same_out) (named', rose', same_out') =
+one_of command exclusive once words input input' out out' (status.TooLong limit) status.Input tells counts not_one not_other (named, same_limit, more, quiet, same_out) (named', rose', few', same_out') =
     absurd (rose_and_quiet _ _ tells.counts rose' quiet)
-one_of command exclusive words input input' out out' (status.TooLong limit) status.Sink tells counts not_one not_other (named, same_limit, more, quiet, same_out) (named', (output', reads', wrote')) =
+one_of command exclusive once words input input' out out' (status.TooLong limit) status.Sink tells counts not_one not_other (named, same_limit, more, quiet, same_out) (named', (output', reads', wrote')) =
     absurd (more_and_whole _ _ _ _ tells.told more reads'.read)
-one_of command exclusive words input input' out out' (status.TooLong limit) (status.Script g' line') tells counts not_one not_other (named, same_limit, more, quiet, same_out) (named', same_grammar', reads', same_out') =
+one_of command exclusive once words input input' out out' (status.TooLong limit) (status.Script g' line') tells counts not_one not_other (named, same_limit, more, quiet, same_out) (named', same_grammar', reads', same_out') =
     absurd (more_and_whole _ _ _ _ tells.told more reads'.read)
-one_of command exclusive words input input' out out' (status.TooLong limit) status.Memory tells counts not_one not_other (named, same_limit, more, quiet, same_out) ends' =
+one_of command exclusive once words input input' out out' (status.TooLong limit) status.Memory tells counts not_one not_other (named, same_limit, more, quiet, same_out) ends' =
     absurd (not_other refl)
-one_of command exclusive words input input' out out' (status.TooLong limit) (status.TooLong limit') tells counts not_one not_other (named, same_limit, more, quiet, same_out) (named', same_limit', more', quiet', same_out') =
-    refl
+one_of command exclusive once words input input' out out' (status.TooLong limit) (status.TooLong limit') tells counts not_one not_other (named, same_limit, more, quiet, same_out) (named', same_limit', more', quiet', same_out') =
+    ap status.TooLong (same_limit ∙ sym same_limit')
 
-replay_exclusive : AreExclusive replay_command
+pub replay_exclusive : AreExclusive replay_command
 replay_exclusive text output line fault (head, arrivals, script, same) = fault.1 head arrivals script
 
-decode_exclusive : AreExclusive decode_command
+pub decode_exclusive : AreExclusive decode_command
 decode_exclusive text output line fault whole = bad_and_decoded text output line fault whole
 
 pub one_status : HasOneStatus
 one_status words input input' out out' one other tells counts not_one not_other (inl (named, ends)) (inl (named', ends')) =
-    one_of replay_command replay_exclusive words input input' out out' one other tells counts not_one not_other ends ends'
+    one_of replay_command replay_exclusive one_script_fault words input input' out out' one other tells counts not_one not_other ends ends'
 one_status words input input' out out' one other tells counts not_one not_other (inl (named, ends)) (inr (inl (named', ends'))) =
     absurd (not_both words named named')
 one_status words input input' out out' one other tells counts not_one not_other (inl (named, ends)) (inr (inr unnamed)) =
@@ -168,7 +178,7 @@ one_status words input input' out out' one other tells counts not_one not_other 
 one_status words input input' out out' one other tells counts not_one not_other (inr (inl (named, ends))) (inl (named', ends')) =
     absurd (not_both words named' named)
 one_status words input input' out out' one other tells counts not_one not_other (inr (inl (named, ends))) (inr (inl (named', ends'))) =
-    one_of decode_command decode_exclusive words input input' out out' one other tells counts not_one not_other ends ends'
+    one_of decode_command decode_exclusive one_bad_line words input input' out out' one other tells counts not_one not_other ends ends'
 one_status words input input' out out' one other tells counts not_one not_other (inr (inl (named, ends))) (inr (inr unnamed)) =
     absurd (unnamed.no_decode named)
 one_status words input input' out out' one other tells counts not_one not_other (inr (inr unnamed)) (inl (named, ends)) =
@@ -176,4 +186,4 @@ one_status words input input' out out' one other tells counts not_one not_other 
 one_status words input input' out out' one other tells counts not_one not_other (inr (inr unnamed)) (inr (inl (named, ends))) =
     absurd (unnamed.no_decode named)
 one_status words input input' out out' one other tells counts not_one not_other (inr (inr unnamed)) (inr (inr unnamed')) =
-    ap status_number_of (unnamed.words_at_fault ∙ sym unnamed'.words_at_fault)
+    unnamed.words_at_fault ∙ sym unnamed'.words_at_fault

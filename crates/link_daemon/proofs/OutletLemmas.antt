@@ -1,11 +1,17 @@
 -- Text on its way to a sink: what a line, a whole write and a write that failed make of it, and several in order.
-use Rattle.std.proofs.Common.{◌≡◌, ◌+◌, ◌++◌, [], length, take, List, ℕ, Option, Some, None, refl, ap, sym, ◌∙◌, append_assoc, length-append, arith}
+use Rattle.std.proofs.Common.{◌≡◌, ◌≤◌, ◌+◌, ◌⊎◌, ◌++◌, [], inl, inr, length, take, List, ℕ, Option, Some, None, Result, Ok, Err, refl, ap, sym, ◌∙◌, append_assoc, length-append, arith}
 use Rattle.std.specs.Option.{option_map}
+use Rattle.std.specs.Result.{OnErr}
 use Rattle.std.proofs.Math.Seq.{take-append-add}
 use Rattle.std.proofs.lemmas.List.{append-nil, take-append-le}
 use Rattle.lk_outside.specs.Sink.{Appends}
 use Rattle.lk_outside.specs.Transfer.{AppendsPrefix}
 use Rattle.link_daemon.specs.Outlet.{HandsOver, HandsPart}
+
+-- what holds anyway holds where a failure is handed on
+pub on_failure : {T E P : Type 0} (result : Result T E) → P → OnErr result P
+on_failure (Ok value) holds = tt
+on_failure (Err failure) holds = holds
 
 -- nothing is appended
 pub appends_none : (told : Option (List ℕ)) → Appends told [] told
@@ -39,15 +45,23 @@ prefix_after before now after first second one (n, within, wrote) = (
 
 -- a line that is kept
 pub hands_kept : (told : Option (List ℕ)) (kept line : List ℕ) → HandsOver line told kept told (kept ++ line)
-hands_kept told kept line = record { done = []; appended = appends_none told; whole = refl }
+hands_kept told kept line = record { done = []; appended = appends_none told; whole = refl; large = inl refl }
 
 -- a line that is kept once what was kept before is written
-pub hands_next : (before after : Option (List ℕ)) (kept line : List ℕ) → Appends before kept after → HandsOver line before kept after line
-hands_next before after kept line wrote = record { done = kept; appended = wrote; whole = refl }
+pub hands_next : (before after : Option (List ℕ)) (kept line : List ℕ) → 64_337 ≤ length kept → Appends before kept after
+    → HandsOver line before kept after line
+hands_next before after kept line many wrote = record { done = kept; appended = wrote; whole = refl; large = inr many }
 
 -- nothing is handed over
 pub hands_none : (told : Option (List ℕ)) (kept : List ℕ) → HandsOver [] told kept told kept
-hands_none told kept = record { done = []; appended = appends_none told; whole = append-nil kept }
+hands_none told kept = record { done = []; appended = appends_none told; whole = append-nil kept; large = inl refl }
+
+-- nothing or many bytes, and then nothing or many
+large_both : (first second : List ℕ) → (first ≡ []) ⊎ (64_337 ≤ length first) → (second ≡ []) ⊎ (64_337 ≤ length second)
+    → (first ++ second ≡ []) ⊎ (64_337 ≤ length (first ++ second))
+large_both first second (inl none) (inl nothing) = inl (cc (none, nothing))
+large_both first second (inl none) (inr many) = inr (omega (arith, length-append first second, many))
+large_both first second (inr many) other = inr (omega (arith, length-append first second, many))
 
 -- one text and then another
 pub hands_both : (before now after : Option (List ℕ)) (kept kept' kept'' first second : List ℕ)
@@ -60,6 +74,7 @@ hands_both before now after kept kept' kept'' first second one two = record {
       ∙ append_assoc one.done kept' second
       ∙ ap (λ (xs : List ℕ). one.done ++ xs) two.whole
       ∙ sym (append_assoc one.done two.done kept'');
+  large = large_both one.done two.done one.large two.large;
 }
 
 -- one text, and then a part of another

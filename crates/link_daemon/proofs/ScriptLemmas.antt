@@ -7,12 +7,12 @@ use Rattle.lk_base.specs.declared.ids.NodeId.{NodeId}
 use Rattle.lk_base.specs.declared.endpoint.Endpoint.{Endpoint}
 use Rattle.link_daemon.specs.declared.script.Head.{Head}
 use Rattle.link_daemon.specs.declared.script.Arrival.{Arrival}
-use Rattle.link_daemon.specs.Lines.{lines_of}
+use Rattle.link_daemon.specs.TextLines.{lines_of}
 use Rattle.lk_base.specs.Endpoint.{IsEndpoint}
 use Rattle.link_text.specs.Words.{endpoint_text_of}
 use Rattle.link_daemon.specs.Script.{IsHead, IsArrivalLine, AreArrivalLines, IsScript, IsScriptOf, IsNoScript, BeginsScript, IsFirstFault, version_line, node_line, gate_line}
-use Rattle.link_daemon.specs.Reading.{HasHead, TakesArrival, LacksArrival, HasRead}
-use Rattle.link_daemon.specs.Faults.{IsLineFault}
+use Rattle.link_daemon.specs.Reading.{HasHead, TakesArrival, LacksArrival}
+use Rattle.link_daemon.specs.ScriptFaults.{IsLineFault}
 use Rattle.link_daemon.proofs.LineLemmas.{lines_none}
 use Rattle.link_daemon.proofs.HeadLemmas.{one_id}
 
@@ -170,6 +170,16 @@ script_push before h arrivals line a s says = record {
   said = ap (λ (ls : List (List ℕ)). ls ++ line ∷ []) s.said;
   come = lines_push h.id s.rest arrivals line a s.come says;
 }
+
+-- the lines before `at` are a script of this head and these arrivals, and `number` is the line there
+pub record HasRead (text : List ℕ) (h : Head) (arrivals : List Arrival) (number at : ℕ) : Type 0 where
+  pub before : List (List ℕ)
+  pub lines : lines_of text ≡ before ++ lines_of (drop at text)
+  pub script : IsScript before h arrivals
+  pub numbered : number ≡ length before + 1
+  pub count : number ≡ length arrivals + 4
+  pub further : number ≤ at + 1
+  pub within : at ≤ length text
 
 -- how far a text is read behind its head, and behind one line more
 pub read_none : (text : List ℕ) (h : Head) (at : ℕ) → HasHead text h at → HasRead text h [] 4 at

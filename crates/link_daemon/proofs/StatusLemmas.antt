@@ -15,7 +15,8 @@ ends_of_text command words input input' out out' bytes status.Sink named read (o
     (named, (output, record { bytes = bytes; read = read; gives = gives }, wrote))
 ends_of_text command words input input' out out' bytes (status.Script g line) named read (same_grammar, fault, same) =
     (named, same_grammar, record { bytes = bytes; read = read; fault = fault }, same)
-ends_of_text command words input input' out out' bytes status.Memory named read same = (named, read.quiet, same)
+ends_of_text command words input input' out out' bytes status.Memory named read same =
+    (named, (bytes, omega (arith, read.within), read.whole.taken), read.quiet, same)
 ends_of_text command words input input' out out' bytes status.Words named read never = absurd never
 ends_of_text command words input input' out out' bytes status.Input named read never = absurd never
 ends_of_text command words input input' out out' bytes (status.TooLong limit) named read never = absurd never

@@ -1,31 +1,31 @@
--- What a decode writes: for each line of the text, in order, the line that tells how its bytes are read.
+-- What a decode writes: for each line of the text, in order, the line that says how its bytes are read.
 use Rattle.std.specs.Prelude.{◌≡◌, ℕ, List, [], ◌∷◌, Result, Ok}
 use Rattle.std.specs.List.{concat}
 use Rattle.hex.specs.Hex.{decode_of}
 use Rattle.asdp_messages.specs.declared.fault.WireFault.{WireFault}
 use Rattle.asdp_messages.specs.Datagram.{MessageValue, IsReadAs}
 use Rattle.link_text.specs.ReadingLine.{reading_line_of}
-use Rattle.link_daemon.specs.Lines.{lines_of}
+use Rattle.link_daemon.specs.TextLines.{lines_of}
 
--- the line's digits, of either case, say the bytes of a datagram, and `told` says how that is read
-pub record IsDecodedLine (line told : List ℕ) : Type 0 where
+-- the line's digits, of either case, say the bytes of a datagram, and `reading_line` says how that is read
+pub record IsDecodedLine (line reading_line : List ℕ) : Type 0 where
   pub bytes : List ℕ
   pub spelled : decode_of line ≡ Ok bytes
   pub reading : Result MessageValue WireFault
   pub read : IsReadAs bytes reading
-  pub said : told ≡ reading_line_of reading
+  pub said : reading_line ≡ reading_line_of reading
 
--- each line with what is told of it
+-- each line with the one that says how it is read
 abbrev pub AreDecodedLines : List (List ℕ) → List (List ℕ) → Type 0
 AreDecodedLines [] [] = Unit {0}
-AreDecodedLines (line ∷ lines) (told ∷ rest) = IsDecodedLine line told × AreDecodedLines lines rest
-AreDecodedLines [] (told ∷ rest) = ⊥
+AreDecodedLines (line ∷ lines) (reading_line ∷ rest) = IsDecodedLine line reading_line × AreDecodedLines lines rest
+AreDecodedLines [] (reading_line ∷ rest) = ⊥
 AreDecodedLines (line ∷ lines) [] = ⊥
 
 pub record IsDecodeText (text output : List ℕ) : Type 0 where
-  pub told : List (List ℕ)
-  pub lines : AreDecodedLines (lines_of text) told
-  pub whole : output ≡ concat told
+  pub reading_lines : List (List ℕ)
+  pub lines : AreDecodedLines (lines_of text) reading_lines
+  pub whole : output ≡ concat reading_lines
 
 -- a text has one output at most
 abbrev pub HasOneOutput : Type 0

@@ -1,7 +1,7 @@
 -- The grammar of datagrams in hex, one a line: an even number of hex digits of either case, and nothing else.
-use Rattle.std.specs.Prelude.{◌≡◌, ◌<◌, ◌≤◌, ◌+◌, ◌*◌, ◌%◌, ℕ, false, List, ◌∷◌, ◌++◌, length, slice_index, All, Ok, ◌⊎◌}
+use Rattle.std.specs.Prelude.{◌≡◌, ◌<◌, ◌≤◌, ◌+◌, ◌*◌, ◌%◌, ℕ, false, List, [], ◌∷◌, ◌++◌, length, slice_index, All, Contains, Ok, ◌⊎◌}
 use Rattle.hex.specs.Hex.{decode_of, is_hex_digit}
-use Rattle.link_daemon.specs.Lines.{lines_of}
+use Rattle.link_daemon.specs.TextLines.{lines_of}
 
 -- the line says some bytes
 abbrev pub IsHexLine : List ℕ → Type 0
@@ -28,3 +28,12 @@ pub record IsFirstBadLine (text : List ℕ) (k : ℕ) : Type 0 where
 -- no line says more than so many bytes
 abbrev pub HasLinesWithin : ℕ → List ℕ → Type 0
 HasLinesWithin most text = All (λ line. length line ≤ 2 * most) (lines_of text)
+
+-- one of the lines says so many bytes, or there is no line and it is 0
+abbrev pub HasLineAmong : List (List ℕ) → ℕ → Type 0
+HasLineAmong lines most =
+    ((line : List ℕ) × Contains lines line × (length line ≡ 2 * most)) ⊎ ((lines ≡ []) × (most ≡ 0))
+
+-- the longest line of the text says so many bytes
+abbrev pub IsLongestLine : List ℕ → ℕ → Type 0
+IsLongestLine text most = HasLinesWithin most text × HasLineAmong (lines_of text) most

@@ -1,10 +1,12 @@
-pub mod Lines
+pub mod TextLines
 pub mod Script
 pub mod Reading
-pub mod Faults
+pub mod ScriptFaults
 pub mod Outlet
 pub mod ReplayText
 pub mod HexLines
 pub mod DecodeText
+pub mod Adapters
 pub mod Statuses
 pub mod OneStatus
+pub mod ValidInput

@@ -3,7 +3,7 @@ use Rattle.std.specs.Prelude.{◌≡◌, ℕ, ◌+◌, ◌≤◌, ◌<◌, List,
 use Rattle.lk_base.specs.declared.ids.NodeId.{NodeId}
 use Rattle.link_daemon.specs.declared.script.Head.{Head}
 use Rattle.link_daemon.specs.declared.script.Arrival.{Arrival}
-use Rattle.link_daemon.specs.Lines.{lines_of}
+use Rattle.link_daemon.specs.TextLines.{lines_of}
 use Rattle.link_daemon.specs.Script.{version_line, node_line, gate_line, IsHead, IsArrivalLine, IsScript}
 
 -- the lines of this head end where `at` is
@@ -27,13 +27,3 @@ pub record LacksArrival (id : NodeId) (text : List ℕ) (at : ℕ) : Type 0 wher
   pub after : List (List ℕ)
   pub lines : lines_of (drop at text) ≡ line ∷ after
   pub fault : (a : Arrival) → IsArrivalLine id line a → ⊥
-
--- the lines before `at` are a script of this head and these arrivals, and `number` is the line there
-pub record HasRead (text : List ℕ) (h : Head) (arrivals : List Arrival) (number at : ℕ) : Type 0 where
-  pub before : List (List ℕ)
-  pub lines : lines_of text ≡ before ++ lines_of (drop at text)
-  pub script : IsScript before h arrivals
-  pub numbered : number ≡ length before + 1
-  pub count : number ≡ length arrivals + 4
-  pub further : number ≤ at + 1
-  pub within : at ≤ length text

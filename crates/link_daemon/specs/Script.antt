@@ -7,7 +7,7 @@ use Rattle.lk_base.specs.Ranges.{IsMoment}
 use Rattle.lk_base.specs.declared.ids.NodeId.{NodeId}
 use Rattle.asdp_messages.specs.Spelling.{spelled_alive_of}
 use Rattle.asdp_messages.specs.Datagram.{IsPlainAlive}
-use Rattle.link_daemon.specs.Lines.{lines_of}
+use Rattle.link_daemon.specs.TextLines.{lines_of}
 use Rattle.lk_base.specs.Endpoint.{IsEndpoint}
 use Rattle.link_text.specs.Words.{truth_text_of, endpoint_text_of}
 use Rattle.link_daemon.specs.declared.script.Head.{Head}

@@ -1,12 +1,12 @@
 -- How a call of the program may end: each status with its cause, and what was read and written then. The statuses are tried in this order:
 -- the words, a failure of the source, a text over the limit, a text outside the command's grammar, a failure of the sink.
-use Rattle.std.specs.Prelude.{◌≡◌, ◌≤◌, ◌⊎◌, ℕ, List, [], ◌∷◌, Option, length, map, codes}
+use Rattle.std.specs.Prelude.{◌≡◌, ◌≤◌, ◌+◌, ◌⊎◌, ℕ, List, [], ◌∷◌, Option, length, map, codes}
 use Rattle.std.specs.String.{string_bytes}
 use Rattle.std.specs.declared.alloc.Global.{Global}
 use Rattle.std.specs.declared.string.String.{String}
 use Rattle.lk_outside.specs.Faults.{Rose}
 use Rattle.lk_outside.specs.Sink.{Appends}
-use Rattle.lk_outside.specs.Transfer.{ReadsWhole, TakesMoreThan, AppendsPrefix}
+use Rattle.lk_outside.specs.Transfer.{ReadsWhole, TakesOver, TakesWithin, AppendsPrefix}
 use Rattle.link_daemon.specs.Script.{IsScriptOf, IsNoScript, IsFirstFault}
 use Rattle.link_daemon.specs.ReplayText.{replay_text_of}
 use Rattle.link_daemon.specs.HexLines.{IsFirstBadLine}
@@ -35,6 +35,16 @@ status_number_of status.Sink = 7
 status_number_of (status.Script g line) = 8
 status_number_of status.Memory = 9
 status_number_of (status.TooLong limit) = 10
+
+-- what holds where the status is one of those that write nothing
+abbrev pub IfNothingWritten : Status → Type 0 → Type 0
+IfNothingWritten status.Done P = Unit {0}
+IfNothingWritten status.Sink P = Unit {0}
+IfNothingWritten status.Words P = P
+IfNothingWritten status.Input P = P
+IfNothingWritten (status.Script g line) P = P
+IfNothingWritten status.Memory P = P
+IfNothingWritten (status.TooLong limit) P = P
 
 -- A command that reads a text and writes another: the one word that names it, how many bytes it reads at most, the grammar of its
 -- texts, what it writes for a text in the grammar, and which line of a text outside it is the first at fault.
@@ -116,17 +126,19 @@ EndsBy command words input input' out out' status.Done =
     Names command words × ((output : List ℕ) × ReadsText command input input' output × WritesWhole out out' output)
 EndsBy command words input input' out out' status.Words = (Names command words → ⊥) × (input' ≡ input) × (out' ≡ out)
 EndsBy command words input input' out out' status.Input =
-    Names command words × Rose input.faults input'.faults × (out' ≡ out)
+    Names command words
+    × Rose input.faults input'.faults × TakesWithin command.limit input.told input'.told × (out' ≡ out)
 EndsBy command words input input' out out' (status.TooLong limit) =
     Names command words
-    × (limit ≡ command.limit) × TakesMoreThan command.limit input.told input'.told × (input'.faults ≡ input.faults) × (out' ≡ out)
+    × (limit ≡ command.limit) × TakesOver command.limit input.told input'.told × (input'.faults ≡ input.faults) × (out' ≡ out)
 EndsBy command words input input' out out' (status.Script g line) =
     Names command words × (g ≡ command.grammar) × ReadsFault command input input' line × (out' ≡ out)
 EndsBy command words input input' out out' status.Sink =
     Names command words × ((output : List ℕ) × ReadsText command input input' output × WritesPart out out' output)
 -- want of memory may come of any run, before anything is written
 EndsBy command words input input' out out' status.Memory =
-    Names command words × (input'.faults ≡ input.faults) × (out' ≡ out)
+    Names command words
+    × TakesWithin (command.limit + 65_536) input.told input'.told × (input'.faults ≡ input.faults) × (out' ≡ out)
 
 abbrev pub EndsReplay : List (String Global) → Stream → Stream → Stream → Stream → Status → Type 0
 EndsReplay = EndsBy replay_command

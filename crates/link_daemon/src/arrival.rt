@@ -68,7 +68,9 @@ fn message_of(word: &[u8], id: &NodeId) -> Option<StateMsg>
     ensures none { IfNone result ((m : StateMsg) → IsPlainAlive m → m.fields.session ≢ id.now →
         decode_of word.now ≡ Ok (spelled_alive_of m) → ⊥) }
 {
+    // A law, for the proof: a plain alive is spelled in 107 bytes.
     alive_len();
+    // A law, for the proof: bytes spell one plain alive at most.
     one_alive();
     let Some(wire) = wire_of(word) else {
         return None;

@@ -1,19 +1,18 @@
 //! The command `decode`: how each datagram of a text is read.
 
-ghost use Rattle.std.specs.Prelude.{◌≡◌, ◌≤◌, ◌*◌, List, ℕ, [], length};
-ghost use Rattle.std.specs.Bool.{OnTrue, OnFalse};
+ghost use Rattle.std.specs.Prelude.{◌≡◌, ◌≤◌, ◌*◌, List, ℕ, [], length, OnOk, OnErr};
 ghost use Rattle.lk_outside.specs.Faults.{Rose};
 ghost use Rattle.lk_outside.specs.Sink.{Appends};
 ghost use Rattle.lk_outside.specs.Transfer.{AppendsPrefix};
 ghost use Rattle.link_daemon.specs.Outlet.{HandsOver, HandsPart};
 ghost use Rattle.link_daemon.specs.HexLines.{HasLinesWithin, IsDecodable, IsHexLine};
 ghost use Rattle.link_daemon.specs.DecodeText.{IsDecodedLine, IsDecodeText};
-ghost use Rattle.link_daemon.specs.Statuses.{EndsDecode, EndsText, decode_command, seen};
+ghost use Rattle.link_daemon.specs.Statuses.{EndsDecode, EndsText, IfNothingWritten, decode_command, seen};
 
 use crate::command_line::is_only;
 use crate::hex_lines::longest_line;
 use crate::line::line_at;
-use crate::outlet::Outlet;
+use crate::outlet::{Outlet, SinkFailed};
 use crate::status::{Grammar, Status};
 use asdp_messages::{all_are_read, ping_payload_len, read_datagram};
 use link_text::{LineBuf, write_reading};
@@ -21,10 +20,10 @@ use lk_outside::{InputFault, Sink, Source, read_all};
 use std::alloc::Global;
 
 /// How many bytes of a text are read at most.
-const LIMIT: usize = 16_777_216;
+const TEXT_MAX: usize = 16_777_216;
 
 /// Decodes the datagrams on `input`: reads and checks the whole text, and then writes to `out` a line for each of its lines,
-/// which tells how the bytes that the line says are read. Nothing is written unless the whole text is in the grammar.
+/// which says how the bytes that the line spells are read. Nothing is written unless the whole text is in the grammar.
 ///
 /// Waits: in the objects' calls alone. Memory: the text, the longest line's bytes and the outlet, all of it before the first write.
 pub fn decode_main<S: Source, K: Sink>(
@@ -37,17 +36,18 @@ pub fn decode_main<S: Source, K: Sink>(
         (seen S.left S.faults input.old) (seen S.left S.faults input.new)
         (seen K.written K.faults out.old) (seen K.written K.faults out.new) result }
 
-    // No object is called.
+    // No object is called, or the sink isn't.
     ensures untouched { result ≡ Status.Words → (input.new ≡ input.old) × (out.new ≡ out.old) }
+    ensures unwritten { IfNothingWritten result (out.new ≡ out.old) }
 {
     if !is_only(words, "decode") {
         return Status::Words;
     }
-    match read_all(alloc, input, LIMIT) {
+    match read_all(alloc, input, TEXT_MAX) {
         Ok(text) => decode_text(alloc, &text, out),
         Err(InputFault::Failed) => Status::Input,
         Err(InputFault::TooLong) => Status::TooLong {
-            limit: LIMIT as u64,
+            limit: TEXT_MAX as u64,
         },
         Err(InputFault::Memory(_)) => Status::Memory,
     }
@@ -56,8 +56,9 @@ pub fn decode_main<S: Source, K: Sink>(
 // Decodes a text that was read.
 fn decode_text<K: Sink>(alloc: Global, text: &[u8], out: &mut K) -> Status
     requires { length text.now ≤ 16_777_216 }
-    ensures { EndsText decode_command text.now
+    ensures ends { EndsText decode_command text.now
         (seen K.written K.faults out.old) (seen K.written K.faults out.new) result }
+    ensures unwritten { IfNothingWritten result (out.new ≡ out.old) }
 {
     let longest = match longest_line(text) {
         Ok(longest) => longest,
@@ -74,63 +75,66 @@ fn decode_text<K: Sink>(alloc: Global, text: &[u8], out: &mut K) -> Status
     let Ok(mut outlet) = Outlet::new(alloc) else {
         return Status::Memory;
     };
-    if write_decode(text, &mut bytes, &mut outlet, out) {
-        Status::Done
-    } else {
-        Status::Sink
+    match write_decode(text, &mut bytes, &mut outlet, out) {
+        Ok(()) => Status::Done,
+        Err(SinkFailed) => Status::Sink,
     }
 }
 
-// Writes the whole output through an outlet that keeps nothing yet. False is the sink's failure.
-fn write_decode<K: Sink>(text: &[u8], bytes: &mut [u8], outlet: &mut Outlet, out: &mut K) -> bool
+// Writes the whole output through an outlet that keeps nothing yet.
+fn write_decode<K: Sink>(
+    text: &[u8],
+    bytes: &mut [u8],
+    outlet: &mut Outlet,
+    out: &mut K,
+) -> Result<(), SinkFailed>
     requires lines { IsDecodable text.now }
     requires room { HasLinesWithin (length bytes.old) text.now }
     requires few { length bytes.old ≤ 16_777_216 }
     requires empty { outlet.old.kept.items ≡ [] }
-    ensures whole { OnTrue result ((output : List ℕ) × IsDecodeText text.now output
+    ensures whole { OnOk result ((output : List ℕ) × IsDecodeText text.now output
         × Appends (K.written out.old) output (K.written out.new)) }
-    ensures part { OnFalse result ((output : List ℕ) × IsDecodeText text.now output
+    ensures part { OnErr result ((output : List ℕ) × IsDecodeText text.now output
         × AppendsPrefix (K.written out.old) output (K.written out.new)) }
-    ensures quiet { OnTrue result (K.faults out.new ≡ K.faults out.old) }
-    ensures cause { OnFalse result (Rose (K.faults out.old) (K.faults out.new)) }
+    ensures quiet { OnOk result (K.faults out.new ≡ K.faults out.old) }
+    ensures cause { OnErr result (Rose (K.faults out.old) (K.faults out.new)) }
 {
-    if !hand_lines(text, bytes, outlet, out) {
-        return false;
-    }
-    if !outlet.flush(out) {
-        return false;
-    }
-    true
+    hand_lines(text, bytes, outlet, out)?;
+    outlet.flush(out)?;
+    Ok(())
 }
 
-// Hands over what is told of each line. False is the sink's failure.
-fn hand_lines<K: Sink>(text: &[u8], bytes: &mut [u8], outlet: &mut Outlet, out: &mut K) -> bool
+// Hands over how each line is read.
+fn hand_lines<K: Sink>(
+    text: &[u8],
+    bytes: &mut [u8],
+    outlet: &mut Outlet,
+    out: &mut K,
+) -> Result<(), SinkFailed>
     requires lines { IsDecodable text.now }
     requires room { HasLinesWithin (length bytes.old) text.now }
     requires few { length bytes.old ≤ 16_777_216 }
-    ensures kept { OnTrue result ((output : List ℕ) × IsDecodeText text.now output
+    ensures kept { OnOk result ((output : List ℕ) × IsDecodeText text.now output
         × HandsOver output (K.written out.old) outlet.old.kept.items (K.written out.new) outlet.new.kept.items) }
-    ensures part { OnFalse result ((output : List ℕ) × IsDecodeText text.now output
+    ensures part { OnErr result ((output : List ℕ) × IsDecodeText text.now output
         × HandsPart output (K.written out.old) outlet.old.kept.items (K.written out.new)) }
-    ensures quiet { OnTrue result (K.faults out.new ≡ K.faults out.old) }
-    ensures cause { OnFalse result (Rose (K.faults out.old) (K.faults out.new)) }
+    ensures quiet { OnOk result (K.faults out.new ≡ K.faults out.old) }
+    ensures cause { OnErr result (Rose (K.faults out.old) (K.faults out.new)) }
 {
+    // A law, for the proof: every line is read as something, so that the text has an output where the sink fails too.
+    all_are_read();
     let mut line = LineBuf::new();
     let mut at = 0;
     while at < text.len() {
         let (digits, next) = line_at(text, at);
         put_reading(&mut line, digits, bytes);
-        if !outlet.put_line(out, line.as_slice()) {
-            // A law, for the proof: the lines left have an output too.
-            all_are_read();
-            return false;
-        }
+        outlet.put_line(out, line.as_slice())?;
         at = next;
     }
-    true
+    Ok(())
 }
 
-// Puts what is told of a line in place of what the buffer held.
+// Puts how a line is read in place of what the buffer held.
 fn put_reading(line: &mut LineBuf, digits: &[u8], bytes: &mut [u8])
     requires hex { IsHexLine digits.now }
     requires room { length digits.now ≤ 2 * length bytes.old }

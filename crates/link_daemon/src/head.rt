@@ -7,7 +7,7 @@ ghost use Rattle.lk_base.specs.Endpoint.{IsEndpoint};
 ghost use Rattle.link_text.specs.Words.{endpoint_text_of};
 ghost use Rattle.link_daemon.specs.Script.{version_line, node_line, IsHead};
 ghost use Rattle.link_daemon.specs.Reading.{HasHead};
-ghost use Rattle.link_daemon.specs.Faults.{IsLineFault};
+ghost use Rattle.link_daemon.specs.ScriptFaults.{IsLineFault};
 
 use crate::endpoint::endpoint_of;
 use crate::line::line_at;

@@ -3,16 +3,16 @@
 ghost use Rattle.std.specs.Prelude.{◌≡◌, ◌≤◌, ◌-◌, ◌^◌, length, IfOk, IfErr};
 ghost use Rattle.std.specs.Bool.{OnTrue, OnFalse};
 ghost use Rattle.hex.specs.Hex.{is_hex_digit};
-ghost use Rattle.link_daemon.specs.HexLines.{HasLinesWithin, IsBadLine, IsDecodable, IsFirstBadLine, IsHexLine};
+ghost use Rattle.link_daemon.specs.HexLines.{IsBadLine, IsDecodable, IsFirstBadLine, IsHexLine, IsLongestLine};
 
 use crate::line::line_at;
 
-/// Checks that each line is an even number of hex digits. Ok is the number of bytes that the longest of them says, and the
-/// error is the first line at fault, counted from 1.
+/// Checks that each line is an even number of hex digits. Ok is the number of bytes that the longest of them says, 0 where there is
+/// none, and the error is the first line at fault, counted from 1.
 pub fn longest_line(text: &[u8]) -> Result<usize, u32>
     requires { length text.now ≤ 2 ^ 32 - 2 }
     ensures lines { IfOk result (λ longest. IsDecodable text.now) }
-    ensures longest { IfOk result (λ longest. HasLinesWithin longest text.now) }
+    ensures longest { IfOk result (IsLongestLine text.now) }
     ensures within { IfOk result (λ longest. longest ≤ length text.now) }
     ensures fault { IfErr result (IsFirstBadLine text.now) }
 {

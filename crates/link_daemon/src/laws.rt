@@ -1,18 +1,31 @@
 //! Laws of the program, each the contract of a function that does nothing.
 
 ghost use Rattle.link_daemon.specs.DecodeText.{HasOneOutput};
-ghost use Rattle.link_daemon.specs.OneStatus.{HasOneStatus};
+ghost use Rattle.link_daemon.specs.OneStatus.{HasOneStatus, HaveOneFaultLine};
+ghost use Rattle.link_daemon.specs.ValidInput.{CompleteValid};
 
 use asdp_messages::one_reading;
 
-/// The causes of two statuses never hold together: what a run did names its status. Want of memory is the one free answer.
+/// The causes of two statuses never hold together: what a run did names its status, with the line at fault. Want of memory is the
+/// one free answer.
 pub fn one_status()
     ensures { HasOneStatus }
+{}
+
+/// The first line at fault of a script, and of a text of datagrams, is one line.
+pub fn one_fault_line()
+    ensures { HaveOneFaultLine }
+{}
+
+/// A run of a command over a valid input is done, or there was no memory, unless a count of failures rose.
+pub fn valid_is_done()
+    ensures { CompleteValid }
 {}
 
 /// A text of datagrams has one output at most, since a datagram is read in one way only.
 pub fn one_output()
     ensures { HasOneOutput }
 {
+    // A law, for the proof: bytes are read in one way only.
     one_reading();
 }

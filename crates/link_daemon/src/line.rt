@@ -1,7 +1,7 @@
 //! The lines of a text, each ended by a line feed, which the last may lack.
 
 ghost use Rattle.std.specs.Prelude.{◌≡◌, ◌<◌, ◌≤◌, ◌∷◌, length, drop};
-ghost use Rattle.link_daemon.specs.Lines.{lines_of};
+ghost use Rattle.link_daemon.specs.TextLines.{lines_of};
 
 use crate::word::cut_at;
 

@@ -1,7 +1,6 @@
 //! Lines on their way to a sink, which gets them in large pieces.
 
-ghost use Rattle.std.specs.Prelude.{◌≡◌, ◌≤◌, ◌+◌, ◌++◌, [], length, IfOk};
-ghost use Rattle.std.specs.Bool.{OnTrue, OnFalse};
+ghost use Rattle.std.specs.Prelude.{◌≡◌, ◌≤◌, ◌+◌, ◌++◌, [], length, IfOk, OnOk, OnErr};
 ghost use Rattle.std.specs.Vec.{vec_capacity};
 ghost use Rattle.lk_outside.specs.Faults.{Rose};
 ghost use Rattle.lk_outside.specs.Sink.{Appends};
@@ -16,6 +15,10 @@ const ROOM: usize = 65_536;
 
 /// The longest line that may be handed over, as `LineBuf` holds it.
 const LONGEST_LINE: usize = 1200;
+
+/// The sink failed while text was handed over to it.
+#[derive(Clone, Copy, Debug, PartialEq, Eq)]
+pub struct SinkFailed;
 
 /// Bytes that were handed over and aren't written yet.
 #[derive(Debug, Drop)]
@@ -35,23 +38,22 @@ impl Outlet {
         })
     }
 
-    /// Hands over a line. Where there might be no room for it, what is kept is written first. False is the sink's failure.
-    pub fn put_line<K: Sink>(&mut self, out: &mut K, line: &[u8]) -> bool
+    /// Hands over a line. Where there might be no room for it, what is kept is written first, which is at least 64,337 bytes.
+    pub fn put_line<K: Sink>(&mut self, out: &mut K, line: &[u8]) -> Result<(), SinkFailed>
         requires { length line.now ≤ 1200 }
-        ensures kept { OnTrue result (HandsOver line.now (K.written out.old) self.old.kept.items (K.written out.new) self.new.kept.items) }
-        ensures part { OnFalse result (HandsPart line.now (K.written out.old) self.old.kept.items (K.written out.new)) }
-        ensures quiet { OnTrue result (K.faults out.new ≡ K.faults out.old) }
-        ensures cause { OnFalse result (Rose (K.faults out.old) (K.faults out.new)) }
+        ensures bounded { length self.new.kept.items ≤ 65_536 }
+        ensures kept { OnOk result (HandsOver line.now (K.written out.old) self.old.kept.items (K.written out.new) self.new.kept.items) }
+        ensures part { OnErr result (HandsPart line.now (K.written out.old) self.old.kept.items (K.written out.new)) }
+        ensures quiet { OnOk result (K.faults out.new ≡ K.faults out.old) }
+        ensures cause { OnErr result (Rose (K.faults out.old) (K.faults out.new)) }
     {
         if self.kept.len() <= ROOM - LONGEST_LINE {
             self.keep(line);
-            return true;
+            return Ok(());
         }
-        if !self.flush(out) {
-            return false;
-        }
+        self.flush(out)?;
         self.keep(line);
-        true
+        Ok(())
     }
 
     // Keeps a line for which there is room.
@@ -62,18 +64,18 @@ impl Outlet {
         self.kept.extend_from_slice(line).unwrap();
     }
 
-    /// Writes what is kept. False is the sink's failure.
-    pub fn flush<K: Sink>(&mut self, out: &mut K) -> bool
-        ensures emptied { OnTrue result (self.new.kept.items ≡ []) }
-        ensures whole { OnTrue result (Appends (K.written out.old) self.old.kept.items (K.written out.new)) }
-        ensures part { OnFalse result (AppendsPrefix (K.written out.old) self.old.kept.items (K.written out.new)) }
-        ensures quiet { OnTrue result (K.faults out.new ≡ K.faults out.old) }
-        ensures cause { OnFalse result (Rose (K.faults out.old) (K.faults out.new)) }
+    /// Writes what is kept.
+    pub fn flush<K: Sink>(&mut self, out: &mut K) -> Result<(), SinkFailed>
+        ensures emptied { OnOk result (self.new.kept.items ≡ []) }
+        ensures whole { OnOk result (Appends (K.written out.old) self.old.kept.items (K.written out.new)) }
+        ensures part { OnErr result (AppendsPrefix (K.written out.old) self.old.kept.items (K.written out.new)) }
+        ensures quiet { OnOk result (K.faults out.new ≡ K.faults out.old) }
+        ensures cause { OnErr result (Rose (K.faults out.old) (K.faults out.new)) }
     {
         if !write_whole(out, &self.kept) {
-            return false;
+            return Err(SinkFailed);
         }
         self.kept.clear();
-        true
+        Ok(())
     }
 }

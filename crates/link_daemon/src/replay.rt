@@ -1,17 +1,16 @@
 //! The command `replay`: what a node answers to the datagrams of a script.
 
-ghost use Rattle.std.specs.Prelude.{◌≡◌, ◌≤◌, [], length, count_by, if◌then◌else◌, IfSome, IfNone, OnSome};
-ghost use Rattle.std.specs.Bool.{OnTrue, OnFalse};
+ghost use Rattle.std.specs.Prelude.{◌≡◌, ◌≤◌, [], length, count_by, if◌then◌else◌, IfOk, OnOk, OnErr};
 ghost use Rattle.std.specs.List.{flat_map};
 ghost use Rattle.lk_outside.specs.Faults.{Rose};
 ghost use Rattle.lk_outside.specs.Sink.{Appends};
 ghost use Rattle.lk_outside.specs.Transfer.{AppendsPrefix};
 ghost use Rattle.link_daemon.specs.Outlet.{HandsOver, HandsPart};
 ghost use Rattle.link_daemon.specs.ReplayText.{answer_text_of, done_line_of, is_answered, opening_line_of, replay_text_of, response_hex_of};
-ghost use Rattle.link_daemon.specs.Statuses.{EndsReplay, EndsText, replay_command, seen};
+ghost use Rattle.link_daemon.specs.Statuses.{EndsReplay, EndsText, IfNothingWritten, replay_command, seen};
 
 use crate::command_line::is_only;
-use crate::outlet::Outlet;
+use crate::outlet::{Outlet, SinkFailed};
 use crate::replay_lines::{ResponseHex, answers, put_done, put_opening, put_sending, response_hex};
 use crate::script::{Arrival, Head, ScriptFault, read_script};
 use crate::status::{Grammar, Status};
@@ -20,7 +19,7 @@ use lk_outside::{InputFault, Sink, Source, read_all};
 use std::alloc::Global;
 
 /// How many bytes of a script are read at most.
-const LIMIT: usize = 1_073_741_824;
+const SCRIPT_MAX: usize = 1_073_741_824;
 
 /// Replays the script on `input`: reads and checks it whole, and then writes to `out` the opening state, a response
 /// to each alive that the node answers, and how much there was. Nothing is written unless the whole script is in the grammar.
@@ -36,17 +35,18 @@ pub fn replay_main<S: Source, K: Sink>(
         (seen S.left S.faults input.old) (seen S.left S.faults input.new)
         (seen K.written K.faults out.old) (seen K.written K.faults out.new) result }
 
-    // No object is called.
+    // No object is called, or the sink isn't.
     ensures untouched { result ≡ Status.Words → (input.new ≡ input.old) × (out.new ≡ out.old) }
+    ensures unwritten { IfNothingWritten result (out.new ≡ out.old) }
 {
     if !is_only(words, "replay") {
         return Status::Words;
     }
-    match read_all(alloc, input, LIMIT) {
+    match read_all(alloc, input, SCRIPT_MAX) {
         Ok(text) => replay_text(alloc, &text, out),
         Err(InputFault::Failed) => Status::Input,
         Err(InputFault::TooLong) => Status::TooLong {
-            limit: LIMIT as u64,
+            limit: SCRIPT_MAX as u64,
         },
         Err(InputFault::Memory(_)) => Status::Memory,
     }
@@ -55,7 +55,8 @@ pub fn replay_main<S: Source, K: Sink>(
 // Replays a script that was read.
 fn replay_text<K: Sink>(alloc: Global, text: &[u8], out: &mut K) -> Status
     requires { length text.now ≤ 1_073_741_824 }
-    ensures { EndsText replay_command text.now (seen K.written K.faults out.old) (seen K.written K.faults out.new) result }
+    ensures ends { EndsText replay_command text.now (seen K.written K.faults out.old) (seen K.written K.faults out.new) result }
+    ensures unwritten { IfNothingWritten result (out.new ≡ out.old) }
 {
     let script = match read_script(alloc, text) {
         Ok(script) => script,
@@ -70,49 +71,40 @@ fn replay_text<K: Sink>(alloc: Global, text: &[u8], out: &mut K) -> Status
     let Ok(mut outlet) = Outlet::new(alloc) else {
         return Status::Memory;
     };
-    if write_replay(&script.head, &script.arrivals, &mut outlet, out) {
-        Status::Done
-    } else {
-        Status::Sink
+    match write_replay(&script.head, &script.arrivals, &mut outlet, out) {
+        Ok(()) => Status::Done,
+        Err(SinkFailed) => Status::Sink,
     }
 }
 
-// Writes the whole text of a replay through an outlet that keeps nothing yet. False is the sink's failure.
+// Writes the whole text of a replay through an outlet that keeps nothing yet.
 fn write_replay<K: Sink>(
     head: &Head,
     arrivals: &[Arrival],
     outlet: &mut Outlet,
     out: &mut K,
-) -> bool
+) -> Result<(), SinkFailed>
     requires { outlet.old.kept.items ≡ [] }
-    ensures whole { OnTrue result (Appends (K.written out.old) (replay_text_of head.now arrivals.now) (K.written out.new)) }
-    ensures part { OnFalse result (AppendsPrefix (K.written out.old) (replay_text_of head.now arrivals.now) (K.written out.new)) }
-    ensures quiet { OnTrue result (K.faults out.new ≡ K.faults out.old) }
-    ensures cause { OnFalse result (Rose (K.faults out.old) (K.faults out.new)) }
+    ensures whole { OnOk result (Appends (K.written out.old) (replay_text_of head.now arrivals.now) (K.written out.new)) }
+    ensures part { OnErr result (AppendsPrefix (K.written out.old) (replay_text_of head.now arrivals.now) (K.written out.new)) }
+    ensures quiet { OnOk result (K.faults out.new ≡ K.faults out.old) }
+    ensures cause { OnErr result (Rose (K.faults out.old) (K.faults out.new)) }
 {
-    if !hand_opening(head, outlet, out) {
-        return false;
-    }
-    let Some(sends) = write_answers(head, arrivals, outlet, out) else {
-        return false;
-    };
-    if !hand_done(arrivals.len() as u64, sends, outlet, out) {
-        return false;
-    }
-    if !outlet.flush(out) {
-        return false;
-    }
-    true
+    hand_opening(head, outlet, out)?;
+    let sends = write_answers(head, arrivals, outlet, out)?;
+    hand_done(arrivals.len() as u64, sends, outlet, out)?;
+    outlet.flush(out)?;
+    Ok(())
 }
 
 // Hands over the line of the opening state.
-fn hand_opening<K: Sink>(head: &Head, outlet: &mut Outlet, out: &mut K) -> bool
-    ensures kept { OnTrue result (HandsOver (opening_line_of head.now)
+fn hand_opening<K: Sink>(head: &Head, outlet: &mut Outlet, out: &mut K) -> Result<(), SinkFailed>
+    ensures kept { OnOk result (HandsOver (opening_line_of head.now)
         (K.written out.old) outlet.old.kept.items (K.written out.new) outlet.new.kept.items) }
-    ensures part { OnFalse result (HandsPart (opening_line_of head.now)
+    ensures part { OnErr result (HandsPart (opening_line_of head.now)
         (K.written out.old) outlet.old.kept.items (K.written out.new)) }
-    ensures quiet { OnTrue result (K.faults out.new ≡ K.faults out.old) }
-    ensures cause { OnFalse result (Rose (K.faults out.old) (K.faults out.new)) }
+    ensures quiet { OnOk result (K.faults out.new ≡ K.faults out.old) }
+    ensures cause { OnErr result (Rose (K.faults out.old) (K.faults out.new)) }
 {
     let mut line = LineBuf::new();
     put_opening(&mut line, head);
@@ -120,47 +112,50 @@ fn hand_opening<K: Sink>(head: &Head, outlet: &mut Outlet, out: &mut K) -> bool
 }
 
 // Hands over the last line.
-fn hand_done<K: Sink>(events: u64, sends: u64, outlet: &mut Outlet, out: &mut K) -> bool
-    ensures kept { OnTrue result (HandsOver (done_line_of events sends)
+fn hand_done<K: Sink>(
+    events: u64,
+    sends: u64,
+    outlet: &mut Outlet,
+    out: &mut K,
+) -> Result<(), SinkFailed>
+    ensures kept { OnOk result (HandsOver (done_line_of events sends)
         (K.written out.old) outlet.old.kept.items (K.written out.new) outlet.new.kept.items) }
-    ensures part { OnFalse result (HandsPart (done_line_of events sends)
+    ensures part { OnErr result (HandsPart (done_line_of events sends)
         (K.written out.old) outlet.old.kept.items (K.written out.new)) }
-    ensures quiet { OnTrue result (K.faults out.new ≡ K.faults out.old) }
-    ensures cause { OnFalse result (Rose (K.faults out.old) (K.faults out.new)) }
+    ensures quiet { OnOk result (K.faults out.new ≡ K.faults out.old) }
+    ensures cause { OnErr result (Rose (K.faults out.old) (K.faults out.new)) }
 {
     let mut line = LineBuf::new();
     put_done(&mut line, events, sends);
     outlet.put_line(out, line.as_slice())
 }
 
-// Hands over what is answered to each arrival, and says how many responses there were. None is the sink's failure.
+// Hands over what is answered to each arrival, and says how many responses there were.
 fn write_answers<K: Sink>(
     head: &Head,
     arrivals: &[Arrival],
     outlet: &mut Outlet,
     out: &mut K,
-) -> Option<u64>
-    ensures sends { IfSome result (λ sends. sends ≡ count_by (is_answered head.now) arrivals.now) }
-    ensures kept { OnSome result (HandsOver (flat_map (answer_text_of head.now) arrivals.now)
+) -> Result<u64, SinkFailed>
+    ensures sends { IfOk result (λ sends. sends ≡ count_by (is_answered head.now) arrivals.now) }
+    ensures kept { OnOk result (HandsOver (flat_map (answer_text_of head.now) arrivals.now)
         (K.written out.old) outlet.old.kept.items (K.written out.new) outlet.new.kept.items) }
-    ensures part { IfNone result (HandsPart (flat_map (answer_text_of head.now) arrivals.now)
+    ensures part { OnErr result (HandsPart (flat_map (answer_text_of head.now) arrivals.now)
         (K.written out.old) outlet.old.kept.items (K.written out.new)) }
-    ensures quiet { OnSome result (K.faults out.new ≡ K.faults out.old) }
-    ensures cause { IfNone result (Rose (K.faults out.old) (K.faults out.new)) }
+    ensures quiet { OnOk result (K.faults out.new ≡ K.faults out.old) }
+    ensures cause { OnErr result (Rose (K.faults out.old) (K.faults out.new)) }
 {
     let digits = response_hex(head);
     let mut line = LineBuf::new();
     let mut sends = 0;
     for arrival in arrivals {
-        let Some(sent) = write_answer(head, arrival, &digits, &mut line, outlet, out) else {
-            return None;
-        };
+        let sent = write_answer(head, arrival, &digits, &mut line, outlet, out)?;
         sends += sent;
     }
-    Some(sends)
+    Ok(sends)
 }
 
-// Hands over what is answered to one arrival, and says how many responses that is. None is the sink's failure.
+// Hands over what is answered to one arrival, and says how many responses that is.
 #[tactic(auto, unfolding(crate::specs::ReplayText::answer_text_of))]
 fn write_answer<K: Sink>(
     head: &Head,
@@ -169,22 +164,20 @@ fn write_answer<K: Sink>(
     line: &mut LineBuf,
     outlet: &mut Outlet,
     out: &mut K,
-) -> Option<u64>
+) -> Result<u64, SinkFailed>
     requires { digits.now ≡ response_hex_of head.now }
-    ensures sends { IfSome result (λ sends. sends ≡ (if is_answered head.now arrival.now then 1 else 0)) }
-    ensures kept { OnSome result (HandsOver (answer_text_of head.now arrival.now)
+    ensures sends { IfOk result (λ sends. sends ≡ (if is_answered head.now arrival.now then 1 else 0)) }
+    ensures kept { OnOk result (HandsOver (answer_text_of head.now arrival.now)
         (K.written out.old) outlet.old.kept.items (K.written out.new) outlet.new.kept.items) }
-    ensures part { IfNone result (HandsPart (answer_text_of head.now arrival.now)
+    ensures part { OnErr result (HandsPart (answer_text_of head.now arrival.now)
         (K.written out.old) outlet.old.kept.items (K.written out.new)) }
-    ensures quiet { OnSome result (K.faults out.new ≡ K.faults out.old) }
-    ensures cause { IfNone result (Rose (K.faults out.old) (K.faults out.new)) }
+    ensures quiet { OnOk result (K.faults out.new ≡ K.faults out.old) }
+    ensures cause { OnErr result (Rose (K.faults out.old) (K.faults out.new)) }
 {
     if !answers(head, arrival) {
-        return Some(0);
+        return Ok(0);
     }
     put_sending(line, arrival, digits);
-    if !outlet.put_line(out, line.as_slice()) {
-        return None;
-    }
-    Some(1)
+    outlet.put_line(out, line.as_slice())?;
+    Ok(1)
 }

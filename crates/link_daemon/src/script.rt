@@ -2,7 +2,7 @@
 
 ghost use Rattle.std.specs.Prelude.{◌≤◌, ◌-◌, ◌^◌, length, IfOk, IfErr};
 ghost use Rattle.link_daemon.specs.Script.{IsScriptOf};
-ghost use Rattle.link_daemon.specs.Faults.{IsFaultOf};
+ghost use Rattle.link_daemon.specs.ScriptFaults.{IsFaultOf};
 
 use crate::arrival::arrival_at;
 use crate::head::read_head;

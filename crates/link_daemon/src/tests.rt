@@ -3,6 +3,7 @@
 mod decode;
 mod faults;
 mod grammar;
+mod large;
 mod runs;
 
 ghost use Rattle.std.specs.Prelude.{◌<◌};
@@ -59,12 +60,23 @@ pub fn sound() -> Objects {
     }
 }
 
-/// Runs the program on these words and this input.
+/// Runs the program on these words and this input, with room for 100,000 bytes of output.
 pub fn run(
     alloc: Global,
     words: &[&str],
     input: &[u8],
     objects: Objects,
+) -> Result<Outcome, AllocError> {
+    run_in(alloc, words, input, objects, 100_000)
+}
+
+/// The same with room for so many bytes of output.
+pub fn run_in(
+    alloc: Global,
+    words: &[&str],
+    input: &[u8],
+    objects: Objects,
+    room: usize,
 ) -> Result<Outcome, AllocError> {
     let mut spelled = Vec::new(alloc);
     for word in words {
@@ -77,7 +89,7 @@ pub fn run(
     );
     let mut sink = BytesSink::new(
         alloc,
-        100_000,
+        room,
         objects.most,
         failing(alloc, objects.bad_write)?,
     )?;

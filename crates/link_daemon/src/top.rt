@@ -1,7 +1,7 @@
 //! The top call: the command that the first word names.
 
 ghost use Rattle.std.specs.Prelude.{◌≡◌};
-ghost use Rattle.link_daemon.specs.Statuses.{Ends, seen};
+ghost use Rattle.link_daemon.specs.Statuses.{Ends, IfNothingWritten, seen};
 
 use crate::command_line::begins_with;
 use crate::decode::decode_main;
@@ -23,8 +23,9 @@ pub fn link_main<S: Source, K: Sink>(
         (seen S.left S.faults input.old) (seen S.left S.faults input.new)
         (seen K.written K.faults out.old) (seen K.written K.faults out.new) result }
 
-    // No object is called.
+    // No object is called, or the sink isn't.
     ensures untouched { result ≡ Status.Words → (input.new ≡ input.old) × (out.new ≡ out.old) }
+    ensures unwritten { IfNothingWritten result (out.new ≡ out.old) }
 {
     if begins_with(words, "replay") {
         return replay_main(alloc, words, input, out);

@@ -1,5 +1,7 @@
--- What is copied from the front of a list and what stays behind it.
-use Rattle.std.proofs.Common.{◌≡◌, ℕ, ◌+◌, ◌≤◌, List, ◌++◌, length, take, drop, Some, ap, sym, ◌∙◌, arith}
+-- What is copied from the front of a list and what stays behind it, and reads one after the other.
+use Rattle.std.proofs.Common.{◌≡◌, ℕ, ◌+◌, ◌≤◌, List, ◌++◌, length, take, drop, Option, Some, None, ap, refl, sym, ◌∙◌, append_assoc, length-append, arith}
+use Rattle.std.specs.Option.{option_map}
+use Rattle.lk_outside.specs.Transfer.{TakesWithin}
 use Rattle.std.proofs.lemmas.List.{length-take, take-append-le, take_all, take-append-drop, drop-drop}
 use Rattle.lk_outside.specs.Source.{Takes}
 
@@ -13,3 +15,19 @@ takes_front given count bytes rest copied tail is within copy =
     let behind : drop count rest ≡ drop (given + count) bytes = ap (drop count) is ∙ drop-drop count given bytes in
     let parts : rest ≡ take count rest ++ drop count rest = sym (take-append-drop count rest) in
     ap Some (cc)
+
+two_parts : (after : Option (List ℕ)) (xs ys : List ℕ)
+    → option_map (λ rest. xs ++ rest) (option_map (λ rest. ys ++ rest) after)
+    ≡ option_map (λ rest. (xs ++ ys) ++ rest) after
+two_parts None xs ys = refl
+two_parts (Some rest) xs ys = ap Some (sym (append_assoc xs ys rest))
+
+-- bytes were taken, and then at most `most` more
+pub takes_more : (before now after : Option (List ℕ)) (bytes buf : List ℕ) (limit count most : ℕ)
+    → Takes before bytes now → Takes now (take count buf) after → length bytes ≤ limit → length buf ≤ most
+    → TakesWithin (limit + most) before after
+takes_more before now after bytes buf limit count most first second few short = (
+  bytes ++ take count buf,
+  omega (arith, length-append bytes (take count buf), length-take count buf),
+  first ∙ (ap (option_map (λ rest. bytes ++ rest)) second ∙ two_parts after bytes (take count buf)),
+)

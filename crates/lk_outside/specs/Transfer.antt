@@ -1,5 +1,5 @@
 -- What the calls that move a whole text do to the bytes left and to the bytes written.
-use Rattle.std.specs.Prelude.{ℕ, ◌<◌, ◌≤◌, List, length, take, Option}
+use Rattle.std.specs.Prelude.{ℕ, ◌+◌, ◌<◌, ◌≤◌, List, length, take, Option}
 use Rattle.lk_outside.specs.Source.{Takes, IsAtEnd}
 use Rattle.lk_outside.specs.Sink.{Appends}
 
@@ -8,9 +8,12 @@ pub record ReadsWhole (before : Option (List ℕ)) (bytes : List ℕ) (after : O
   pub taken : Takes before bytes after
   pub ended : IsAtEnd after
 
--- more bytes than the limit were taken
-abbrev pub TakesMoreThan : ℕ → Option (List ℕ) → Option (List ℕ) → Type 0
-TakesMoreThan limit before after = (bytes : List ℕ) × (limit < length bytes) × Takes before bytes after
+-- more than `limit` bytes were taken, and at most a piece of 65,536 more
+pub record TakesOver (limit : ℕ) (before after : Option (List ℕ)) : Type 0 where
+  pub bytes : List ℕ
+  pub more : limit < length bytes
+  pub few : length bytes ≤ limit + 65_536
+  pub taken : Takes before bytes after
 
 -- at most so many bytes as the limit were taken
 abbrev pub TakesWithin : ℕ → Option (List ℕ) → Option (List ℕ) → Type 0

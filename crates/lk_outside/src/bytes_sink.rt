@@ -87,7 +87,7 @@ impl Sink for BytesSink {
 
         // Which write fails, and how much another one takes.
         ensures failing { (result ≡ Put.Failed)
-            ↔ (FailsAt (failing_of self.old) WRITE (next_write_of self.old)
+            ↔ (FailsAt (failing_of self.old) 0 (next_write_of self.old)
             ⊎ (room_left_of self.old ≡ 0)) }
         ensures amount { IfTook result
             (λ n. n ≡ min (length bytes.now) (min (most_of self.old) (room_left_of self.old))) }

@@ -77,7 +77,7 @@ impl Source for BytesSource {
 
         // Which read fails, and how much another one gives.
         ensures failing { (result ≡ Taken.Failed)
-            ↔ FailsAt (failing_of self.old) READ (next_read_of self.old) }
+            ↔ FailsAt (failing_of self.old) 0 (next_read_of self.old) }
         ensures amount { IfGot result
             (λ n. n ≡ min (length buf.new) (min (most_of self.old) (length (rest_of self.old)))) }
 

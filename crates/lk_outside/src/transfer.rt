@@ -1,10 +1,10 @@
 //! Reading a whole text from a source, and writing one to a sink.
 
-ghost use Rattle.std.specs.Prelude.{◌≡◌, ◌≤◌, [], length, IfOk, IsErrOf, IsTrue};
+ghost use Rattle.std.specs.Prelude.{◌≡◌, ◌≤◌, ◌+◌, [], length, IfOk, IsErrOf, IsTrue};
 ghost use Rattle.std.specs.Bool.{OnTrue, OnFalse};
 ghost use Rattle.lk_outside.specs.Faults.{Rose};
 ghost use Rattle.lk_outside.specs.Sink.{Appends};
-ghost use Rattle.lk_outside.specs.Transfer.{ReadsWhole, TakesMoreThan, TakesWithin, AppendsPrefix};
+ghost use Rattle.lk_outside.specs.Transfer.{ReadsWhole, TakesOver, TakesWithin, AppendsPrefix};
 
 use crate::{Put, Sink, Source, Taken};
 use std::alloc::{AllocError, Global};
@@ -26,11 +26,11 @@ pub enum InputFault {
 /// Reads a source to its end.
 ///
 /// `Ok` has all bytes taken, in order, once the source has answered that nothing is left. `Failed` is
-/// the source's failure, before which at most `limit` bytes were taken. `TooLong` comes as soon as
-/// more than `limit` bytes were taken: at most `limit` and a piece of 65,536. `Memory` is want of
-/// memory, and no failure of the source.
+/// the source's failure, before which at most `limit` bytes were taken. `TooLong` is that more than
+/// `limit` bytes were taken. `Memory` is want of memory, and no failure of the source. At most `limit`
+/// and 65,536 bytes are taken, whatever the answer is.
 ///
-/// Waits: in the source's reads alone. Memory: a piece, before the first read, and the text.
+/// Waits: in the source's reads alone. Memory: 65,536 bytes, before the first read, and the text.
 pub fn read_all<S: Source>(
     alloc: Global,
     source: &mut S,
@@ -40,9 +40,12 @@ pub fn read_all<S: Source>(
         (λ bytes. ReadsWhole (S.left source.old) bytes.items (S.left source.new)) }
     ensures within { IfOk result (λ bytes. length bytes.items ≤ limit) }
     ensures too_long { IsErrOf result InputFault.TooLong
-        → TakesMoreThan limit (S.left source.old) (S.left source.new) }
+        → TakesOver limit (S.left source.old) (S.left source.new) }
     ensures failed { IsErrOf result InputFault.Failed
         → TakesWithin limit (S.left source.old) (S.left source.new) }
+
+    // Whatever the answer is.
+    ensures bounded { TakesWithin (limit + 65_536) (S.left source.old) (S.left source.new) }
 
     // The count rises with the answer `Failed`, and stays with any other.
     ensures cause { IsErrOf result InputFault.Failed

@@ -1,6 +1,8 @@
 //! A sink over a writer, as standard output.
 
-ghost use Rattle.std.specs.Prelude.{◌≡◌, None};
+ghost use Rattle.std.specs.Prelude.{◌≡◌, ◌<◌, length, None};
+ghost use Rattle.lk_outside.specs.Sink.{Accepts, HasWriteCause};
+ghost use Rattle.link_daemon.specs.Adapters.{IsWrittenTo};
 
 use lk_outside::{Put, Sink};
 use std::io::Write;
@@ -35,7 +37,14 @@ impl<W: Write + Drop> Sink for StdSink<W> {
 
     ghost faults = { λ sink. sink.faults };
 
-    fn write(&mut self, bytes: &[u8]) -> Put {
+    fn write(&mut self, bytes: &[u8]) -> Put
+        requires { 0 < length bytes.now }
+        ensures bytes { Accepts None None bytes.now result }
+        ensures cause { HasWriteCause self.old.faults self.new.faults result }
+
+        // Of the writer itself, where its bytes are known.
+        ensures inner { IsWrittenTo (W.contents self.old.inner) (W.contents self.new.inner) bytes.now result }
+    {
         match self.inner.write(bytes) {
             Ok(count) if count > 0 => Put::Took(count),
             _ => {

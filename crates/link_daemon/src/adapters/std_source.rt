@@ -1,6 +1,8 @@
 //! A source over a reader, as standard input.
 
-ghost use Rattle.std.specs.Prelude.{◌≡◌, None};
+ghost use Rattle.std.specs.Prelude.{◌≡◌, ◌<◌, length, None};
+ghost use Rattle.lk_outside.specs.Source.{Gives, HasReadCause};
+ghost use Rattle.link_daemon.specs.Adapters.{IsReadFrom};
 
 use lk_outside::{Source, Taken};
 use std::io::Read;
@@ -35,7 +37,14 @@ impl<R: Read + Drop> Source for StdSource<R> {
 
     ghost faults = { λ source. source.faults };
 
-    fn read(&mut self, buf: &mut [u8]) -> Taken {
+    fn read(&mut self, buf: &mut [u8]) -> Taken
+        requires { 0 < length buf.old }
+        ensures bytes { Gives None None buf.new result }
+        ensures cause { HasReadCause self.old.faults self.new.faults result }
+
+        // Of the reader itself, where its bytes are known.
+        ensures inner { IsReadFrom (R.remaining self.old.inner) (R.remaining self.new.inner) buf.new result }
+    {
         match self.inner.read(buf) {
             Ok(0) => Taken::End,
             Ok(count) => Taken::Got(count),

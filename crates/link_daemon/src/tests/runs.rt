@@ -41,6 +41,20 @@ fn an_own_echo_is_not_answered(rt: HostRuntime) -> Result<(), Fail> {
 }
 
 #[test]
+fn a_response_goes_to_where_its_alive_came_from(rt: HostRuntime) -> Result<(), Fail> {
+    let input = format!(in rt.alloc();
+        "{HEAD}rx 1000100 0 10.0.0.1:1 {ALIVE}\nrx 1000100 0 192.168.255.0:65535 {ALIVE}\n"
+    )?;
+    let wanted = format!(in rt.alloc();
+        "{OPENING}tx 1000100 0 10.0.0.1:1 {RESPONSE}\ntx 1000100 0 192.168.255.0:65535 {RESPONSE}\ndone 2 1 2\n"
+    )?;
+    let found = run(rt.alloc(), &["replay"], input.as_bytes(), sound())?;
+    assert_eq!(rt; found.status, Status::Done);
+    assert_eq!(rt; found.written.as_slice(), wanted.as_bytes());
+    Ok(())
+}
+
+#[test]
 fn a_foreign_group_is_not_answered(rt: HostRuntime) -> Result<(), Fail> {
     let input = format!(in rt.alloc(); "{HEAD}rx 0 0 255.255.255.255:65535 {FOREIGN_GROUP}\n")?;
     let wanted = format!(in rt.alloc(); "{OPENING}done 1 1 0\n")?;

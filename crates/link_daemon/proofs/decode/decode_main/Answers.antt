@@ -8,4 +8,4 @@ returns-in-Ok-clause-ends g c =
     ends_of_text decode_command c.args.words.now _ _ _ _ c.in-Ok.text.items c.decode_text.result
     (c.if-not-is_only.ensures.0 refl)
     (record { whole = c.in-Ok.ensures.whole; within = c.in-Ok.ensures.within; quiet = c.in-Ok.ensures.quiet (λ never. cc) })
-    (rw c.deref.ensures.value at c.decode_text.ensures)
+    (rw c.deref.ensures.value at c.decode_text.ensures.ends)

@@ -1,11 +1,11 @@
--- The lines before `at` are told, and their text is handed over.
+-- The lines before `at` are decoded, and their text is handed over.
 use Rattle.std.proofs.Common.{◌≡◌, ◌-◌, length}
-use Rattle.link_daemon.proofs.DecodeLemmas.{HasTold}
+use Rattle.link_daemon.proofs.DecodeLemmas.{HasDecoded}
 use Rattle.link_daemon.proofs.decode.hand_lines.Given as goal
 
 abbrev pub invariant-loop-at : goal.invariant-loop-at
 invariant-loop-at g l = record {
-  told : HasTold l.text l.at (g.K.Sink.written l.fn.out) l.fn.outlet.kept.items (g.K.Sink.written l.out) l.outlet.kept.items;
+  decoded : HasDecoded l.text l.at (g.K.Sink.written l.fn.out) l.fn.outlet.kept.items (g.K.Sink.written l.out) l.outlet.kept.items;
   quiet : g.K.Sink.faults l.out ≡ g.K.Sink.faults l.fn.out;
   room : length l.bytes ≡ length l.fn.bytes;
 }

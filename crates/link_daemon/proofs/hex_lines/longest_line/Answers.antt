@@ -1,5 +1,5 @@
 use Rattle.std.proofs.Common.{◌≤◌, ◌/◌, length, arith}
-use Rattle.link_daemon.proofs.HexLineLemmas.{checked_none, checked_more, checked_fault, checked_whole, checked_within}
+use Rattle.link_daemon.proofs.HexLineLemmas.{checked_none, checked_more, checked_fault, checked_whole, checked_longest}
 use Rattle.link_daemon.proofs.hex_lines.longest_line.Goals as goal
 
 pub loop-at-preserved : goal.loop-at-preserved
@@ -12,4 +12,4 @@ pub returns-clause-lines : goal.returns-clause-lines
 returns-clause-lines c = checked_whole c.args.text.now c.loop-at.number c.loop-at.at c.loop-at.longest c.loop-at.invariant (omega arith)
 
 pub returns-clause-longest : goal.returns-clause-longest
-returns-clause-longest c = checked_within c.args.text.now c.loop-at.number c.loop-at.at c.loop-at.longest c.loop-at.invariant (omega arith)
+returns-clause-longest c = checked_longest c.args.text.now c.loop-at.number c.loop-at.at c.loop-at.longest c.loop-at.invariant (omega arith)

@@ -1,5 +1,5 @@
 use Rattle.std.proofs.Common.{◌-◌, length}
-use Rattle.link_daemon.specs.Reading.{HasRead}
+use Rattle.link_daemon.proofs.ScriptLemmas.{HasRead}
 use Rattle.link_daemon.proofs.script.read_script.Given as goal
 
 abbrev pub invariant-loop-at : goal.invariant-loop-at

@@ -1,10 +1,11 @@
-use Rattle.std.proofs.Common.{◌≡◌, ◌<◌, ◌+◌, ◌-◌, vec_len}
+use Rattle.std.proofs.Common.{◌≡◌, ◌≤◌, ◌+◌, ◌-◌, vec_len}
 use Rattle.lk_outside.specs.Source.{Takes}
 use Rattle.lk_outside.proofs.transfer.read_all.Given as goal
 
 abbrev pub invariant-loop-source : goal.invariant-loop-source
 invariant-loop-source g l = record {
-  room : 0 < vec_len l.piece;
+  room : vec_len l.piece ≡ 65_536;
+  few : vec_len l.bytes ≤ l.limit + 65_536;
   taken : Takes (g.S.Source.left l.initial.source) l.bytes.items (g.S.Source.left l.source);
   faults : g.S.Source.faults l.source ≡ g.S.Source.faults l.initial.source;
 }

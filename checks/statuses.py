@@ -1,0 +1,122 @@
+#!/usr/bin/env python3
+"""Runs the built program for each status that isn't 0 and can be brought about from outside: checks/statuses.py PROGRAM.
+
+Each run's exit status, standard output and whole text on standard error are compared with what is written here. Status 9, want of memory, has no run.
+The last line is 'N passed, N failed'.
+"""
+import os
+import subprocess
+import sys
+
+HEAD = b"replay 1\nnode QRSTUVWX 1 500000 1 1000000\ngate 127.0.0.1:20809\n"
+OPENING = b"state 0 500000 0 1000000 0 0 0 1 0 1000000 0 0\n"
+
+WORDS = b"""\
+jorazhil: these words are no command of this program; what it takes:
+  replay    reads a script on standard input and writes what the node answers
+  decode    reads datagrams in hex on standard input, one a line, and writes a line that tells what each says
+"""
+INPUT = b"jorazhil: standard input could not be read; nothing was written\n"
+SINK = b"jorazhil: standard output could not be written; what was written is the front of the output\n"
+TOO_LONG = b"jorazhil: the input is longer than 16777216 bytes; nothing was written\n"
+
+VERSION = b"`replay 1`"
+NODE = (
+    b"`node ID SEED MPB SYNC NOW` with single spaces: an id of eight characters from ! to ~, a number below 2^64, "
+    b"60060 to 3000000 microseconds per beat, 0 or 1, and 0 to 2^55 microseconds"
+)
+GATE = b"`gate ENDPOINT`, as in `gate 127.0.0.1:20808`"
+ARRIVAL = (
+    b"`rx NOW 0 ENDPOINT HEX` with single spaces: 0 to 2^55 microseconds, the gate 0, a sender as 127.0.0.1:20808, "
+    b"and the hex digits of a plain alive of another session"
+)
+HEX = b"an even number of hex digits, of either case, and nothing else"
+
+
+def at_fault(line, expected):
+    return b"jorazhil: line %d of the input is at fault: expected %s; nothing was written\n" % (line, expected)
+
+
+# The words, the bytes on standard input, the status and the text on standard error. Standard output stays empty.
+TEXTS = [
+    ([], HEAD, 2, WORDS),
+    (["listen"], HEAD, 2, WORDS),
+    (["replay", "x"], HEAD, 2, WORDS),
+    (["decode", "x"], b"00\n", 2, WORDS),
+    (["replay"], b"replay 2\n", 8, at_fault(1, VERSION)),
+    (["replay"], b"replay 1\n", 8, at_fault(2, NODE)),
+    (["replay"], HEAD.replace(b"gate", b"gat"), 8, at_fault(3, GATE)),
+    (["replay"], HEAD + b"tick 5\n", 8, at_fault(4, ARRIVAL)),
+    (["decode"], b"0\n", 8, at_fault(1, HEX)),
+    (["decode"], b"00\n\n0g\n", 8, at_fault(3, HEX)),
+    (["decode"], b"00" * 8_388_608 + b"\n", 10, TOO_LONG),
+]
+
+
+def run(program, words, **streams):
+    done = subprocess.run([program, *words], stderr=subprocess.PIPE, timeout=60, check=False, **streams)
+    return done.returncode, done.stdout, done.stderr
+
+
+def read_failures(program):
+    """A standard input that can't be read: a directory, and one that is closed."""
+    for word in ("replay", "decode"):
+        directory = os.open("/", os.O_RDONLY)
+        found = run(program, [word], stdin=directory, stdout=subprocess.PIPE)
+        os.close(directory)
+        yield f"{word} of a directory", found, (5, b"", INPUT)
+    closed = subprocess.run(
+        ["/bin/sh", "-c", 'exec "$0" replay <&-', program], stdout=subprocess.PIPE, stderr=subprocess.PIPE, timeout=60, check=False
+    )
+    yield "replay of a closed input", (closed.returncode, closed.stdout, closed.stderr), (5, b"", INPUT)
+
+
+def write_failures(program):
+    """A standard output that can't be written: a full device, and a file that may hold no more than a part."""
+    for word, text in (("replay", HEAD), ("decode", b"00\n")):
+        if os.path.exists("/dev/full"):
+            with open("/dev/full", "wb") as full:
+                status, _, error = run(program, [word], input=text, stdout=full)
+            yield f"{word} to a full device", (status, error), (7, SINK)
+    closed = subprocess.run(
+        ["/bin/sh", "-c", 'exec "$0" replay >&-', program], input=HEAD, stdout=subprocess.PIPE, stderr=subprocess.PIPE, timeout=60, check=False
+    )
+    yield "replay to a closed output", (closed.returncode, closed.stdout, closed.stderr), (7, b"", SINK)
+
+
+def pipe_closed_after(program, count):
+    """The output goes into a pipe whose reader leaves after so many bytes: what it got is the front of the output."""
+    lines = 20_000
+    told = b"fault short 1\n"
+    child = subprocess.Popen([program, "decode"], stdin=subprocess.PIPE, stdout=subprocess.PIPE, stderr=subprocess.PIPE)
+    child.stdin.write(b"00\n" * lines)
+    child.stdin.close()
+    front = child.stdout.read(count)
+    child.stdout.close()
+    error = child.stderr.read()
+    status = child.wait(timeout=60)
+    return "decode to a pipe whose reader leaves", (status, front, error), (7, (told * lines)[:count], SINK)
+
+
+def main(program):
+    results = []
+    for words, text, status, error in TEXTS:
+        found = run(program, words, input=text, stdout=subprocess.PIPE)
+        results.append((f"{' '.join(words) or 'no words'} on {text[-40:]!r}", found, (status, b"", error)))
+    results += read_failures(program)
+    results += write_failures(program)
+    results.append(pipe_closed_after(program, 1000))
+    failed = 0
+    for name, found, wanted in results:
+        if found != wanted:
+            failed += 1
+            print(f"{name}: found {found!r}, wanted {wanted!r}")
+    print(f"{len(results) - failed} passed, {failed} failed")
+    return 1 if failed else 0
+
+
+if __name__ == "__main__":
+    if len(sys.argv) != 2:
+        print(__doc__, file=sys.stderr)
+        sys.exit(2)
+    sys.exit(main(sys.argv[1]))

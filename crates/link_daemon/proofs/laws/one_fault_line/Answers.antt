@@ -1,0 +1,5 @@
+use Rattle.link_daemon.proofs.FaultLineLemmas.{one_script_fault, one_bad_line}
+use Rattle.link_daemon.proofs.laws.one_fault_line.Goals as goal
+
+pub returns : goal.returns
+returns c = (one_script_fault, one_bad_line)
