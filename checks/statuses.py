@@ -1,5 +1,5 @@
 #!/usr/bin/env python3
-"""Runs the built program for each status that isn't 0 and can be brought about from outside: checks/statuses.py PROGRAM.
+"""Runs the built program to each status that isn't 0 and can be brought about from outside: checks/statuses.py PROGRAM.
 
 Each run's exit status, standard output and whole text on standard error are compared with what is written here. Status 9, want of memory, has no run.
 The last line is 'N passed, N failed'.
@@ -43,6 +43,7 @@ TEXTS = [
     (["listen"], HEAD, 2, WORDS),
     (["replay", "x"], HEAD, 2, WORDS),
     (["decode", "x"], b"00\n", 2, WORDS),
+    ([b"replay\xff"], HEAD, 2, WORDS),
     (["replay"], b"replay 2\n", 8, at_fault(1, VERSION)),
     (["replay"], b"replay 1\n", 8, at_fault(2, NODE)),
     (["replay"], HEAD.replace(b"gate", b"gat"), 8, at_fault(3, GATE)),
@@ -98,14 +99,21 @@ def pipe_closed_after(program, count):
     return "decode to a pipe whose reader leaves", (status, front, error), (7, (told * lines)[:count], SINK)
 
 
+def name_of_no_text(program):
+    """The program under a name that is no UTF-8, which is none of its words."""
+    done = subprocess.run([b"\xff", b"replay"], executable=program, input=HEAD, stdout=subprocess.PIPE, stderr=subprocess.PIPE, timeout=60, check=False)
+    return "replay under a name that is no text", (done.returncode, done.stdout, done.stderr), (0, OPENING + b"done 0 1 0\n", b"")
+
+
 def main(program):
     results = []
     for words, text, status, error in TEXTS:
         found = run(program, words, input=text, stdout=subprocess.PIPE)
-        results.append((f"{' '.join(words) or 'no words'} on {text[-40:]!r}", found, (status, b"", error)))
+        results.append((f"{words} on {text[-40:]!r}", found, (status, b"", error)))
     results += read_failures(program)
     results += write_failures(program)
     results.append(pipe_closed_after(program, 1000))
+    results.append(name_of_no_text(program))
     failed = 0
     for name, found, wanted in results:
         if found != wanted:

@@ -1,13 +1,11 @@
 -- What is said of the lines of a text, one after the other.
-use Rattle.std.proofs.Common.{◌≡◌, inl, inr, refl, sym, subst, ap, ◌∙◌, arith, ℕ, ◌+◌, ◌*◌, ◌/◌, ◌<◌, ◌≤◌, ◌^◌, List, [], ◌∷◌, ◌++◌, length, drop, Option, Result, Ok, Err}
+use Rattle.std.proofs.Common.{◌≡◌, refl, sym, subst, ap, ◌∙◌, arith, ℕ, ◌*◌, ◌≤◌, List, [], ◌∷◌, ◌++◌, length, drop, Option, Result}
 use Rattle.std.specs.List.{All, concat}
 use Rattle.std.proofs.lemmas.List.{append_assoc, append-nil}
 use Rattle.std.proofs.lemmas.List.Elements.{All-head, All-tail, All-same}
 use Rattle.std.proofs.lemmas.List.Folds.{concat-append}
 use Rattle.hex.proofs.HexLemmas.{decode_of-ok, decode_of-same}
-use Rattle.lk_outside.specs.Sink.{Appends}
 use Rattle.lk_outside.specs.Transfer.{AppendsPrefix}
-use Rattle.link_payload.specs.Entries.{AreBytes}
 use Rattle.asdp_messages.specs.declared.fault.WireFault.{WireFault}
 use Rattle.asdp_messages.specs.Datagram.{AreAllRead, MessageValue, IsReadAs}
 use Rattle.link_text.specs.ReadingLine.{reading_line_of}
@@ -15,7 +13,7 @@ use Rattle.link_daemon.specs.TextLines.{lines_of}
 use Rattle.link_daemon.specs.HexLines.{IsHexLine, IsDecodable, HasLinesWithin}
 use Rattle.link_daemon.specs.DecodeText.{IsDecodedLine, AreDecodedLines, IsDecodeText, HasOneOutput}
 use Rattle.link_daemon.specs.Outlet.{HandsOver, HandsPart}
-use Rattle.link_daemon.proofs.OutletLemmas.{hands_none, hands_both, hands_whole, hands_whole_part, part_after, part_of_more}
+use Rattle.link_daemon.proofs.OutletLemmas.{hands_none, hands_both, hands_whole_part, part_after, part_of_more}
 use Rattle.link_daemon.proofs.ScriptLemmas.{lines_end}
 
 -- ---- one line

@@ -1,5 +1,5 @@
 -- The causes of two statuses never hold together.
-use Rattle.std.proofs.Common.{◌≡◌, ◌≢◌, ◌⊎◌, inl, inr, ◌<◌, ◌-◌, ◌^◌, ◌++◌, length, List, ℕ, Option, Some, None, IsSome, refl, ap, sym, subst, ◌∙◌, arith}
+use Rattle.std.proofs.Common.{◌≡◌, ◌≢◌, inl, inr, ◌<◌, ◌-◌, ◌^◌, ◌++◌, length, List, ℕ, Option, Some, None, IsSome, refl, ap, sym, subst, ◌∙◌, arith}
 use Rattle.std.proofs.lemmas.List.{append-nil}
 use Rattle.lk_outside.specs.Faults.{Rose}
 use Rattle.lk_outside.specs.Source.{Takes, IsAtEnd}

@@ -1,9 +1,9 @@
 -- A valid input is answered by its output, unless there is no memory.
-use Rattle.std.proofs.Common.{◌≡◌, ◌⊎◌, inl, inr, ◌++◌, ◌<◌, length, List, ℕ, Option, Some, None, refl, sym, subst, ap, arith, length-append}
+use Rattle.std.proofs.Common.{◌≡◌, ◌⊎◌, inl, inr, ◌++◌, ◌<◌, length, List, ℕ, Option, Some, None, refl, subst, ap, arith, length-append}
 use Rattle.std.specs.declared.alloc.Global.{Global}
 use Rattle.std.specs.declared.string.String.{String}
 use Rattle.lk_outside.specs.Faults.{Rose}
-use Rattle.lk_outside.specs.Source.{Takes, IsAtEnd}
+use Rattle.lk_outside.specs.Source.{Takes}
 use Rattle.lk_outside.specs.Transfer.{TakesOver}
 use Rattle.link_daemon.specs.declared.status.Status.{Status}
 use Rattle.link_daemon.specs.declared.status.Status.TheVariants as status

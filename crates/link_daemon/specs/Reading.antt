@@ -1,10 +1,10 @@
 -- How far a text is read.
-use Rattle.std.specs.Prelude.{◌≡◌, ℕ, ◌+◌, ◌≤◌, ◌<◌, List, ◌∷◌, ◌++◌, length, drop}
+use Rattle.std.specs.Prelude.{◌≡◌, ℕ, ◌≤◌, ◌<◌, List, ◌∷◌, length, drop}
 use Rattle.lk_base.specs.declared.ids.NodeId.{NodeId}
 use Rattle.link_daemon.specs.declared.script.Head.{Head}
 use Rattle.link_daemon.specs.declared.script.Arrival.{Arrival}
 use Rattle.link_daemon.specs.TextLines.{lines_of}
-use Rattle.link_daemon.specs.Script.{version_line, node_line, gate_line, IsHead, IsArrivalLine, IsScript}
+use Rattle.link_daemon.specs.Script.{version_line, node_line, gate_line, IsHead, IsArrivalLine}
 
 -- the lines of this head end where `at` is
 pub record HasHead (text : List ℕ) (h : Head) (at : ℕ) : Type 0 where

@@ -28,9 +28,9 @@ mod truth;
 mod word;
 
 use crate::adapters::{StdSink, StdSource};
+use crate::command_line::words_of;
 use crate::status::Status;
 use crate::top::link_main;
-use std::env;
 use std::io::ErrorKind;
 use std::process::ExitCode;
 
@@ -44,14 +44,11 @@ fn main(rt: HostRuntime) -> ExitCode {
 
 // Runs the command of the words after the program's name over the standard streams.
 fn run(rt: &HostRuntime) -> Status {
-    let args = match env::args(rt) {
-        Ok(args) => args,
+    let words = match words_of(rt) {
+        Ok(words) => words,
         Err(error) if error.kind() == ErrorKind::OutOfMemory => return Status::Memory,
         // A word that is no text is no word of a command.
         Err(_) => return Status::Words,
-    };
-    let Ok(words) = args.skip(1).collect::<Vec<String>>(rt.alloc()) else {
-        return Status::Memory;
     };
     let mut input = StdSource::new(rt.stdin());
     let mut out = StdSink::new(rt.stdout());

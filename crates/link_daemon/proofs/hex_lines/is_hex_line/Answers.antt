@@ -1,4 +1,4 @@
-use Rattle.std.proofs.Common.{◌≡◌, true, sym, arith}
+use Rattle.std.proofs.Common.{◌≡◌, true, sym}
 use Rattle.std.proofs.lemmas.List.Elements.{All-more}
 use Rattle.hex.specs.Hex.{is_hex_digit}
 use Rattle.link_daemon.proofs.HexLineLemmas.{good_line}

@@ -1,5 +1,5 @@
-use Rattle.std.proofs.Common.{◌≤◌, ◌/◌, length, arith}
-use Rattle.link_daemon.proofs.HexLineLemmas.{checked_none, checked_more, checked_fault, checked_whole, checked_longest}
+use Rattle.std.proofs.Common.{arith}
+use Rattle.link_daemon.proofs.HexLineLemmas.{checked_more, checked_whole, checked_longest}
 use Rattle.link_daemon.proofs.hex_lines.longest_line.Goals as goal
 
 pub loop-at-preserved : goal.loop-at-preserved
