@@ -1,19 +1,9 @@
--- The order of ids, and the ids that a source gives by the words of its generator.
-use Rattle.std.specs.Prelude.{ℕ, zero, suc, ◌+◌, ◌%◌, ◌==◌, ◌&&◌, ◌||◌, nat_lt, Bool, true, false, List, [], ◌∷◌, map}
+-- The ids that a source gives, by the words of its generator.
+use Rattle.std.specs.Prelude.{ℕ, zero, suc, ◌+◌, ◌%◌, map}
 use Rattle.std.specs.List.{range_with_len}
 use Rattle.rand_pcg.specs.Lcg.{Lcg}
 use Rattle.rand_pcg.specs.Pcg.{pcg32}
 use Rattle.lk_base.specs.declared.ids.NodeId.{NodeId}
-
--- the first byte in which they differ is less, or there is none and the first list is shorter
-unfoldable pub bytes_lt : List ℕ → List ℕ → Bool
-bytes_lt bytes [] = false
-bytes_lt [] (b ∷ bytes) = true
-bytes_lt (a ∷ bytes) (b ∷ others) = nat_lt a b || ((a == b) && bytes_lt bytes others)
-
--- an id comes before another: by the first of the eight bytes in which they differ
-abbrev pub id_lt : NodeId → NodeId → Bool
-id_lt a b = bytes_lt a.0 b.0
 
 -- the source after so many words
 unfoldable pub source_after : ℕ → Lcg → Lcg

@@ -10,7 +10,7 @@ pub struct NodeId(pub [u8; 8]);
 
 impl NodeId {
     ghost use Rattle.std.specs.Prelude.{◌≡◌, length};
-    ghost use Rattle.lk_base.specs.Ids.{id_lt};
+    ghost use Rattle.lk_base.specs.IdOrder.{id_lt, bytes_lt};
 
     /// The id of these eight bytes.
     pub fn from_bytes(bytes: &[u8]) -> NodeId
@@ -24,7 +24,8 @@ impl NodeId {
 
     /// Whether it comes before another id, by the first of the eight bytes in which they differ.
     pub fn is_before(&self, other: &NodeId) -> bool
-        ensures { result ≡ id_lt self.now other.now }
+        ensures order { result ≡ id_lt self.now other.now }
+        ensures bytes { result ≡ bytes_lt self.now.0 other.now.0 }
     {
         self.cmp(other).is_lt()
     }
