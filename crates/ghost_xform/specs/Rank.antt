@@ -1,5 +1,5 @@
 -- The element of a rank in a list, and the offset that points tell.
-use Rattle.std.specs.Prelude.{◌≡◌, ℕ, ℤ, pos, ◌+◌, ◌-◌, ◌/◌, ◌<◌, ◌≤◌, ◌+ℤ◌, ◌-ℤ◌, ◌≤ℤ◌, int_lt, int_le, nat_lt, nat_le, Bool, ◌&&◌, List, length, count_by, unwrap_or}
+use Rattle.std.specs.Prelude.{◌≡◌, ℕ, ℤ, pos, ◌-◌, ◌/◌, ◌<◌, ◌≤◌, ◌+ℤ◌, ◌-ℤ◌, ◌≤ℤ◌, int_lt, int_le, nat_lt, nat_le, Bool, ◌&&◌, List, length, count_by, unwrap_or}
 use Rattle.std.specs.List.{find}
 use Rattle.lk_base.specs.Rounding.{clipped_of, nearest_of}
 

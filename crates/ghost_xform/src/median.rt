@@ -1,6 +1,7 @@
 //! The median of some points, and the offset that it gives.
 
-ghost use Rattle.std.specs.Prelude.{◌≡◌, ℤ, pos, ◌+◌, ◌-◌, ◌*◌, ◌/◌, ◌^◌, ◌<◌, ◌+ℤ◌, ◌-ℤ◌, ◌≤ℤ◌, length, All, IsPermutation, unsigned_abs};
+ghost use Rattle.std.specs.Prelude.{◌≡◌, ℤ, pos, ◌+◌, ◌-◌, ◌*◌, ◌/◌, ◌^◌, ◌<◌, ◌+ℤ◌, ◌-ℤ◌, ◌≤ℤ◌, length, All, IsPermutation, IsSorted, unsigned_abs};
+ghost use Rattle.std.specs.Ordering.{int_cmp};
 ghost use Rattle.lk_base.specs.Ranges.{IsWithin};
 ghost use Rattle.ghost_xform.specs.Rank.{HasRank, IsOffsetOf, IsAbout};
 ghost use Rattle.ghost_xform.specs.Rank as spec;
@@ -14,6 +15,7 @@ pub fn middle_pair(points: &mut [i64]) -> (i64, i64)
     ensures lower { HasRank points.old ((length points.old - 1) / 2) result.0 }
     ensures upper { HasRank points.old (length points.old / 2) result.1 }
     ensures moved { IsPermutation points.old points.new }
+    ensures sorted { IsSorted int_cmp points.new }
 {
     points.sort_unstable();
     (points[(points.len() - 1) / 2], points[points.len() / 2])
@@ -23,7 +25,6 @@ pub fn middle_pair(points: &mut [i64]) -> (i64, i64)
 /// microseconds, halves away from 0, and clipped to 2^60. It leaves the points in order.
 ///
 /// Where each point is at most `r` from twice an offset `c`, the answer is at most half of `r + 1` from `c`.
-#[tactic(auto, unfolding(crate::specs::Rank::offset_of))]
 pub fn offset_of(points: &mut [i64]) -> i64
     requires { 0 < length points.old }
     ensures value { result ≡ spec.offset_of points.old }
@@ -32,6 +33,7 @@ pub fn offset_of(points: &mut [i64]) -> i64
     ensures near { (c r : ℤ) → IsWithin (2 ^ 60) c → All (IsAbout c r) points.old
         → pos (2 * unsigned_abs (result -ℤ c)) ≤ℤ (r +ℤ pos 1) }
     ensures moved { IsPermutation points.old points.new }
+    ensures sorted { IsSorted int_cmp points.new }
 {
     let (lower, upper) = middle_pair(points);
     clip(near(lower as i128 + upper as i128, 4))

@@ -16,6 +16,7 @@ pub struct XForm {
 
 impl XForm {
     /// The ghost time at a host time, both in microseconds, clipped to 2^60.
+    #[tactic(auto, unfolding(crate::specs::GhostTime::ghost_of))]
     pub fn to_ghost(&self, host: i64) -> i64
         ensures value { result ≡ ghost_of self.now.offset host }
         ensures within { IsWithin (2 ^ 60) result }
@@ -24,6 +25,7 @@ impl XForm {
     }
 
     /// The host time at a ghost time, both in microseconds, clipped to 2^60.
+    #[tactic(auto, unfolding(crate::specs::GhostTime::host_of))]
     pub fn to_host(&self, ghost_time: i64) -> i64
         ensures value { result ≡ host_of self.now.offset ghost_time }
         ensures within { IsWithin (2 ^ 60) result }
