@@ -9,6 +9,6 @@ mod median;
 mod tests;
 mod xform;
 
-pub use laws::{one_value_a_rank, order_does_not_matter};
+pub use laws::{near_points_tell_a_near_offset, one_value_a_rank, order_does_not_matter};
 pub use median::{middle_pair, offset_of};
 pub use xform::XForm;

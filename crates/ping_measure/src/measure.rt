@@ -1,11 +1,14 @@
 //! A measurement: its start, its pongs and its ticks.
 
-ghost use Rattle.std.specs.Prelude.{◌≡◌, ℤ, pos, ◌*◌, ◌^◌, ◌+ℤ◌, ◌-ℤ◌, ◌≤ℤ◌, None, unsigned_abs};
+ghost use Rattle.std.specs.Prelude.{◌≡◌, ℤ, pos, ◌*◌, ◌^◌, ◌+ℤ◌, ◌-ℤ◌, ◌≤ℤ◌, ◌≤◌, ◌<◌, ◌||◌, ◌+◌, int_lt, not, None, false, nat_lt, if◌then◌else◌, unsigned_abs};
+ghost use Rattle.arrayvec.specs.ArrayVec.{array_vec_len};
 ghost use Rattle.lk_base.specs.Ranges.{IsMoment, IsWithin, IsWithinLimit};
 
+use crate::laws::honest_pongs_bound_the_error;
 use crate::outcome::{MeasureFault, Outcome};
+use crate::points::{add_points, gives_points, offset_in};
 use arrayvec::ArrayVec;
-use ghost_xform::{XForm, offset_of};
+use ghost_xform::XForm;
 use link_payload::{PingFields, PongFields};
 use lk_base::{Endpoint, Gate, NodeId, Target};
 
@@ -33,11 +36,16 @@ pub struct Measure {
     silences: u8,
     deadline: i64,
     over: bool,
+    ghost room: { over ≡ false → array_vec_len points ≤ 100 },
+    ghost patient: { over ≡ false → silences < 6 },
 }
 
 impl Measure {
-    ghost use Rattle.ping_measure.specs.Life.{Life, StandsFor, opening, pong_outcome, pong_after, tick_outcome, tick_after, deadline_of, is_over};
+    ghost use Rattle.ping_measure.specs.Life.{Life, StandsFor, opening, pong_outcome, pong_after, tick_outcome, tick_after, deadline_of, is_over, with, is_from, counted_outcome, silences_of};
     ghost use Rattle.ping_measure.specs.Accuracy.{AreFair, IfDone};
+    ghost use Rattle.ping_measure.specs.Points.{counted, silent, strayed, is_zero};
+    ghost use Rattle.ping_measure.specs.declared.outcome.MeasureFault.TheVariants.{OtherSession, Silence};
+    ghost use Rattle.ping_measure.specs.declared.outcome.Outcome.TheVariants.{Again, Failed};
 
     /// Starts a measurement at the host time `now`, and answers the ping to send first.
     pub fn start(target: Target, session: NodeId, now: i64) -> (Measure, PingFields)
@@ -45,7 +53,15 @@ impl Measure {
         ensures stands { StandsFor result.0 (opening target session now) }
         ensures ping { result.1 ≡ record { host = now; previous = None } }
     {
-        todo!()
+        let measure = Measure {
+            target,
+            session,
+            points: ArrayVec::new(),
+            silences: 0,
+            deadline: now + PATIENCE,
+            over: false,
+        };
+        (measure, first_ping(now))
     }
 
     /// Takes a pong that came on a gate from an endpoint at the host time `now`.
@@ -70,7 +86,17 @@ impl Measure {
             → (c r : ℤ) → IsWithin (2 ^ 60) c → AreFair c r (pong_after life gate from pong.now now)
             → IfDone result (λ xform. pos (2 * unsigned_abs (xform.offset -ℤ c)) ≤ℤ (r +ℤ pos 1)) }
     {
-        todo!()
+        honest_pongs_bound_the_error();
+        if self.passes_over(gate, from) {
+            return Outcome::Idle;
+        }
+        if pong.session != self.session {
+            return self.strayed(pong.session);
+        }
+        if !gives_points(pong) {
+            return Outcome::Idle;
+        }
+        self.counted(pong, now)
     }
 
     /// Takes the host time `now`.
@@ -82,7 +108,10 @@ impl Measure {
         ensures answer { (life : Life) → StandsFor self.old life → result ≡ tick_outcome life now }
         ensures stands { (life : Life) → StandsFor self.old life → StandsFor self.new (tick_after life now) }
     {
-        todo!()
+        if self.is_early(now) {
+            return Outcome::Idle;
+        }
+        self.silent(now)
     }
 
     /// The host time at which the last ping counts as not answered, in microseconds.
@@ -104,4 +133,86 @@ impl Measure {
     pub fn is_over(&self) -> bool
         ensures { (life : Life) → StandsFor self.now life → result ≡ is_over life }
     { self.over }
+
+    // Whether nothing follows from what comes from there.
+    fn passes_over(&self, gate: Gate, from: Endpoint) -> bool
+        ensures { result ≡ (self.now.over || not (is_from self.now.target gate from)) }
+    {
+        self.over || !self.is_from(gate, from)
+    }
+
+    // Whether nothing follows from this moment.
+    fn is_early(&self, now: i64) -> bool
+        ensures { result ≡ (self.now.over || int_lt now self.now.deadline) }
+    {
+        self.over || now < self.deadline
+    }
+
+    // Whether this is where the target answers.
+    fn is_from(&self, gate: Gate, from: Endpoint) -> bool
+        ensures { result ≡ is_from self.now.target gate from }
+    {
+        gate == self.target.gate && from == self.target.endpoint
+    }
+
+    // The target has gone to another session.
+    fn strayed(&mut self, session: NodeId) -> Outcome
+        requires { self.old.over ≡ false }
+        ensures answer { result ≡ Failed (OtherSession session) }
+        ensures stands { (life : Life) → StandsFor self.old life → StandsFor self.new (with life (strayed session)) }
+    {
+        self.over = true;
+        Outcome::Failed(MeasureFault::OtherSession(session))
+    }
+
+    // Takes the points of a pong that has some.
+    fn counted(&mut self, pong: &PongFields, now: i64) -> Outcome
+        requires going { self.old.over ≡ false }
+        requires some { (is_zero pong.now.ghost_time || is_zero pong.now.host) ≡ false }
+        requires moment { IsMoment now }
+        requires ghost_time { IsWithinLimit pong.now.ghost_time }
+        requires host { IsWithinLimit pong.now.host }
+        requires previous { IsWithinLimit pong.now.previous }
+        ensures answer { (life : Life) → StandsFor self.old life → result ≡ counted_outcome life pong.now now }
+        ensures stands { (life : Life) → StandsFor self.old life → StandsFor self.new (with life (counted pong.now now)) }
+    {
+        add_points(&mut self.points, pong, now);
+        if self.points.len() > POINTS {
+            self.over = true;
+            return Outcome::Done(XForm {
+                offset: offset_in(&self.points),
+            });
+        }
+        self.deadline = now + PATIENCE;
+        Outcome::Again(PingFields {
+            host: now,
+            previous: Some(pong.ghost_time),
+        })
+    }
+
+    // A ping was not answered.
+    fn silent(&mut self, now: i64) -> Outcome
+        requires going { self.old.over ≡ false }
+        requires moment { IsMoment now }
+        ensures answer { (life : Life) → StandsFor self.old life → result ≡ (if nat_lt (silences_of life + 1) 6 then Again (record { host = now; previous = None }) else Failed Silence) }
+        ensures stands { (life : Life) → StandsFor self.old life → StandsFor self.new (with life (silent now)) }
+    {
+        self.silences += 1;
+        if self.silences >= SILENCES {
+            self.over = true;
+            return Outcome::Failed(MeasureFault::Silence);
+        }
+        self.deadline = now + PATIENCE;
+        Outcome::Again(first_ping(now))
+    }
+}
+
+// A ping that carries no ghost time.
+fn first_ping(now: i64) -> PingFields
+    ensures { result ≡ record { host = now; previous = None } }
+{
+    PingFields {
+        host: now,
+        previous: None,
+    }
 }
