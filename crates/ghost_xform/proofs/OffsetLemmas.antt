@@ -22,7 +22,8 @@ rank_within c r xs rank x is all =
     rw (at.2) at (all at.0 x at.1)
 
 -- a quarter of the sum of two points near twice a number
-pub quarter_near : (c r a b : ℤ) → IsWithin (2 ^ 60) c → IsAbout c r a → IsAbout c r b → pos (2 * unsigned_abs (clipped_of (nearest_of (a +ℤ b) (pos 4)) -ℤ c)) ≤ℤ (r +ℤ pos 1)
+pub quarter_near : (c r a b : ℤ) → IsWithin (2 ^ 60) c → IsAbout c r a → IsAbout c r b
+    → pos (2 * unsigned_abs (clipped_of (nearest_of (a +ℤ b) (pos 4)) -ℤ c)) ≤ℤ (r +ℤ pos 1)
 quarter_near c r a b within isa isb =
     let is = nearest_of-IsNearest (a +ℤ b) (pos 4) (omega (arith, ints)) in
     let near = is.near in
@@ -33,7 +34,8 @@ quarter_near c r a b within isa isb =
     omega (arith, ints, clamps)
 
 -- two middle values give the offset
-pub offset_from : (xs : List ℤ) (lower upper : ℤ) → 0 < length xs → HasRank xs (lower_middle (length xs)) lower → HasRank xs (upper_middle (length xs)) upper → clipped_of (nearest_of (lower +ℤ upper) (pos 4)) ≡ offset_of xs
+pub offset_from : (xs : List ℤ) (lower upper : ℤ) → 0 < length xs → HasRank xs (lower_middle (length xs)) lower
+    → HasRank xs (upper_middle (length xs)) upper → clipped_of (nearest_of (lower +ℤ upper) (pos 4)) ≡ offset_of xs
 unfolding offset_of
 offset_from xs lower upper h islower isupper =
     let n = length xs in
@@ -55,14 +57,16 @@ offset_of-IsOffsetOf xs h =
     }
 
 -- Points that are all about twice c give an offset near it.
-pub offset_of-near : (c r : ℤ) (xs : List ℤ) → 0 < length xs → IsWithin (2 ^ 60) c → All (IsAbout c r) xs → pos (2 * unsigned_abs (offset_of xs -ℤ c)) ≤ℤ (r +ℤ pos 1)
+pub offset_of-near : (c r : ℤ) (xs : List ℤ) → 0 < length xs → IsWithin (2 ^ 60) c → All (IsAbout c r) xs
+    → pos (2 * unsigned_abs (offset_of xs -ℤ c)) ≤ℤ (r +ℤ pos 1)
 offset_of-near c r xs h within all =
     let is = offset_of-IsOffsetOf xs h in
     rw (is.quarter)
     (quarter_near c r is.lower is.upper within (rank_within c r xs _ _ is.lower_rank all) (rank_within c r xs _ _ is.upper_rank all))
 
 -- one rank's value in two orders of a list
-same_rank : (xs ys : List ℤ) (r : ℕ) → IsPermutation xs ys → r < length xs → length ys ≡ length xs → ranked_in xs r ≡ ranked_in ys r
+same_rank : (xs ys : List ℤ) (r : ℕ) → IsPermutation xs ys → r < length xs → length ys ≡ length xs
+    → ranked_in xs r ≡ ranked_in ys r
 same_rank xs ys r moved h e =
     one_rank xs r (ranked_in xs r) (ranked_in ys r) (ranked_in-HasRank xs r h)
     (HasRank-IsPermutation xs ys r (ranked_in ys r) moved (ranked_in-HasRank ys r (omega arith)))

@@ -81,7 +81,8 @@ from_below y ys r b is h =
       at_most = omega (arith, count_yes (λ e. int_le e b) y ys (le_true y b h));
     }
 
-between : (y : ℤ) (ys : List ℤ) (r : ℕ) → count_by (λ e. int_lt e y) ys ≤ r → r ≤ count_by (λ e. int_le e y) ys → HasRank (y ∷ ys) r y
+between : (y : ℤ) (ys : List ℤ) (r : ℕ) → count_by (λ e. int_lt e y) ys ≤ r → r ≤ count_by (λ e. int_le e y) ys
+    → HasRank (y ∷ ys) r y
 between y ys r low high =
     record {
       less = omega (arith, count_no (λ e. int_lt e y) y ys (lt_false y y (omega (arith, ints))));
@@ -91,7 +92,8 @@ between y ys r low high =
 abbrev Ranked : List ℤ → ℕ → Type 0
 Ranked xs r = (x : ℤ) × HasRank xs r x
 
-not_below : (y : ℤ) (ys : List ℤ) (r : ℕ) → (r < length ys → Ranked ys r) → r < suc (length ys) → r ≤ count_by (λ e. int_le e y) ys → Ranked (y ∷ ys) r
+not_below : (y : ℤ) (ys : List ℤ) (r : ℕ) → (r < length ys → Ranked ys r) → r < suc (length ys)
+    → r ≤ count_by (λ e. int_le e y) ys → Ranked (y ∷ ys) r
 not_below y ys r here h high =
     elim (cases_lt r (length ys)) [
       | inl lt ↦
@@ -120,11 +122,14 @@ ranked (y ∷ ys) (suc r) h =
     (λ below. (b.0, from_below y ys r b.0 b.1 below))
 
 -- what `find` finds passes
-found : (p : ℤ → Bool) (y : ℤ) (ys : List ℤ) (b : Bool) → p y ≡ b → (b ≡ false → p (unwrap_or (find p ys) (pos 0)) ≡ true) → p (unwrap_or (cond b (Some y) (find p ys)) (pos 0)) ≡ true
+found : (p : ℤ → Bool) (y : ℤ) (ys : List ℤ) (b : Bool) → p y ≡ b
+    → (b ≡ false → p (unwrap_or (find p ys) (pos 0)) ≡ true)
+    → p (unwrap_or (cond b (Some y) (find p ys)) (pos 0)) ≡ true
 found p y ys true e rest = e
 found p y ys false e rest = rest refl
 
-passing_later : (p : ℤ → Bool) (y : ℤ) (ys : List ℤ) (x : ℤ) (k : ℕ) → k < length (y ∷ ys) → get_or (y ∷ ys) k x ≡ x → p x ≡ true → p y ≡ false → Contains ys x
+passing_later : (p : ℤ → Bool) (y : ℤ) (ys : List ℤ) (x : ℤ) (k : ℕ) → k < length (y ∷ ys) → get_or (y ∷ ys) k x ≡ x
+    → p x ≡ true → p y ≡ false → Contains ys x
 passing_later p y ys x zero lt e h fails = absurd (false≢true (sym fails ∙ ap p e ∙ h))
 passing_later p y ys x (suc k) lt e h fails = (k, omega arith, e)
 
@@ -172,7 +177,8 @@ rises xs i j d up le lt =
     (sorted_far (λ x y. is_lt (int_cmp x y)) (ranks_by int_cmp_total (λ x. x)) xs up i j d le lt)
 
 -- none of what comes from there on is below it, and all up to there is at most that
-none_behind : (xs : List ℤ) (r : ℕ) (d : ℤ) → IsSorted int_cmp xs → r < length xs → count_by (λ e. int_lt e (get_or xs r d)) (drop r xs) ≡ 0
+none_behind : (xs : List ℤ) (r : ℕ) (d : ℤ) → IsSorted int_cmp xs → r < length xs
+    → count_by (λ e. int_lt e (get_or xs r d)) (drop r xs) ≡ 0
 none_behind xs r d up h =
     count_none (λ e. int_lt e (get_or xs r d)) (drop r xs)
     (λ k e lt.
@@ -181,7 +187,8 @@ none_behind xs r d up h =
     lt_false (get_or (drop r xs) k e) (get_or xs r d)
     (rw same (rises xs r (r + k) d up (omega arith) within)))
 
-all_before : (xs : List ℤ) (r : ℕ) (d : ℤ) → IsSorted int_cmp xs → r < length xs → count_by (λ e. int_le e (get_or xs r d)) (take (r + 1) xs) ≡ r + 1
+all_before : (xs : List ℤ) (r : ℕ) (d : ℤ) → IsSorted int_cmp xs → r < length xs
+    → count_by (λ e. int_le e (get_or xs r d)) (take (r + 1) xs) ≡ r + 1
 all_before xs r d up h =
     let whole = length-take-le (r + 1) xs (omega arith) in
     count_all (λ e. int_le e (get_or xs r d)) (take (r + 1) xs)
@@ -202,6 +209,7 @@ rank_at xs r d up h =
       at_most = omega (arith, sum_by-take-le (λ e. cond (int_le e x) 1 0) xs (r + 1));
     }
 
-pub rank_after_sort : (xs ys : List ℤ) (r k : ℕ) → IsPermutation xs ys → IsSorted int_cmp ys → k ≡ r → r < length ys → HasRank xs r (get_or ys k (pos 0))
+pub rank_after_sort : (xs ys : List ℤ) (r k : ℕ) → IsPermutation xs ys → IsSorted int_cmp ys → k ≡ r → r < length ys
+    → HasRank xs r (get_or ys k (pos 0))
 rank_after_sort xs ys r k moved up e h =
     rw e (HasRank-IsPermutation xs ys r (get_or ys r (pos 0)) moved (rank_at ys r (pos 0) up h))

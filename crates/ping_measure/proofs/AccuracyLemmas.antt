@@ -1,19 +1,18 @@
 -- What honest pongs say of the points, and how many pongs the points need.
-use Rattle.std.proofs.Common.{◌≡◌, ℕ, ◌+◌, ◌*◌, ◌^◌, ◌<◌, ◌≤◌, Bool, true, false, cond, if◌then◌else◌, List, [], ◌∷◌, ◌++◌, ℤ, pos, ◌+ℤ◌, ◌-ℤ◌, ◌≤ℤ◌, unsigned_abs, nat_lt, length, count_by, All, refl, sym, ap, ◌∙◌, arith}
+use Rattle.std.proofs.Common.{◌≡◌, ◌*◌, ◌<◌, ◌≤◌, Bool, true, false, cond, if◌then◌else◌, List, [], ◌∷◌, ◌++◌, ℤ, pos, ◌+ℤ◌, ◌-ℤ◌, ◌≤ℤ◌, unsigned_abs, nat_lt, length, count_by, All, refl, sym, ap, ◌∙◌, arith}
 use Rattle.std.specs.List.{AllByRecursion}
 use Rattle.std.proofs.lemmas.Int.{ints}
 use Rattle.std.proofs.lemmas.Bool.{false≢true, ltb-true}
 use Rattle.std.proofs.lemmas.List.{length-append}
 use Rattle.std.proofs.lemmas.List.Elements.{All-append, All-cons}
 use Rattle.std.proofs.lemmas.List.Sums.{sum_by-cons}
-use Rattle.lk_base.specs.Ranges.{IsWithin}
 use Rattle.ghost_xform.specs.Rank.{IsAbout, offset_of}
 use Rattle.ghost_xform.specs.declared.xform.XForm.{XForm}
 use Rattle.link_payload.specs.declared.fields.PingFields.{PingFields}
 use Rattle.link_payload.specs.declared.fields.PongFields.{PongFields}
 use Rattle.ping_measure.specs.Points.{Happened, counted, silent, strayed, is_counted, is_zero, point_of, point_before_of, points_in, points_of}
 use Rattle.ping_measure.specs.Life.{Life, with, counted_outcome}
-use Rattle.ping_measure.specs.Accuracy.{IsFairPong, IsFair, AreFair, IfDone}
+use Rattle.ping_measure.specs.Accuracy.{IsFairPong, IsFair, IfDone}
 use Rattle.ping_measure.specs.declared.outcome.Outcome.TheVariants.{Again, Done}
 use Rattle.ping_measure.proofs.LifeLemmas.{points_of-with}
 
@@ -28,7 +27,8 @@ fair_point c r pong at fair =
     let e : pong.ghost_time ≡ t +ℤ c = read.3 in
     record { low = omega (arith, ints); high = omega (arith, ints) }
 
-fair_point_before : (c r : ℤ) (pong : PongFields) (at : ℤ) → IsFairPong c r pong at → is_zero pong.previous ≡ false → IsAbout c r (point_before_of pong)
+fair_point_before : (c r : ℤ) (pong : PongFields) (at : ℤ) → IsFairPong c r pong at → is_zero pong.previous ≡ false
+    → IsAbout c r (point_before_of pong)
 fair_point_before c r pong at fair more =
     let round_trip = fair.round_trip in
     let read = fair.ghost_time in
@@ -46,7 +46,8 @@ fair_point_before c r pong at fair more =
 none_about : (c r : ℤ) → All (IsAbout c r) []
 none_about c r = λ k d lt. absurd (omega arith)
 
-fair_if : (c r x y : ℤ) (none first : Bool) → IsAbout c r x → (first ≡ false → IsAbout c r y) → All (IsAbout c r) (if none then [] else x ∷ (if first then [] else y ∷ []))
+fair_if : (c r x y : ℤ) (none first : Bool) → IsAbout c r x → (first ≡ false → IsAbout c r y)
+    → All (IsAbout c r) (if none then [] else x ∷ (if first then [] else y ∷ []))
 fair_if c r x y true first isx isy = none_about c r
 fair_if c r x y false true isx isy = All-cons (IsAbout c r) x [] isx (none_about c r)
 fair_if c r x y false false isx isy =
@@ -59,7 +60,8 @@ fair_points c r pong at fair =
     (λ more. fair_point_before c r pong at fair more)
 
 -- all points of honest pongs
-pub fair_all : (c r : ℤ) (happened : List Happened) → AllByRecursion (IsFair c r) happened → All (IsAbout c r) (points_of happened)
+pub fair_all : (c r : ℤ) (happened : List Happened) → AllByRecursion (IsFair c r) happened
+    → All (IsAbout c r) (points_of happened)
 unfolding points_of
 fair_all c r [] all = none_about c r
 fair_all c r (counted pong at ∷ xs) all =
@@ -93,11 +95,14 @@ enough_counted happened h = omega (arith, few_points happened)
 abbrev pub IsBound : Life → ℤ → ℤ → Type 0
 IsBound life c r = pos (2 * unsigned_abs (offset_of (points_of life.happened) -ℤ c)) ≤ℤ (r +ℤ pos 1)
 
-if_done : (b : Bool) (xform : XForm) (ping : PingFields) (P : XForm → Type 0) → (b ≡ true → P xform) → IfDone (if b then Done xform else Again ping) P
+if_done : (b : Bool) (xform : XForm) (ping : PingFields) (P : XForm → Type 0) → (b ≡ true → P xform)
+    → IfDone (if b then Done xform else Again ping) P
 if_done true xform ping P h = h refl
 if_done false xform ping P h = tt
 
-pub done_near : (life : Life) (pong : PongFields) (now c r : ℤ) → (100 < length (points_of (with life (counted pong now)).happened) → IsBound (with life (counted pong now)) c r) → IfDone (counted_outcome life pong now) (λ xform. pos (2 * unsigned_abs (xform.offset -ℤ c)) ≤ℤ (r +ℤ pos 1))
+pub done_near : (life : Life) (pong : PongFields) (now c r : ℤ)
+    → (100 < length (points_of (with life (counted pong now)).happened) → IsBound (with life (counted pong now)) c r)
+    → IfDone (counted_outcome life pong now) (λ xform. pos (2 * unsigned_abs (xform.offset -ℤ c)) ≤ℤ (r +ℤ pos 1))
 done_near life pong now c r bound =
     let points = points_of life.happened ++ points_in pong now in
     let same : points_of (with life (counted pong now)).happened ≡ points = points_of-with life.happened (counted pong now) in

@@ -1,5 +1,5 @@
 -- What one happening more makes of a life.
-use Rattle.std.proofs.Common.{◌≡◌, ℕ, ◌+◌, ◌-◌, ◌<◌, ◌≤◌, Bool, true, false, cond, ◌||◌, List, [], ◌∷◌, ◌++◌, ℤ, pos, ◌+ℤ◌, nat_lt, nat_le, length, take, count_by, refl, sym, ap, ◌∙◌, arith}
+use Rattle.std.proofs.Common.{◌≡◌, ◌+◌, ◌-◌, Bool, true, false, cond, ◌||◌, List, [], ◌∷◌, ◌++◌, ℤ, pos, ◌+ℤ◌, nat_lt, nat_le, length, take, count_by, refl, sym, ap, ◌∙◌, arith}
 use Rattle.std.specs.List.{list_any}
 use Rattle.std.proofs.lemmas.Bool.{false≢true}
 use Rattle.std.proofs.lemmas.List.{append-nil, length-append}
@@ -11,28 +11,33 @@ use Rattle.std.proofs.Math.Seq.{take-append_seam}
 use Rattle.lk_base.specs.declared.ids.NodeId.{NodeId}
 use Rattle.link_payload.specs.declared.fields.PongFields.{PongFields}
 use Rattle.ping_measure.specs.Points.{Happened, counted, silent, strayed, is_silent, is_stray, points_at, points_in, points_of}
-use Rattle.ping_measure.specs.Life.{Life, with, silences_of, is_over, answered_in, last_of, deadline_of}
+use Rattle.ping_measure.specs.Life.{Life, with, silences_of, is_over, last_of, deadline_of}
 
-pub points_of-with : (happened : List Happened) (h : Happened) → points_of (happened ++ h ∷ []) ≡ points_of happened ++ points_at h
+pub points_of-with : (happened : List Happened) (h : Happened)
+    → points_of (happened ++ h ∷ []) ≡ points_of happened ++ points_at h
 unfolding points_of
 points_of-with happened h =
     flat_map-append points_at happened (h ∷ []) ∙ ap (λ l. points_of happened ++ l) (append-nil (points_at h))
 
 -- what gives no point leaves them
-pub points_of-kept : (happened : List Happened) (h : Happened) → points_at h ≡ [] → points_of (happened ++ h ∷ []) ≡ points_of happened
+pub points_of-kept : (happened : List Happened) (h : Happened) → points_at h ≡ []
+    → points_of (happened ++ h ∷ []) ≡ points_of happened
 points_of-kept happened h none =
     points_of-with happened h ∙ ap (λ l. points_of happened ++ l) none ∙ append-nil (points_of happened)
 
-pub silences-with : (happened : List Happened) (h : Happened) → count_by is_silent (happened ++ h ∷ []) ≡ count_by is_silent happened + cond (is_silent h) 1 0
+pub silences-with : (happened : List Happened) (h : Happened)
+    → count_by is_silent (happened ++ h ∷ []) ≡ count_by is_silent happened + cond (is_silent h) 1 0
 silences-with happened h = sum_by_push (λ e. cond (is_silent e) 1 0) happened h
 
-stray-with : (happened : List Happened) (h : Happened) → list_any is_stray (happened ++ h ∷ []) ≡ (list_any is_stray happened || is_stray h)
+stray-with : (happened : List Happened) (h : Happened)
+    → list_any is_stray (happened ++ h ∷ []) ≡ (list_any is_stray happened || is_stray h)
 stray-with [] h = or-false (is_stray h)
 stray-with (x ∷ xs) h =
     ap (λ b. is_stray x || b) (stray-with xs h) ∙ sym (or_assoc (is_stray x) (list_any is_stray xs) (is_stray h))
 
 -- the last moment
-pub last_of-counted : (begun : ℤ) (happened : List Happened) (pong : PongFields) (at : ℤ) → last_of begun (happened ++ counted pong at ∷ []) ≡ at
+pub last_of-counted : (begun : ℤ) (happened : List Happened) (pong : PongFields) (at : ℤ)
+    → last_of begun (happened ++ counted pong at ∷ []) ≡ at
 last_of-counted begun [] pong at = refl
 last_of-counted begun (counted p a ∷ xs) pong at = last_of-counted a xs pong at
 last_of-counted begun (silent a ∷ xs) pong at = last_of-counted a xs pong at
@@ -45,7 +50,8 @@ last_of-silent begun (silent a ∷ xs) at = last_of-silent a xs at
 last_of-silent begun (strayed s ∷ xs) at = last_of-silent begun xs at
 
 -- all but the last
-before_last : (happened : List Happened) (h : Happened) → take (length (happened ++ h ∷ []) - 1) (happened ++ h ∷ []) ≡ happened
+before_last : (happened : List Happened) (h : Happened)
+    → take (length (happened ++ h ∷ []) - 1) (happened ++ h ∷ []) ≡ happened
 before_last happened h =
     let e : length (happened ++ h ∷ []) - 1 ≡ length happened = omega (arith, length-append happened (h ∷ [])) in
     ap (λ n. take n (happened ++ h ∷ [])) e ∙ take-append_seam happened (h ∷ [])
@@ -75,13 +81,15 @@ is_silenced happened = nat_le 6 (count_by is_silent happened)
 abbrev has_strayed : List Happened → Bool
 has_strayed happened = list_any is_stray happened
 
-pub going_parts : (life : Life) → is_over life ≡ false → (has_enough life.happened ≡ false) × (is_silenced life.happened ≡ false) × (has_strayed life.happened ≡ false)
+pub going_parts : (life : Life) → is_over life ≡ false
+    → (has_enough life.happened ≡ false) × (is_silenced life.happened ≡ false) × (has_strayed life.happened ≡ false)
 unfolding is_over
 going_parts life going =
     parts_false (has_enough life.happened) (is_silenced life.happened) (has_strayed life.happened) going
 
 -- a pong that counts
-pub over-counted : (life : Life) (pong : PongFields) (at : ℤ) → is_over life ≡ false → is_over (with life (counted pong at)) ≡ nat_lt 100 (length (points_of life.happened ++ points_in pong at))
+pub over-counted : (life : Life) (pong : PongFields) (at : ℤ) → is_over life ≡ false
+    → is_over (with life (counted pong at)) ≡ nat_lt 100 (length (points_of life.happened ++ points_in pong at))
 unfolding is_over
 over-counted life pong at going =
     let h = counted pong at in
@@ -92,7 +100,8 @@ over-counted life pong at going =
     (stray-with life.happened h ∙ or-false _ ∙ parts.2)
     ∙ ap (λ l. nat_lt 100 (length l)) (points_of-with life.happened h)
 
-pub over-silent : (life : Life) (at : ℤ) → is_over life ≡ false → is_over (with life (silent at)) ≡ nat_le 6 (silences_of life + 1)
+pub over-silent : (life : Life) (at : ℤ) → is_over life ≡ false
+    → is_over (with life (silent at)) ≡ nat_le 6 (silences_of life + 1)
 unfolding is_over
 over-silent life at going =
     let h = silent at in
@@ -123,7 +132,8 @@ deadline-going life going =
     ap (λ b. last_of life.begun (cond b (take (length life.happened - 1) life.happened) life.happened) +ℤ pos 50_000) going
 
 -- what ends a measurement moves nothing
-pub deadline-ended : (life : Life) (h : Happened) → is_over life ≡ false → is_over (with life h) ≡ true → deadline_of (with life h) ≡ deadline_of life
+pub deadline-ended : (life : Life) (h : Happened) → is_over life ≡ false → is_over (with life h) ≡ true
+    → deadline_of (with life h) ≡ deadline_of life
 unfolding deadline_of
 deadline-ended life h going over =
     let more = life.happened ++ h ∷ [] in
@@ -131,12 +141,14 @@ deadline-ended life h going over =
     ∙ ap (λ l. last_of life.begun l +ℤ pos 50_000) (before_last life.happened h)
     ∙ sym (deadline-going life going)
 
-pub deadline-counted : (life : Life) (pong : PongFields) (at : ℤ) → is_over (with life (counted pong at)) ≡ false → deadline_of (with life (counted pong at)) ≡ at +ℤ pos 50_000
+pub deadline-counted : (life : Life) (pong : PongFields) (at : ℤ) → is_over (with life (counted pong at)) ≡ false
+    → deadline_of (with life (counted pong at)) ≡ at +ℤ pos 50_000
 deadline-counted life pong at going =
     deadline-going (with life (counted pong at)) going
     ∙ ap (λ z. z +ℤ pos 50_000) (last_of-counted life.begun life.happened pong at)
 
-pub deadline-silent : (life : Life) (at : ℤ) → is_over (with life (silent at)) ≡ false → deadline_of (with life (silent at)) ≡ at +ℤ pos 50_000
+pub deadline-silent : (life : Life) (at : ℤ) → is_over (with life (silent at)) ≡ false
+    → deadline_of (with life (silent at)) ≡ at +ℤ pos 50_000
 deadline-silent life at going =
     deadline-going (with life (silent at)) going
     ∙ ap (λ z. z +ℤ pos 50_000) (last_of-silent life.begun life.happened at)

@@ -1,6 +1,6 @@
 -- What an honest pong is: each ghost time that it carries was read off a clock that is ahead of the host's by c, while
 -- its ping, or the one before, was on its way.
-use Rattle.std.specs.Prelude.{◌≡◌, ℤ, pos, ◌+ℤ◌, ◌-ℤ◌, ◌≤ℤ◌, List}
+use Rattle.std.specs.Prelude.{◌≡◌, ℤ, pos, ◌+ℤ◌, ◌-ℤ◌, ◌≤ℤ◌}
 use Rattle.std.specs.List.{AllByRecursion}
 use Rattle.ghost_xform.specs.declared.xform.XForm.{XForm}
 use Rattle.link_payload.specs.declared.fields.PongFields.{PongFields}

@@ -1,6 +1,6 @@
 //! A measurement: its start, its pongs and its ticks.
 
-ghost use Rattle.std.specs.Prelude.{◌≡◌, ℤ, pos, ◌*◌, ◌^◌, ◌+ℤ◌, ◌-ℤ◌, ◌≤ℤ◌, ◌≤◌, ◌<◌, ◌||◌, ◌+◌, int_lt, not, None, false, nat_lt, if◌then◌else◌, unsigned_abs};
+ghost use Rattle.std.specs.Prelude.{◌≡◌, ℤ, pos, ◌*◌, ◌^◌, ◌+ℤ◌, ◌-ℤ◌, ◌≤ℤ◌, ◌≤◌, ◌<◌, ◌||◌, ◌+◌, int_lt, not, Some, None, false, nat_lt, if◌then◌else◌, unsigned_abs};
 ghost use Rattle.arrayvec.specs.ArrayVec.{array_vec_len};
 ghost use Rattle.lk_base.specs.Ranges.{IsMoment, IsWithin, IsWithinLimit};
 
@@ -117,22 +117,30 @@ impl Measure {
     /// The host time at which the last ping counts as not answered, in microseconds.
     pub fn deadline(&self) -> i64
         ensures { (life : Life) → StandsFor self.now life → result ≡ deadline_of life }
-    { self.deadline }
+    {
+        self.deadline
+    }
 
     /// The session that is measured.
     pub fn session(&self) -> NodeId
         ensures { (life : Life) → StandsFor self.now life → result ≡ life.session }
-    { self.session }
+    {
+        self.session
+    }
 
     /// The peer that is pinged.
     pub fn target(&self) -> Target
         ensures { (life : Life) → StandsFor self.now life → result ≡ life.target }
-    { self.target }
+    {
+        self.target
+    }
 
     /// Whether it is done or has failed.
     pub fn is_over(&self) -> bool
         ensures { (life : Life) → StandsFor self.now life → result ≡ is_over life }
-    { self.over }
+    {
+        self.over
+    }
 
     // Whether nothing follows from what comes from there.
     fn passes_over(&self, gate: Gate, from: Endpoint) -> bool
@@ -179,22 +187,19 @@ impl Measure {
         add_points(&mut self.points, pong, now);
         if self.points.len() > POINTS {
             self.over = true;
-            return Outcome::Done(XForm {
-                offset: offset_in(&self.points),
-            });
+            let offset = offset_in(&self.points);
+            return Outcome::Done(XForm { offset });
         }
         self.deadline = now + PATIENCE;
-        Outcome::Again(PingFields {
-            host: now,
-            previous: Some(pong.ghost_time),
-        })
+        Outcome::Again(next_ping(pong, now))
     }
 
     // A ping was not answered.
     fn silent(&mut self, now: i64) -> Outcome
         requires going { self.old.over ≡ false }
         requires moment { IsMoment now }
-        ensures answer { (life : Life) → StandsFor self.old life → result ≡ (if nat_lt (silences_of life + 1) 6 then Again (record { host = now; previous = None }) else Failed Silence) }
+        ensures answer { (life : Life) → StandsFor self.old life → result ≡
+            (if nat_lt (silences_of life + 1) 6 then Again (record { host = now; previous = None }) else Failed Silence) }
         ensures stands { (life : Life) → StandsFor self.old life → StandsFor self.new (with life (silent now)) }
     {
         self.silences += 1;
@@ -204,6 +209,16 @@ impl Measure {
         }
         self.deadline = now + PATIENCE;
         Outcome::Again(first_ping(now))
+    }
+}
+
+// The ping that follows a pong.
+fn next_ping(pong: &PongFields, now: i64) -> PingFields
+    ensures { result ≡ record { host = now; previous = Some pong.now.ghost_time } }
+{
+    PingFields {
+        host: now,
+        previous: Some(pong.ghost_time),
     }
 }
 

@@ -10,8 +10,8 @@ use arrayvec::ArrayVec;
 use ghost_xform::offset_of;
 use link_payload::PongFields;
 
-/// How many points a measurement has room for: 100 are not yet enough, and a pong gives at most two.
-pub(crate) const ROOM: usize = 102;
+// 100 are not yet enough, and a pong gives at most two.
+type Points = ArrayVec<i64, 102>;
 
 // Whether a pong gives a point: it carries a ghost time and a host time.
 pub(crate) fn gives_points(pong: &PongFields) -> bool
@@ -21,7 +21,7 @@ pub(crate) fn gives_points(pong: &PongFields) -> bool
 }
 
 // Appends the points of a pong that came at the host time `now`.
-pub(crate) fn add_points(points: &mut ArrayVec<i64, 102>, pong: &PongFields, now: i64)
+pub(crate) fn add_points(points: &mut Points, pong: &PongFields, now: i64)
     requires room { array_vec_len points.old ≤ 100 }
     requires some { (is_zero pong.now.ghost_time || is_zero pong.now.host) ≡ false }
     requires moment { IsMoment now }
@@ -63,11 +63,11 @@ fn point_before(pong: &PongFields) -> i64
 }
 
 // The offset that the points tell; they stay in their order.
-pub(crate) fn offset_in(points: &ArrayVec<i64, 102>) -> i64
+pub(crate) fn offset_in(points: &Points) -> i64
     requires { 0 < array_vec_len points.now }
     ensures { result ≡ rank.offset_of points.now.items }
 {
-    let mut sorted = ArrayVec::<i64, 102>::new();
+    let mut sorted = Points::new();
     let _copied = sorted.try_extend_from_slice(points.as_slice());
     offset_of(sorted.as_mut_slice())
 }

@@ -1,7 +1,7 @@
 use Rattle.std.proofs.Common.{◌≡◌, true, false, ◌∷◌, [], ◌++◌, FitsSigned, rules, sym, ap, ◌∙◌, append_assoc}
 use Rattle.std.proofs.lemmas.Int.{to_z-of_z}
 use mir.Syntax.{w64}
-use Rattle.ping_measure.specs.Points.{is_zero, point_of, point_before_of, points_in}
+use Rattle.ping_measure.specs.Points.{is_zero, point_of}
 use Rattle.ping_measure.proofs.OutcomeLemmas.{points-one, points-two, passes, fails}
 use Rattle.ping_measure.proofs.points.add_points.Goals as goal
 

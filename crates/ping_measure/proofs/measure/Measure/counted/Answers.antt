@@ -1,4 +1,4 @@
-use Rattle.std.proofs.Common.{◌≡◌, ◌++◌, ◌<◌, ◌≤◌, false, true, pos, ◌+ℤ◌, nat_lt, length, FitsSigned, refl, sym, ap, ◌∙◌, arith}
+use Rattle.std.proofs.Common.{◌≡◌, ◌++◌, ◌<◌, ◌≤◌, false, true, pos, ◌+ℤ◌, length, FitsSigned, sym, ap, ◌∙◌, arith}
 use Rattle.std.proofs.lemmas.Int.{ints, to_z-of_z}
 use Rattle.std.proofs.lemmas.Bool.{lt-ltb, le-ltb}
 use mir.Syntax.{w64}
@@ -44,6 +44,6 @@ returns-clause-stands c = λ life stands.
       points = points ∙ sym (points_of-with life.happened happening);
       silences = stands.silences ∙ sym (silences-with life.happened happening ∙ add-zero _);
       deadline = simp (to_z-of_z w64 _ c.ranges.now, to_z-of_z w64 _ later)
-      (sym (deadline-counted life pong c.args.now still));
+          (sym (deadline-counted life pong c.args.now still));
       over = c.requires.going ∙ sym still;
     }

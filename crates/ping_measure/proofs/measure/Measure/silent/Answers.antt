@@ -37,6 +37,6 @@ returns-clause-stands c = λ life stands.
       points = stands.points ∙ sym (points_of-kept life.happened happening refl);
       silences = ap (λ n. n + 1) stands.silences ∙ sym (silences-with life.happened happening);
       deadline = simp (to_z-of_z w64 _ c.ranges.now, to_z-of_z w64 _ later)
-      (sym (deadline-silent life c.args.now still));
+          (sym (deadline-silent life c.args.now still));
       over = c.requires.going ∙ sym still;
     }

@@ -1,4 +1,4 @@
-use Rattle.std.proofs.Common.{◌≡◌, false, pos, ◌+ℤ◌, FitsSigned, refl, sym, ◌∙◌, arith}
+use Rattle.std.proofs.Common.{pos, ◌+ℤ◌, FitsSigned, refl, sym, arith}
 use Rattle.std.proofs.lemmas.Int.{ints, to_z-of_z}
 use mir.Syntax.{w64}
 use Rattle.ping_measure.specs.Points.{points_of}

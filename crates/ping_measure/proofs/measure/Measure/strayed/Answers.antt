@@ -1,7 +1,7 @@
-use Rattle.std.proofs.Common.{◌≡◌, false, refl, sym, ap, ◌∙◌}
+use Rattle.std.proofs.Common.{◌≡◌, false, refl, sym, ◌∙◌}
 use native.Mathlib.Nat.{add-zero}
 use Rattle.ping_measure.specs.Points.{strayed}
-use Rattle.ping_measure.specs.Life.{is_over, with}
+use Rattle.ping_measure.specs.Life.{is_over}
 use Rattle.ping_measure.proofs.LifeLemmas.{points_of-kept, silences-with, over-strayed, deadline-ended}
 use Rattle.ping_measure.proofs.measure.Measure.strayed.Goals as goal
 
