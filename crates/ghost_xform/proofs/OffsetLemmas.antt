@@ -39,8 +39,10 @@ pub offset_from : (xs : List ℤ) (lower upper : ℤ) → 0 < length xs → HasR
 unfolding offset_of
 offset_from xs lower upper h islower isupper =
     let n = length xs in
-    let low = one_rank xs (lower_middle n) lower (ranked_in xs (lower_middle n)) islower (ranked_in-HasRank xs (lower_middle n) (lower_middle-lt n h)) in
-    let up = one_rank xs (upper_middle n) upper (ranked_in xs (upper_middle n)) isupper (ranked_in-HasRank xs (upper_middle n) (upper_middle-lt n h)) in
+    let isranked_low = ranked_in-HasRank xs (lower_middle n) (lower_middle-lt n h) in
+    let isranked_up = ranked_in-HasRank xs (upper_middle n) (upper_middle-lt n h) in
+    let low = one_rank xs (lower_middle n) lower (ranked_in xs (lower_middle n)) islower isranked_low in
+    let up = one_rank xs (upper_middle n) upper (ranked_in xs (upper_middle n)) isupper isranked_up in
     ap (λ a. clipped_of (nearest_of (a +ℤ upper) (pos 4))) low
     ∙ ap (λ b. clipped_of (nearest_of (ranked_in xs (lower_middle n) +ℤ b) (pos 4))) up
 

@@ -154,7 +154,9 @@ HasRank-from_test xs r x h =
 
 test-from_HasRank : (xs : List ℤ) (r : ℕ) (x : ℤ) → HasRank xs r x → has_rank xs r x ≡ true
 test-from_HasRank xs r x is =
-    true_both (nat_le (count_by (λ e. int_lt e x) xs) r) (nat_lt r (count_by (λ e. int_le e x) xs)) (le-leb _ _ is.less) (lt-ltb _ _ is.at_most)
+    true_both (nat_le (count_by (λ e. int_lt e x) xs) r) (nat_lt r (count_by (λ e. int_le e x) xs))
+    (le-leb _ _ is.less)
+    (lt-ltb _ _ is.at_most)
 
 -- `ranked_in` is the value of the rank
 pub ranked_in-HasRank : (xs : List ℤ) (r : ℕ) → r < length xs → HasRank xs r (ranked_in xs r)
@@ -204,8 +206,10 @@ rank_at xs r d up h =
     let x = get_or xs r d in
     let behind = none_behind xs r d up h in
     let before = all_before xs r d up h in
+    let split = sum_by-take-drop (λ e. cond (int_lt e x) 1 0) xs r in
+    let front = count_by-le-length (λ e. int_lt e x) (take r xs) in
     record {
-      less = omega (arith, sum_by-take-drop (λ e. cond (int_lt e x) 1 0) xs r, count_by-le-length (λ e. int_lt e x) (take r xs), length-take-le r xs (omega arith));
+      less = omega (arith, length-take-le r xs (omega arith));
       at_most = omega (arith, sum_by-take-le (λ e. cond (int_le e x) 1 0) xs (r + 1));
     }
 

@@ -84,7 +84,8 @@ unfolding points_of
 few_points [] = omega arith
 few_points (counted pong at ∷ xs) =
     let rest = few_points xs in
-    omega (arith, length-append (points_in pong at) (points_of xs), points_in-few pong at, sum_by-cons (λ e. cond (is_counted e) 1 0) (counted pong at) xs)
+    let one = sum_by-cons (λ e. cond (is_counted e) 1 0) (counted pong at) xs in
+    omega (arith, length-append (points_in pong at) (points_of xs), points_in-few pong at)
 few_points (silent at ∷ xs) = few_points xs
 few_points (strayed session ∷ xs) = few_points xs
 

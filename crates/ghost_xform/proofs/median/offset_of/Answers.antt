@@ -17,7 +17,8 @@ returns-clause-value c =
     let high_too : FitsSigned w128 upper = omega (arith, ints) in
     let sum : FitsSigned w128 (lower +ℤ upper) = omega (arith, ints) in
     let value = simp (to_z-of_z w128 _ near) at c.clip.ensures.value in
-    let quotient = simp (to_z-of_z w64 _ low, to_z-of_z w64 _ high, to_z-of_z w128 _ low_too, to_z-of_z w128 _ high_too, to_z-of_z w128 _ sum) at c.near.ensures.value in
+    let summed = simp (to_z-of_z w64 _ low, to_z-of_z w64 _ high, to_z-of_z w128 _ low_too, to_z-of_z w128 _ high_too) at c.near.ensures.value in
+    let quotient = simp (to_z-of_z w128 _ sum) at summed in
     to_z-of_z w64 _ fits
     ∙ value
     ∙ ap clipped_of quotient
