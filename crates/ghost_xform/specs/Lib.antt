@@ -1,0 +1,2 @@
+pub mod GhostTime
+pub mod Rank

@@ -1,0 +1,3 @@
+pub mod LifeLemmas
+pub mod OutcomeLemmas
+pub mod AccuracyLemmas
