@@ -448,6 +448,7 @@ SHOWN = {
     "publish_beside": "publish, the other thread reads",
     "read_beside": "read, the other thread publishes",
 }
+SCALE = 511  # the program counts rounds of more than so many nanoseconds a call as one
 best, middle, counted = {}, {}, {}
 for _ in range(runs):
     for line in subprocess.run([program], stdout=subprocess.PIPE, check=True, text=True).stdout.splitlines():
@@ -466,7 +467,8 @@ for (words, name), rounds in counted.items():
         print(f"{SHOWN[name]:36}{words:6}   no round counts: no two processors were free at a time")
         continue
     at = words, name
-    print(f"{SHOWN[name]:36}{words:6}{best[at]:9.1f}{middle[at]:9.1f}{best[at] / best[words, 'store']:8.1f}{rounds:8}")
+    half = f"{middle[at]:9.1f}" if middle[at] < SCALE else f"{'over ' + str(SCALE):>9}"
+    print(f"{SHOWN[name]:36}{words:6}{best[at]:9.1f}{half}{best[at] / best[words, 'store']:8.1f}{rounds:8}")
 model = next((line.split(":", 1)[1].strip() for line in open("/proc/cpuinfo") if line.startswith("model name")), "unknown")
 print(f"runs          {runs}, load {os.getloadavg()[0]:.1f} at the end")
 print(f"machine       {os.cpu_count()} processors, {model}")

@@ -234,9 +234,10 @@ fn either_cell_answers_as_the_lists_say(rt: HostRuntime) -> Result<(), Fail> {
     Ok(())
 }
 
-/// How many rows one thread makes beside another that reads them, and after how many it waits until the last one was read.
+/// How many rows one thread makes beside another that reads them.
 const ROWS: u64 = 40_000;
 
+/// After how many rows it waits until the last one was read.
 const PHASE: u64 = 4_000;
 
 /// How often a thread looks for what another is to do. It lets others run after each look.
@@ -260,28 +261,31 @@ impl Marks {
 
 /// What a reader has found: how many numbers, and whether each row was of its number's words and none older than the one
 /// before.
-#[derive(Clone, Copy, Debug, PartialEq, Eq)]
+#[derive(Clone, Copy)]
 struct Found {
     numbers: u64,
     whole: bool,
 }
 
-fn wait_for(mark: &AtomicU64, number: u64) {
+/// Waits until the mark has come to the number, and tells whether it has.
+fn wait_for(mark: &AtomicU64, number: u64) -> bool {
     for _look in 0..LOOKS {
         if mark.load(Ordering::SeqCst) >= number {
-            break;
+            return true;
         }
         yield_now();
     }
+    false
 }
 
-/// Waits until both threads are there.
-fn meet(marks: &Marks) {
+/// Waits until both threads are there, and tells whether they are.
+fn meet(marks: &Marks) -> bool {
     marks.there.fetch_add(1, Ordering::SeqCst);
-    wait_for(&marks.there, 2);
+    wait_for(&marks.there, 2)
 }
 
-/// Makes the rows, each of words that are its number. At the end of each phase it waits until that row was read.
+/// Makes the rows, each of words that are its number. At the end of each phase it waits until that row was read, unless it
+/// waited in vain before.
 fn publish_all<C: StateCell<W>, const W: usize>(
     cell: &C,
     way: &C::Way,
@@ -293,11 +297,11 @@ fn publish_all<C: StateCell<W>, const W: usize>(
     requires made { length (C.writing writer).made ≡ 1 }
     ensures { (C.writing result).cell ≡ C.cell cell.entry.now }
 {
-    meet(marks);
+    let mut waits = meet(marks);
     for number in 0..ROWS {
         cell.publish(way, &mut writer, &[number + 1; W]);
-        if (number + 1) % PHASE == 0 {
-            wait_for(&marks.read, number + 1);
+        if waits && (number + 1) % PHASE == 0 {
+            waits = wait_for(&marks.read, number + 1);
         }
     }
     writer
