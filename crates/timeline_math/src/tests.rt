@@ -181,11 +181,7 @@ fn an_encoded_beat_has_the_phase_of_its_place_past_the_origin(rt: HostRuntime) {
         assert!(rt; 0 <= quantum && quantum <= LONGEST);
         let tl = tidy_timeline(&rt, mpb, beat, time);
         assert!(rt; -LIMIT <= at && at <= LIMIT);
-        assert_eq!(rt;
-            encoded_beat(&tl, at, quantum),
-            want,
-            "at {at} of {tl:?}"
-        );
+        assert_eq!(rt; encoded_beat(&tl, at, quantum), want, "at {at} of {tl:?}");
     }
 }
 
