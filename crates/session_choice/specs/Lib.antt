@@ -1,0 +1,5 @@
+pub mod Best
+pub mod Winning
+pub mod Keyed
+pub mod History
+pub mod Table

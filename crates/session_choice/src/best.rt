@@ -1,0 +1,1 @@
+//! Which timeline of a session counts.
