@@ -3,3 +3,5 @@ pub mod Winning
 pub mod Keyed
 pub mod History
 pub mod Table
+pub mod Changes
+pub mod Kept

@@ -1,12 +1,12 @@
 //! The sessions that a node knows, the timeline that counts in each, and which session it is in.
 //!
-//! In reading order: `verdict`, `current`, `best`, `winning`, `known`, `sessions`, `laws`.
+//! In reading order: `verdict`, `current`, `winning`, `known`, `others`, `sessions`, `laws`.
 #![tactic(auto)]
 
-mod best;
 mod current;
 mod known;
 mod laws;
+mod others;
 mod sessions;
 #[cfg(test)]
 mod tests;

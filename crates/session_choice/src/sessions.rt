@@ -2,14 +2,13 @@
 
 use crate::current::Current;
 use crate::known::Known;
+use crate::others::{OTHERS, exchange, place_of, see_other};
 use crate::verdict::{Saw, Verdict};
+use crate::winning::wins;
 use ghost_xform::XForm;
 use lk_base::{NodeId, Timeline};
 use std::alloc::{AllocError, Global};
 use std::marker::Model;
-
-/// How many sessions besides the current one are known at most.
-pub const OTHERS: usize = 64;
 
 /// The sessions that a node knows: the current one, with its offset, and at most 64 others. Of each the one timeline
 /// that counts is kept, which is the first of greatest beat origin of those that it has taken.
@@ -28,11 +27,15 @@ impl Model for Sessions {
 
     ghost Value = { Table };
 
-    // view, invariant (distinct ids, room): to be written
+    ghost use Rattle.session_choice.specs.Kept.{table_of, IsKept};
+
+    ghost view = { table_of };
+
+    ghost invariant = { IsKept };
 }
 
 impl Sessions {
-    ghost use Rattle.std.specs.Prelude.{◌≡◌, ◌⊎◌, ℕ, ◌<◌, ◌<ℤ◌, length, is_some, option_map, slice_get, Some, IfOk};
+    ghost use Rattle.std.specs.Prelude.{◌≡◌, ◌⊎◌, ℕ, ◌<◌, ◌<ℤ◌, false, length, is_some, option_map, slice_get, Some, IfOk};
     ghost use Rattle.lk_base.specs.Ranges.{IsMoment};
     ghost use Rattle.lk_base.specs.Timeline.{IsTidy};
     ghost use Rattle.session_choice.specs.History.{best_in};
@@ -49,7 +52,11 @@ impl Sessions {
         ensures stands { IfOk result (λ sessions. StandsFor sessions (opening session timeline xform.offset)) }
         ensures tidy { IsTidy timeline → IfOk result HasTidyTimelines }
     {
-        todo!()
+        Ok(Sessions {
+            current: Known { session, timeline },
+            xform,
+            others: Vec::with_capacity(alloc, OTHERS)?,
+        })
     }
 
     /// The current session.
@@ -60,7 +67,11 @@ impl Sessions {
         ensures tidy { HasTidyTimelines self.now → IsTidy result.timeline }
         ensures distinct { HasDistinctIds self.now }
     {
-        todo!()
+        Current {
+            session: self.current.session,
+            timeline: self.current.timeline,
+            xform: self.xform,
+        }
     }
 
     /// How many other sessions are known.
@@ -68,7 +79,7 @@ impl Sessions {
         ensures count { result ≡ length self.now.others }
         ensures answer { (h : History) → StandsFor self.now h → result ≡ length h.others }
     {
-        todo!()
+        self.others.len()
     }
 
     /// The other session at a place, from 0. Each stands at one place, and the current one at none.
@@ -80,14 +91,18 @@ impl Sessions {
             → slice_get h.others j ≡ Some taking → taking.session ≡ result → j ≡ k }
         ensures another { (h : History) → StandsFor self.now h → h.current.session ≡ result → ⊥ }
     {
-        todo!()
+        self.others[k].session
     }
 
     /// The timeline that counts in a session. None where the session isn't known.
     pub fn timeline_of(&self, session: NodeId) -> Option<Timeline>
         ensures { (h : History) → StandsFor self.now h → result ≡ option_map best_in (known_in session h) }
     {
-        todo!()
+        if self.current.session == session {
+            return Some(self.current.timeline);
+        }
+        let place = place_of(&self.others, session)?;
+        Some(self.others[place].timeline)
     }
 
     /// Takes a timeline of a session. `Full` where the session isn't known and 64 others are, and `New` where it isn't
@@ -101,7 +116,11 @@ impl Sessions {
         ensures full { result ≡ Saw.Full → self.new ≡ self.old }
         ensures tidy { HasTidyTimelines self.old → HasTidyTimelines self.new }
     {
-        todo!()
+        if self.current.session == session {
+            self.current.see(timeline)
+        } else {
+            see_other(&mut self.others, session, timeline)
+        }
     }
 
     /// Takes the offset of a session that was measured, at the host time `now`. `Unknown` where the session isn't
@@ -116,7 +135,19 @@ impl Sessions {
         ensures unknown { result ≡ Verdict.Unknown → self.new ≡ self.old }
         ensures tidy { HasTidyTimelines self.old → HasTidyTimelines self.new }
     {
-        todo!()
+        if self.current.session == session {
+            self.xform = xform;
+            return Verdict::Remeasured;
+        }
+        let Some(place) = place_of(&self.others, session) else {
+            return Verdict::Unknown;
+        };
+        if wins(session, &xform, self.current.session, &self.xform, now) {
+            exchange(&mut self.current, &mut self.others, place);
+            self.xform = xform;
+            return Verdict::Joined;
+        }
+        Verdict::Stayed
     }
 
     /// Forgets another session. False where it isn't among the others; nothing changes then.
@@ -126,7 +157,11 @@ impl Sessions {
         ensures unchanged { result ≡ false → self.new ≡ self.old }
         ensures tidy { HasTidyTimelines self.old → HasTidyTimelines self.new }
     {
-        todo!()
+        let Some(place) = place_of(&self.others, session) else {
+            return false;
+        };
+        self.others.remove(place);
+        true
     }
 
     /// Takes a timeline that the current session was given here: the one that counts, or one of greater beat origin.
@@ -137,7 +172,7 @@ impl Sessions {
         ensures counts { (h : History) → StandsFor self.old h → best_in (committed timeline h).current ≡ timeline }
         ensures tidy { HasTidyTimelines self.old → HasTidyTimelines self.new }
     {
-        todo!()
+        self.current.timeline = timeline;
     }
 
     /// Forgets all sessions, and knows this one alone.
@@ -145,6 +180,8 @@ impl Sessions {
         ensures stands { StandsFor self.new (opening session timeline xform.offset) }
         ensures tidy { IsTidy timeline → HasTidyTimelines self.new }
     {
-        todo!()
+        self.current = Known { session, timeline };
+        self.xform = xform;
+        self.others.clear();
     }
 }

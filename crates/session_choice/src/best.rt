@@ -1,1 +1,0 @@
-//! Which timeline of a session counts.
