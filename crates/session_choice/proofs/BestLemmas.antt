@@ -50,10 +50,10 @@ more_taken list held seen lt best = record {
   after = [];
   split = refl;
   above =
-    subst (λ (l : List Timeline). AllByRecursion (IsBelow seen.beat) l) (sym best.split)
-    (all_append (IsBelow seen.beat) best.before (held ∷ best.after)
-     (all_weaken (IsBelow held.beat) (IsBelow seen.beat) (λ tl h. lt_trans tl.beat held.beat seen.beat h lt) best.before best.above)
-     (lt, all_weaken (IsUpTo held.beat) (IsBelow seen.beat) (λ tl h. le_lt_trans tl.beat held.beat seen.beat h lt) best.after best.least));
+      subst (λ (l : List Timeline). AllByRecursion (IsBelow seen.beat) l) (sym best.split)
+      (all_append (IsBelow seen.beat) best.before (held ∷ best.after)
+      (all_weaken (IsBelow held.beat) (IsBelow seen.beat) (λ tl h. lt_trans tl.beat held.beat seen.beat h lt) best.before best.above)
+      (lt, all_weaken (IsUpTo held.beat) (IsBelow seen.beat) (λ tl h. le_lt_trans tl.beat held.beat seen.beat h lt) best.after best.least));
   least = tt;
 }
 
@@ -100,14 +100,15 @@ test_of list b tl fails best =
 pub find_is_best : (list : List Timeline) (b : Timeline) → IsBest list b → find (is_greatest_in list) list ≡ Some b
 find_is_best list b best =
     let none : AllByRecursion (λ tl. is_greatest_in list tl ≡ false) best.before =
-        all_weaken (IsBelow b.beat) (λ tl. is_greatest_in list tl ≡ false) (λ tl h. test_of list b tl (false-int_le b.beat tl.beat h) best) best.before best.above in
+    all_weaken (IsBelow b.beat) (λ tl. is_greatest_in list tl ≡ false) (λ tl h. test_of list b tl (false-int_le b.beat tl.beat h) best) best.before best.above in
     let passes : is_greatest_in list b ≡ true =
-        subst (λ (l : List Timeline). is_greatest_in l b ≡ true) (sym best.split)
-        (list_all-true (λ other. int_le other.beat b.beat) (best.before ++ b ∷ best.after)
-         (all_append (λ other. int_le other.beat b.beat ≡ true) best.before (b ∷ best.after)
-          (all_weaken (IsBelow b.beat) (λ other. int_le other.beat b.beat ≡ true) (λ tl h. true-int_le tl.beat b.beat (lt_le tl.beat b.beat h)) best.before best.above)
-          (true-int_le b.beat b.beat (le_refl b.beat),
-           all_weaken (IsUpTo b.beat) (λ other. int_le other.beat b.beat ≡ true) (λ tl h. true-int_le tl.beat b.beat h) best.after best.least))) in
+    subst (λ (l : List Timeline). is_greatest_in l b ≡ true) (sym best.split)
+    (list_all-true (λ other. int_le other.beat b.beat) (best.before ++ b ∷ best.after)
+    (all_append (λ other. int_le other.beat b.beat ≡ true) best.before (b ∷ best.after)
+    (all_weaken (IsBelow b.beat) (λ other. int_le other.beat b.beat ≡ true) (λ tl h. true-int_le tl.beat b.beat (lt_le tl.beat b.beat h)) best.before best.above) (
+      true-int_le b.beat b.beat (le_refl b.beat),
+      all_weaken (IsUpTo b.beat) (λ other. int_le other.beat b.beat ≡ true) (λ tl h. true-int_le tl.beat b.beat h) best.after best.least,
+    ))) in
     ap (find (is_greatest_in list)) best.split ∙ find_between (is_greatest_in list) best.before best.after b none passes
 
 pub one_best_only : (list : List Timeline) (a b : Timeline) → IsBest list a → IsBest list b → a ≡ b

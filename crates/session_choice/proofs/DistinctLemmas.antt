@@ -123,14 +123,15 @@ pub distinct-joined : (id : NodeId) (current known : Known) (rows : List Known) 
 distinct-joined id current known [] all found = cc
 distinct-joined id current known (row ∷ rows) all found =
     by_test (λ b. (if b then Some row else found_by key_of id rows) ≡ Some known
-        → AreDistinct (known ∷ (if b then current ∷ rows else row ∷ updated_by key_of id (λ _. current) rows))) (same_id row.session id)
+    → AreDistinct (known ∷ (if b then current ∷ rows else row ∷ updated_by key_of id (λ _. current) rows))) (same_id row.session id)
     (λ _ is.
-     let e : row ≡ known = cc in
-     subst (λ (k : Known). AreDistinct (k ∷ current ∷ rows)) e ((λ same. all.0.0 (sym same), all.1.0), (all.0.1, all.1.1)))
+    let e : row ≡ known = cc in
+    subst (λ (k : Known). AreDistinct (k ∷ current ∷ rows)) e ((λ same. all.0.0 (sym same), all.1.0), (all.0.1, all.1.1)))
     (λ _ is.
-     let rest : AreDistinct (known ∷ updated_by key_of id (λ _. current) rows) = distinct-joined id current known rows (all.0.1, all.1.1) is in
-     ((λ same. all_found id (IsNot row.session) rows known all.1.0 is (sym same), rest.0),
-      (all_updated id (IsNot row.session) (λ _. current) (λ _ _ same. all.0.0 (sym same)) rows all.1.0, rest.1)))
+    let rest : AreDistinct (known ∷ updated_by key_of id (λ _. current) rows) = distinct-joined id current known rows (all.0.1, all.1.1) is in (
+      (λ same. all_found id (IsNot row.session) rows known all.1.0 is (sym same), rest.0),
+      (all_updated id (IsNot row.session) (λ _. current) (λ _ _ same. all.0.0 (sym same)) rows all.1.0, rest.1),
+    ))
     found
 
 -- ---- one place each

@@ -115,7 +115,7 @@ module _ {A B : Type 0} (a_key : A → NodeId) (b_key : B → NodeId) (id : Node
   map-found (row ∷ rows) =
       rw (same_test row)
       (by_test (λ b. (if b then Some (m row) else found_by b_key id (map m rows)) ≡ option_map m (if b then Some row else found_by a_key id rows)) (same_id (a_key row) id)
-       (λ _. refl) (λ _. map-found rows))
+      (λ _. refl) (λ _. map-found rows))
 
   pub map-updated : (f : A → A) (g : B → B) → ((row : A) → m (f row) ≡ g (m row)) → (rows : List A)
       → map m (updated_by a_key id f rows) ≡ updated_by b_key id g (map m rows)
@@ -123,11 +123,11 @@ module _ {A B : Type 0} (a_key : A → NodeId) (b_key : B → NodeId) (id : Node
   map-updated f g step (row ∷ rows) =
       rw (same_test row)
       (by_test (λ b. map m (if b then f row ∷ rows else row ∷ updated_by a_key id f rows) ≡ (if b then g (m row) ∷ map m rows else m row ∷ updated_by b_key id g (map m rows))) (same_id (a_key row) id)
-       (λ _. ap (λ x. x ∷ map m rows) (step row)) (λ _. ap (λ l. m row ∷ l) (map-updated f g step rows)))
+      (λ _. ap (λ x. x ∷ map m rows) (step row)) (λ _. ap (λ l. m row ∷ l) (map-updated f g step rows)))
 
   pub map-without : (rows : List A) → map m (without_by a_key id rows) ≡ without_by b_key id (map m rows)
   map-without [] = refl
   map-without (row ∷ rows) =
       rw (same_test row)
       (by_test (λ b. map m (if b then rows else row ∷ without_by a_key id rows) ≡ (if b then map m rows else m row ∷ without_by b_key id (map m rows))) (same_id (a_key row) id)
-       (λ _. refl) (λ _. ap (λ l. m row ∷ l) (map-without rows)))
+      (λ _. refl) (λ _. ap (λ l. m row ∷ l) (map-without rows)))

@@ -51,7 +51,7 @@ unfolding others_after
 few_others session seen others few =
     by_found (λ found. length (row_after found others session seen) ≤ 64) (found_by key_of session others)
     (λ _. by_test (λ b. nat_lt (length others) 64 ≡ b → length (if b then others ++ known_by session seen ∷ [] else others) ≤ 64) (nat_lt (length others) 64)
-     (λ _ is. grind (arith, nat_tests, length-append others (known_by session seen ∷ []))) (λ _ _. few) refl)
+    (λ _ is. grind (arith, nat_tests, length-append others (known_by session seen ∷ []))) (λ _ _. few) refl)
     (λ known _. rw length-updated few)
 
 pub distinct_others : (session : NodeId) (seen : Timeline) (current : Known) (others : List Known) → same_id current.session session ≡ false → AreDistinct (current ∷ others)
@@ -60,7 +60,7 @@ unfolding others_after
 distinct_others session seen current others other all =
     by_found (λ found. AreDistinct (current ∷ row_after found others session seen)) (found_by key_of session others)
     (λ none. by_test (λ b. AreDistinct (current ∷ (if b then others ++ known_by session seen ∷ [] else others))) (nat_lt (length others) 64)
-     (λ _. distinct-pushed current (known_by session seen) others all other none) (λ _. all))
+    (λ _. distinct-pushed current (known_by session seen) others all other none) (λ _. all))
     (λ known _. distinct-updated session (held_after seen) (λ k. refl) current others all)
 
 abbrev IsTidyRow : Known → Type 0
@@ -75,7 +75,7 @@ unfolding others_after
 tidy_others session seen others new all =
     by_found (λ found. AllByRecursion IsTidyRow (row_after found others session seen)) (found_by key_of session others)
     (λ _. by_test (λ b. AllByRecursion IsTidyRow (if b then others ++ known_by session seen ∷ [] else others)) (nat_lt (length others) 64)
-     (λ _. all_append IsTidyRow others (known_by session seen ∷ []) all (new, tt)) (λ _. all))
+    (λ _. all_append IsTidyRow others (known_by session seen ∷ []) all (new, tt)) (λ _. all))
     (λ known _. all_updated session IsTidyRow (held_after seen) (λ k held. tidy_row seen k new held) others all)
 
 pub kept_others : (session : NodeId) (seen : Timeline) (others : List Known) → saw_other_of others session seen ≡ Kept → others_after others session seen ≡ others

@@ -56,7 +56,7 @@ stands_for f g same table new is h stands =
 known_after : (taking : Taking) (seen : Timeline) → known_of (with_taken seen taking) ≡ held_after seen (known_of taking)
 known_after taking seen = ap (λ tl. known_by taking.session tl) (best_of-append taking.first taking.later seen)
 
-known_begun : (session : NodeId) (seen : Timeline) → known_of (begun session seen) ≡ known_by session seen
+pub known_begun : (session : NodeId) (seen : Timeline) → known_of (begun session seen) ≡ known_by session seen
 known_begun session seen = ap (λ tl. known_by session tl) (best_of-one seen)
 
 found_for : (session : NodeId) (h : History) → found_by key_of session (map known_of h.others) ≡ option_map known_of (other_in session h)
@@ -94,10 +94,10 @@ others_found session seen h (Some taking) =
 others_found session seen h None =
     rw (length-map h.others known_of)
     (by_test (λ b. table_for (if b then record h { others = h.others ++ begun session seen ∷ [] } else h)
-        ≡ record (table_for h) { others = if b then map known_of h.others ++ known_by session seen ∷ [] else map known_of h.others }) (nat_lt (length h.others) 64)
-     (λ _. ap (λ others. table_with (known_of h.current) h.offset others)
-      (map-append known_of h.others (begun session seen ∷ []) ∙ ap (λ known. map known_of h.others ++ known ∷ []) (known_begun session seen)))
-     (λ _. refl))
+    ≡ record (table_for h) { others = if b then map known_of h.others ++ known_by session seen ∷ [] else map known_of h.others }) (nat_lt (length h.others) 64)
+    (λ _. ap (λ others. table_with (known_of h.current) h.offset others)
+    (map-append known_of h.others (begun session seen ∷ []) ∙ ap (λ known. map known_of h.others ++ known ∷ []) (known_begun session seen)))
+    (λ _. refl))
 
 others_for : (session : NodeId) (seen : Timeline) (h : History)
     → table_for (taken_by (other_in session h) h session seen) ≡ record (table_for h) { others = others_after (map known_of h.others) session seen }
@@ -108,7 +108,7 @@ pub seen_for : (session : NodeId) (seen : Timeline) (h : History) → table_for 
 unfolding saw_after
 seen_for session seen h =
     by_test (λ b. table_for (if b then record h { current = with_taken seen h.current } else taken_by (other_in session h) h session seen)
-        ≡ (if b then record (table_for h) { current = held_after seen (known_of h.current) } else record (table_for h) { others = others_after (map known_of h.others) session seen }))
+    ≡ (if b then record (table_for h) { current = held_after seen (known_of h.current) } else record (table_for h) { others = others_after (map known_of h.others) session seen }))
     (same_id h.current.session session)
     (λ _. ap (λ current. table_with current h.offset (map known_of h.others)) (known_after h.current seen)) (λ _. others_for session seen h)
 
@@ -124,7 +124,7 @@ best_found None = refl
 pub timeline_for : (session : NodeId) (h : History) → option_map best_in (known_in session h) ≡ timeline_in session (table_for h)
 timeline_for session h =
     by_test (λ b. option_map best_in (if b then Some h.current else other_in session h)
-        ≡ option_map (λ known. known.timeline) (if b then Some (known_of h.current) else found_by key_of session (map known_of h.others))) (same_id h.current.session session)
+    ≡ option_map (λ known. known.timeline) (if b then Some (known_of h.current) else found_by key_of session (map known_of h.others))) (same_id h.current.session session)
     (λ _. refl) (λ _. rw (found_for session h) (best_found (other_in session h)))
 
 -- ---- an offset that was measured
@@ -145,7 +145,7 @@ pub verdict_for : (session : NodeId) (offset now : ℤ) (h : History) → measur
 unfolding measured_of
 verdict_for session offset now h =
     by_test (λ b. (if b then Remeasured else verdict_by (other_in session h) h offset now)
-        ≡ (if b then Remeasured else verdict_row (found_by key_of session (map known_of h.others)) (table_for h) offset now)) (same_id h.current.session session)
+    ≡ (if b then Remeasured else verdict_row (found_by key_of session (map known_of h.others)) (table_for h) offset now)) (same_id h.current.session session)
     (λ _. refl) (λ _. rw (found_for session h) (verdict_found offset now h (other_in session h)))
 
 abbrev pub joined_in : Known → ℤ → Table → Table
@@ -176,7 +176,7 @@ pub measured_for : (session : NodeId) (offset now : ℤ) (h : History) → table
 unfolding measured_after
 measured_for session offset now h =
     by_test (λ b. table_for (if b then record h { offset = offset } else measured_by (other_in session h) h offset now)
-        ≡ (if b then record (table_for h) { offset = offset } else measured_row (found_by key_of session (map known_of h.others)) (table_for h) offset now)) (same_id h.current.session session)
+    ≡ (if b then record (table_for h) { offset = offset } else measured_row (found_by key_of session (map known_of h.others)) (table_for h) offset now)) (same_id h.current.session session)
     (λ _. refl) (λ _. rw (found_for session h) (measured_found offset now h (other_in session h)))
 
 -- ---- a session that is forgotten
@@ -215,18 +215,11 @@ latest_is held seen later =
     by_test (λ b. int_lt held.beat seen.beat ≡ b → (if b then seen else held) ≡ seen) (int_lt held.beat seen.beat)
     (λ _ _. refl) (λ _ is. held_is held seen is later) refl
 
-
 pub committed_best : (seen : Timeline) (table : Table) (h : History) → StandsFor table h
     → (seen ≡ table.current.timeline) ⊎ (table.current.timeline.beat <ℤ seen.beat) → best_in (with_taken seen h.current) ≡ seen
 committed_best seen table h stands later =
     let held : table.current.timeline ≡ best_in h.current = ap (λ known. known.timeline) stands.current in
     best_of-append h.current.first h.current.later seen ∙ ap (λ tl. latest_of tl seen) (sym held) ∙ latest_is table.current.timeline seen later
-
--- ---- a session alone
-
-pub stands-alone : (session : NodeId) (seen : Timeline) (offset : ℤ) (others : List Known) → others ≡ []
-    → StandsFor (record { current = known_by session seen; offset = offset; others = others }) (opening session seen offset)
-stands-alone session seen offset others none = record { current = sym (known_begun session seen); offset = refl; others = none }
 
 -- ---- the others by their places
 

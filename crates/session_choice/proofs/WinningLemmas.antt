@@ -31,9 +31,9 @@ wins_over-decides a b offset other now =
     let half : ℤ = pos 500_000 in
     Decides-or (int_lt half d) ((int_lt (neg_ℤ half) d && int_lt d half) && id_lt a b) (Decides-int_lt half d)
     (regroup
-     (Decides-and (int_lt (neg_ℤ half) d && int_lt d half) (id_lt a b)
-      (Decides-and (int_lt (neg_ℤ half) d) (int_lt d half) (Decides-int_lt (neg_ℤ half) d) (Decides-int_lt d half))
-      (Decides-itself (id_lt a b))))
+    (Decides-and (int_lt (neg_ℤ half) d && int_lt d half) (id_lt a b)
+    (Decides-and (int_lt (neg_ℤ half) d) (int_lt d half) (Decides-int_lt (neg_ℤ half) d) (Decides-int_lt d half))
+    (Decides-itself (id_lt a b))))
 
 not_both_less : (o p : Ordering) → o ≡ ordering_reverse p → is_lt o ≡ true → is_lt p ≡ true → ⊥
 not_both_less Less Less is first second = cc

@@ -64,6 +64,7 @@ impl Sessions {
         ensures session { (h : History) → StandsFor self.now h → result.session ≡ h.current.session }
         ensures timeline { (h : History) → StandsFor self.now h → result.timeline ≡ best_in h.current }
         ensures xform { (h : History) → StandsFor self.now h → result.xform.offset ≡ h.offset }
+        ensures held { result.timeline ≡ self.now.current.timeline }
         ensures tidy { HasTidyTimelines self.now → IsTidy result.timeline }
         ensures distinct { HasDistinctIds self.now }
     {
@@ -136,6 +137,7 @@ impl Sessions {
         ensures tidy { HasTidyTimelines self.old → HasTidyTimelines self.new }
     {
         if self.current.session == session {
+            // Its offset alone is new.
             self.xform = xform;
             return Verdict::Remeasured;
         }

@@ -19,8 +19,8 @@ returns-in-Some-clause-items c =
     let at : IsAt key_of c.args.session c.args.others.now.items c.in-Some.place = is_at key_of c.args.session c.args.others.now.items c.in-Some.place cc in
     rw (at.found c.index_mut.result.now)
     (ap (λ known. set c.args.others.now.items c.in-Some.place known)
-     (c.see.ensures.held ∙ ap (λ known. held_after c.args.timeline known) c.index_mut.ensures.value)
-     ∙ sym (at.updated (held_after c.args.timeline) c.index_mut.result.now))
+    (c.see.ensures.held ∙ ap (λ known. held_after c.args.timeline known) c.index_mut.ensures.value)
+    ∙ sym (at.updated (held_after c.args.timeline) c.index_mut.result.now))
 
 pub returns-in-None-clause-answer : goal.returns-in-None-clause-answer
 unfolding saw_other_of

@@ -15,14 +15,14 @@ pub returns-in_default-clause-answer : goal.returns-in_default-clause-answer
 returns-in_default-clause-answer c =
     answer_for (forgot_in c.args.session) (λ h. is_some (other_in c.args.session h)) (forgot_for c.args.session) c.args.self.now false
     (subst (λ (t : Table). false ≡ forgot_in c.args.session t) c.self.view_is
-     (ap (λ found. is_some found) (sym (not_found key_of c.args.session c.self.inside.others.items cc))))
+    (ap (λ found. is_some found) (sym (not_found key_of c.args.session c.self.inside.others.items cc))))
 
 pub returns-in_default-clause-stands : goal.returns-in_default-clause-stands
 returns-in_default-clause-stands c =
     stands_for (forgotten_in c.args.session) (λ h. forgotten c.args.session h) (forgotten_for c.args.session) c.args.self.now c.args.self.now
     (subst (λ (t : Table). t ≡ forgotten_in c.args.session t) c.self.view_is
-     (ap (λ others. record (table_of c.self.inside) { others = others })
-      (sym (all_there key_of c.args.session c.self.inside.others.items (not_found key_of c.args.session c.self.inside.others.items cc)))))
+    (ap (λ others. record (table_of c.self.inside) { others = others })
+    (sym (all_there key_of c.args.session c.self.inside.others.items (not_found key_of c.args.session c.self.inside.others.items cc)))))
 
 pub invariant_of-self : goal.invariant_of-self
 invariant_of-self c =
@@ -40,7 +40,7 @@ returns-clause-answer c =
     let at : IsAt key_of c.args.session c.self.inside.others.items c.in-Some.place = is_at key_of c.args.session c.self.inside.others.items c.in-Some.place cc in
     answer_for (forgot_in c.args.session) (λ h. is_some (other_in c.args.session h)) (forgot_for c.args.session) c.args.self.now true
     (subst (λ (t : Table). true ≡ forgot_in c.args.session t) c.self.view_is
-     (ap (λ found. is_some found) (sym (at.found c.self.inside.current))))
+    (ap (λ found. is_some found) (sym (at.found c.self.inside.current))))
 
 pub returns-clause-stands : goal.returns-clause-stands
 returns-clause-stands c =
@@ -48,4 +48,4 @@ returns-clause-stands c =
     let new : Table = record (table_of c.self.inside) { others = c.remove.new.self.items } in
     stands_for (forgotten_in c.args.session) (λ h. forgotten c.args.session h) (forgotten_for c.args.session) c.args.self.now new
     (subst (λ (t : Table). new ≡ forgotten_in c.args.session t) c.self.view_is
-     (ap (λ others. record new { others = others }) (c.remove.ensures.items ∙ sym at.without)))
+    (ap (λ others. record new { others = others }) (c.remove.ensures.items ∙ sym at.without)))

@@ -17,25 +17,25 @@ pub returns-then-eq-clause-answer : goal.returns-then-eq-clause-answer
 returns-then-eq-clause-answer c =
     answer_for (verdict_in c.args.session c.args.xform.offset c.args.now) (λ h. measured_of h c.args.session c.args.xform.offset c.args.now) (verdict_for c.args.session c.args.xform.offset c.args.now) c.args.self.now Remeasured
     (subst (λ (t : Table). Remeasured ≡ verdict_in c.args.session c.args.xform.offset c.args.now t) c.self.view_is
-     (verdict-current c.args.session c.args.xform.offset c.args.now (table_of c.self.inside) (sym c.eq.ensures ∙ c.if-eq.true)))
+    (verdict-current c.args.session c.args.xform.offset c.args.now (table_of c.self.inside) (sym c.eq.ensures ∙ c.if-eq.true)))
 
 pub returns-then-eq-clause-stands : goal.returns-then-eq-clause-stands
 returns-then-eq-clause-stands c =
     stands_for (measured_in c.args.session c.args.xform.offset c.args.now) (λ h. measured_after h c.args.session c.args.xform.offset c.args.now) (measured_for c.args.session c.args.xform.offset c.args.now) c.args.self.now (record (table_of c.self.inside) { offset = c.args.xform.offset })
     (subst (λ (t : Table). (record (table_of c.self.inside) { offset = c.args.xform.offset }) ≡ measured_in c.args.session c.args.xform.offset c.args.now t) c.self.view_is
-     (measured-current c.args.session c.args.xform.offset c.args.now (table_of c.self.inside) (sym c.eq.ensures ∙ c.if-eq.true)))
+    (measured-current c.args.session c.args.xform.offset c.args.now (table_of c.self.inside) (sym c.eq.ensures ∙ c.if-eq.true)))
 
 pub returns-in_default-clause-answer : goal.returns-in_default-clause-answer
 returns-in_default-clause-answer c =
     answer_for (verdict_in c.args.session c.args.xform.offset c.args.now) (λ h. measured_of h c.args.session c.args.xform.offset c.args.now) (verdict_for c.args.session c.args.xform.offset c.args.now) c.args.self.now Unknown
     (subst (λ (t : Table). Unknown ≡ verdict_in c.args.session c.args.xform.offset c.args.now t) c.self.view_is
-     (verdict-unknown c.args.session c.args.xform.offset c.args.now (table_of c.self.inside) (sym c.eq.ensures ∙ c.if-eq.false) (not_found key_of c.args.session c.self.inside.others.items cc)))
+    (verdict-unknown c.args.session c.args.xform.offset c.args.now (table_of c.self.inside) (sym c.eq.ensures ∙ c.if-eq.false) (not_found key_of c.args.session c.self.inside.others.items cc)))
 
 pub returns-in_default-clause-stands : goal.returns-in_default-clause-stands
 returns-in_default-clause-stands c =
     stands_for (measured_in c.args.session c.args.xform.offset c.args.now) (λ h. measured_after h c.args.session c.args.xform.offset c.args.now) (measured_for c.args.session c.args.xform.offset c.args.now) c.args.self.now c.args.self.now
     (subst (λ (t : Table). t ≡ measured_in c.args.session c.args.xform.offset c.args.now t) c.self.view_is
-     (measured-unknown c.args.session c.args.xform.offset c.args.now (table_of c.self.inside) (sym c.eq.ensures ∙ c.if-eq.false) (not_found key_of c.args.session c.self.inside.others.items cc)))
+    (measured-unknown c.args.session c.args.xform.offset c.args.now (table_of c.self.inside) (sym c.eq.ensures ∙ c.if-eq.false) (not_found key_of c.args.session c.self.inside.others.items cc)))
 
 pub invariant_of-self-then-wins : goal.invariant_of-self-then-wins
 invariant_of-self-then-wins c =
@@ -43,7 +43,7 @@ invariant_of-self-then-wins c =
     let d : Known = c.self.inside.current in
     let known : Known = get_or c.self.inside.others.items c.in-Some.place d in
     let moved : c.exchange.new.others.items ≡ updated_by key_of c.args.session (λ _. d) c.self.inside.others.items =
-        c.exchange.ensures.items ∙ sym (at.updated (λ _. d) d) in
+    c.exchange.ensures.items ∙ sym (at.updated (λ _. d) d) in
     record {
       room = omega (arith, c.exchange.ensures.room, c.self.invariant.room);
       few = rw moved (few-joined c.args.session c.args.xform.offset c.args.now (table_of c.self.inside) known (sym c.eq.ensures ∙ c.if-eq.false) (at.found d) c.self.invariant.few);
@@ -56,10 +56,10 @@ returns-then-wins-clause-answer c =
     let d : Known = c.self.inside.current in
     let known : Known = get_or c.self.inside.others.items c.in-Some.place d in
     let wins : wins_over c.args.session c.args.xform.offset c.self.inside.current.session c.self.inside.xform.offset c.args.now ≡ true =
-        sym (c.wins.ensures ∙ ap (λ n. wins_over c.args.session c.args.xform.offset c.self.inside.current.session c.self.inside.xform.offset n) (to_z-of_z w64 c.args.now c.ranges.now)) ∙ c.if-wins.true in
+    sym (c.wins.ensures ∙ ap (λ n. wins_over c.args.session c.args.xform.offset c.self.inside.current.session c.self.inside.xform.offset n) (to_z-of_z w64 c.args.now c.ranges.now)) ∙ c.if-wins.true in
     answer_for (verdict_in c.args.session c.args.xform.offset c.args.now) (λ h. measured_of h c.args.session c.args.xform.offset c.args.now) (verdict_for c.args.session c.args.xform.offset c.args.now) c.args.self.now Joined
     (subst (λ (t : Table). Joined ≡ verdict_in c.args.session c.args.xform.offset c.args.now t) c.self.view_is
-     (verdict-joined c.args.session c.args.xform.offset c.args.now (table_of c.self.inside) known (sym c.eq.ensures ∙ c.if-eq.false) (at.found d) wins))
+    (verdict-joined c.args.session c.args.xform.offset c.args.now (table_of c.self.inside) known (sym c.eq.ensures ∙ c.if-eq.false) (at.found d) wins))
 
 pub returns-then-wins-clause-stands : goal.returns-then-wins-clause-stands
 returns-then-wins-clause-stands c =
@@ -67,16 +67,16 @@ returns-then-wins-clause-stands c =
     let d : Known = c.self.inside.current in
     let known : Known = get_or c.self.inside.others.items c.in-Some.place d in
     let wins : wins_over c.args.session c.args.xform.offset c.self.inside.current.session c.self.inside.xform.offset c.args.now ≡ true =
-        sym (c.wins.ensures ∙ ap (λ n. wins_over c.args.session c.args.xform.offset c.self.inside.current.session c.self.inside.xform.offset n) (to_z-of_z w64 c.args.now c.ranges.now)) ∙ c.if-wins.true in
+    sym (c.wins.ensures ∙ ap (λ n. wins_over c.args.session c.args.xform.offset c.self.inside.current.session c.self.inside.xform.offset n) (to_z-of_z w64 c.args.now c.ranges.now)) ∙ c.if-wins.true in
     let old : Table = table_of c.self.inside in
     let new : Table = record { current = c.exchange.new.current; offset = c.args.xform.offset; others = c.exchange.new.others.items } in
     let moved : c.exchange.new.others.items ≡ updated_by key_of c.args.session (λ _. d) c.self.inside.others.items =
-        c.exchange.ensures.items ∙ sym (at.updated (λ _. d) d) in
+    c.exchange.ensures.items ∙ sym (at.updated (λ _. d) d) in
     stands_for (measured_in c.args.session c.args.xform.offset c.args.now) (λ h. measured_after h c.args.session c.args.xform.offset c.args.now) (measured_for c.args.session c.args.xform.offset c.args.now) c.args.self.now new
     (subst (λ (t : Table). new ≡ measured_in c.args.session c.args.xform.offset c.args.now t) c.self.view_is
-     (ap (λ known. record new { current = known }) c.exchange.ensures.current
-      ∙ ap (λ others. record new { current = known; others = others }) moved
-      ∙ measured-joined c.args.session c.args.xform.offset c.args.now (table_of c.self.inside) known (sym c.eq.ensures ∙ c.if-eq.false) (at.found d) wins))
+    (ap (λ known. record new { current = known }) c.exchange.ensures.current
+    ∙ ap (λ others. record new { current = known; others = others }) moved
+    ∙ measured-joined c.args.session c.args.xform.offset c.args.now (table_of c.self.inside) known (sym c.eq.ensures ∙ c.if-eq.false) (at.found d) wins))
 
 pub returns-then-wins-clause-tidy : goal.returns-then-wins-clause-tidy
 returns-then-wins-clause-tidy c tidy =
@@ -84,7 +84,7 @@ returns-then-wins-clause-tidy c tidy =
     let d : Known = c.self.inside.current in
     let known : Known = get_or c.self.inside.others.items c.in-Some.place d in
     let moved : c.exchange.new.others.items ≡ updated_by key_of c.args.session (λ _. d) c.self.inside.others.items =
-        c.exchange.ensures.items ∙ sym (at.updated (λ _. d) d) in
+    c.exchange.ensures.items ∙ sym (at.updated (λ _. d) d) in
     let held : HasTidyTimelines (table_of c.self.inside) = subst HasTidyTimelines (sym c.self.view_is) tidy in
     let all : HasTidyTimelines (joined_with c.args.session c.args.xform.offset c.args.now (table_of c.self.inside) known) = tidy-joined c.args.session c.args.xform.offset c.args.now (table_of c.self.inside) known (sym c.eq.ensures ∙ c.if-eq.false) (at.found d) held in
     record { current = rw c.exchange.ensures.current all.current; others = rw moved all.others }
@@ -95,10 +95,10 @@ returns-clause-answer c =
     let d : Known = c.self.inside.current in
     let known : Known = get_or c.self.inside.others.items c.in-Some.place d in
     let wins : wins_over c.args.session c.args.xform.offset c.self.inside.current.session c.self.inside.xform.offset c.args.now ≡ false =
-        sym (c.wins.ensures ∙ ap (λ n. wins_over c.args.session c.args.xform.offset c.self.inside.current.session c.self.inside.xform.offset n) (to_z-of_z w64 c.args.now c.ranges.now)) ∙ c.if-wins.false in
+    sym (c.wins.ensures ∙ ap (λ n. wins_over c.args.session c.args.xform.offset c.self.inside.current.session c.self.inside.xform.offset n) (to_z-of_z w64 c.args.now c.ranges.now)) ∙ c.if-wins.false in
     answer_for (verdict_in c.args.session c.args.xform.offset c.args.now) (λ h. measured_of h c.args.session c.args.xform.offset c.args.now) (verdict_for c.args.session c.args.xform.offset c.args.now) c.args.self.now Stayed
     (subst (λ (t : Table). Stayed ≡ verdict_in c.args.session c.args.xform.offset c.args.now t) c.self.view_is
-     (verdict-stayed c.args.session c.args.xform.offset c.args.now (table_of c.self.inside) known (sym c.eq.ensures ∙ c.if-eq.false) (at.found d) wins))
+    (verdict-stayed c.args.session c.args.xform.offset c.args.now (table_of c.self.inside) known (sym c.eq.ensures ∙ c.if-eq.false) (at.found d) wins))
 
 pub returns-clause-stands : goal.returns-clause-stands
 returns-clause-stands c =
@@ -106,7 +106,7 @@ returns-clause-stands c =
     let d : Known = c.self.inside.current in
     let known : Known = get_or c.self.inside.others.items c.in-Some.place d in
     let wins : wins_over c.args.session c.args.xform.offset c.self.inside.current.session c.self.inside.xform.offset c.args.now ≡ false =
-        sym (c.wins.ensures ∙ ap (λ n. wins_over c.args.session c.args.xform.offset c.self.inside.current.session c.self.inside.xform.offset n) (to_z-of_z w64 c.args.now c.ranges.now)) ∙ c.if-wins.false in
+    sym (c.wins.ensures ∙ ap (λ n. wins_over c.args.session c.args.xform.offset c.self.inside.current.session c.self.inside.xform.offset n) (to_z-of_z w64 c.args.now c.ranges.now)) ∙ c.if-wins.false in
     stands_for (measured_in c.args.session c.args.xform.offset c.args.now) (λ h. measured_after h c.args.session c.args.xform.offset c.args.now) (measured_for c.args.session c.args.xform.offset c.args.now) c.args.self.now c.args.self.now
     (subst (λ (t : Table). t ≡ measured_in c.args.session c.args.xform.offset c.args.now t) c.self.view_is
-     (measured-stayed c.args.session c.args.xform.offset c.args.now (table_of c.self.inside) known (sym c.eq.ensures ∙ c.if-eq.false) (at.found d) wins))
+    (measured-stayed c.args.session c.args.xform.offset c.args.now (table_of c.self.inside) known (sym c.eq.ensures ∙ c.if-eq.false) (at.found d) wins))

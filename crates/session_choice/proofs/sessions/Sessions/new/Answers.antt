@@ -1,6 +1,7 @@
-use Rattle.session_choice.proofs.TableLemmas.{stands-alone}
+use Rattle.std.proofs.Common.{refl, sym}
+use Rattle.session_choice.proofs.TableLemmas.{known_begun}
 use Rattle.session_choice.proofs.sessions.Sessions.new.Goals as goal
 
 pub returns-clause-stands : goal.returns-clause-stands
 returns-clause-stands c =
-    stands-alone c.args.session c.args.timeline c.args.xform.offset c.in_ok-with_capacity.field-0.items c.in_ok-with_capacity.ensures.items
+    record { current = sym (known_begun c.args.session c.args.timeline); offset = refl; others = c.in_ok-with_capacity.ensures.items }

@@ -11,15 +11,15 @@ invariant_of-self-else-eq c = record {
   room = c.see_other.ensures.room;
   few = rw c.see_other.ensures.items (few_others c.args.session c.args.timeline c.self.inside.others.items c.self.invariant.few);
   distinct =
-    rw c.see_other.ensures.items
-    (distinct_others c.args.session c.args.timeline c.self.inside.current c.self.inside.others.items (sym c.eq.ensures ∙ c.if-eq.false) c.self.invariant.distinct);
+      rw c.see_other.ensures.items
+      (distinct_others c.args.session c.args.timeline c.self.inside.current c.self.inside.others.items (sym c.eq.ensures ∙ c.if-eq.false) c.self.invariant.distinct);
 }
 
 pub returns-then-eq-clause-answer : goal.returns-then-eq-clause-answer
 returns-then-eq-clause-answer c =
     answer_for (saw_in c.args.session c.args.timeline) (λ h. saw_of h c.args.session c.args.timeline) (saw_for c.args.session c.args.timeline) c.args.self.now c.see.result
     (subst (λ (t : Table). c.see.result ≡ saw_in c.args.session c.args.timeline t) c.self.view_is
-     (c.see.ensures.answer ∙ saw_in-current c.args.session c.args.timeline (table_of c.self.inside) (sym c.eq.ensures ∙ c.if-eq.true)))
+    (c.see.ensures.answer ∙ saw_in-current c.args.session c.args.timeline (table_of c.self.inside) (sym c.eq.ensures ∙ c.if-eq.true)))
 
 pub returns-then-eq-clause-stands : goal.returns-then-eq-clause-stands
 returns-then-eq-clause-stands c =
@@ -27,7 +27,7 @@ returns-then-eq-clause-stands c =
     let new : Table = record old { current = c.see.new.self } in
     stands_for (seen_in c.args.session c.args.timeline) (λ h. saw_after h c.args.session c.args.timeline) (seen_for c.args.session c.args.timeline) c.args.self.now new
     (subst (λ (t : Table). new ≡ seen_in c.args.session c.args.timeline t) c.self.view_is
-     (ap (λ current. record old { current = current }) c.see.ensures.held ∙ seen_in-current c.args.session c.args.timeline old (sym c.eq.ensures ∙ c.if-eq.true)))
+    (ap (λ current. record old { current = current }) c.see.ensures.held ∙ seen_in-current c.args.session c.args.timeline old (sym c.eq.ensures ∙ c.if-eq.true)))
 
 pub returns-then-eq-clause-tidy : goal.returns-then-eq-clause-tidy
 returns-then-eq-clause-tidy c tidy =
@@ -38,7 +38,7 @@ pub returns-else-eq-clause-answer : goal.returns-else-eq-clause-answer
 returns-else-eq-clause-answer c =
     answer_for (saw_in c.args.session c.args.timeline) (λ h. saw_of h c.args.session c.args.timeline) (saw_for c.args.session c.args.timeline) c.args.self.now c.see_other.result
     (subst (λ (t : Table). c.see_other.result ≡ saw_in c.args.session c.args.timeline t) c.self.view_is
-     (c.see_other.ensures.answer ∙ saw_in-other c.args.session c.args.timeline (table_of c.self.inside) (sym c.eq.ensures ∙ c.if-eq.false)))
+    (c.see_other.ensures.answer ∙ saw_in-other c.args.session c.args.timeline (table_of c.self.inside) (sym c.eq.ensures ∙ c.if-eq.false)))
 
 pub returns-else-eq-clause-stands : goal.returns-else-eq-clause-stands
 returns-else-eq-clause-stands c =
@@ -46,7 +46,7 @@ returns-else-eq-clause-stands c =
     let new : Table = record old { others = c.see_other.new.others.items } in
     stands_for (seen_in c.args.session c.args.timeline) (λ h. saw_after h c.args.session c.args.timeline) (seen_for c.args.session c.args.timeline) c.args.self.now new
     (subst (λ (t : Table). new ≡ seen_in c.args.session c.args.timeline t) c.self.view_is
-     (ap (λ others. record old { others = others }) c.see_other.ensures.items ∙ seen_in-other c.args.session c.args.timeline old (sym c.eq.ensures ∙ c.if-eq.false)))
+    (ap (λ others. record old { others = others }) c.see_other.ensures.items ∙ seen_in-other c.args.session c.args.timeline old (sym c.eq.ensures ∙ c.if-eq.false)))
 
 pub returns-else-eq-clause-kept : goal.returns-else-eq-clause-kept
 returns-else-eq-clause-kept c is =
