@@ -1,5 +1,5 @@
 -- Which fields are taken off the wire, and what entries answer.
-use Rattle.std.specs.Prelude.{◌≡◌, ◌^◌, ◌<◌, ◌==◌, ◌&&◌, ℕ, ℤ, pos, ◌≤ℤ◌, int_le, nat_le, unsigned_abs, Bool, not, false, if◌then◌else◌, List, [], ◌∷◌, length, map, filter, drop, slice_index, Option, Some, None, IsSome, IfSome, option_map, unwrap_or, Result, Ok, Err}
+use Rattle.std.specs.Prelude.{◌≡◌, ◌^◌, ◌==◌, ◌&&◌, ℕ, ℤ, pos, ◌≤ℤ◌, int_le, nat_le, unsigned_abs, Bool, not, false, if◌then◌else◌, List, [], ◌∷◌, length, map, filter, drop, slice_index, Option, Some, None, IsSome, IfSome, option_map, unwrap_or, Result, Ok, Err}
 use Rattle.std.specs.Int.{w64, cast_signed}
 use Rattle.std.specs.List.{find, last_or, list_any}
 use Rattle.byteorder.specs.Endian.{big_number}

@@ -1,4 +1,4 @@
--- What a call makes of the sessions that are kept, each with one timeline.
+-- Only for proofs: what a call makes of the sessions that are kept, each with one timeline.
 use Rattle.std.specs.Prelude.{ℕ, suc, int_lt, nat_lt, List, [], ◌∷◌, ◌++◌, length, if◌then◌else◌, Option, Some, None, option_map}
 use Rattle.lk_base.specs.IdOrder.{same_id}
 use Rattle.lk_base.specs.declared.ids.NodeId.{NodeId}

@@ -1,4 +1,4 @@
--- What the calls keep: room for 64 others, no more of them, and no id twice.
+-- Only for proofs: what the calls keep: room for 64 others, no more of them, and no id twice.
 use Rattle.std.specs.Prelude.{◌≤◌, length}
 use Rattle.std.specs.Vec.{vec_capacity}
 use Rattle.session_choice.specs.Table.{Table, HasDistinctIds}
