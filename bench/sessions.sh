@@ -73,7 +73,7 @@ fn timeline(k: u64) -> Timeline
 }
 
 // The table with so many others.
-fn table(alloc: Global, others: u64) -> Result<Table, AllocError> {
+fn table_with(alloc: Global, others: u64) -> Result<Table, AllocError> {
     let mut source = IdSource::new(7, 0);
     let current = source.draw();
     let start = Timeline {
@@ -173,7 +173,7 @@ fn tell(rt: &HostRuntime, name: &str, others: u64, work: Work, sessions: &mut Se
 
 fn main(rt: HostRuntime) -> io::Result<()> {
     for others in [0, 8, 64] {
-        let mut table = table(rt.alloc(), others)?;
+        let mut table = table_with(rt.alloc(), others)?;
         tell(&rt, "nothing", others, Work::Nothing, &mut table.sessions, table.current)?;
         tell(&rt, "saw_current", others, Work::Saw, &mut table.sessions, table.current)?;
         if others > 0 {

@@ -1,6 +1,6 @@
 -- No id stands twice, and what keeps that.
-use Rattle.std.proofs.Common.{◌≡◌, ℕ, zero, suc, ◌+◌, ◌≤◌, ◌<◌, get_or, Bool, true, false, List, [], ◌∷◌, ◌++◌, length, Option, Some, None, refl, sym, ap, subst, ◌∙◌, arith}
-use Rattle.std.specs.Prelude.{if◌then◌else◌, slice_get, nat_eq}
+use Rattle.std.proofs.Common.{◌≡◌, ℕ, zero, suc, ◌≤◌, ◌<◌, get_or, true, false, List, [], ◌∷◌, ◌++◌, length, Some, None, refl, sym, ap, subst, ◌∙◌, arith}
+use Rattle.std.specs.Prelude.{if◌then◌else◌, slice_get}
 use Rattle.std.specs.List.{AllByRecursion}
 use Rattle.std.specs.Cmp.Lexicographic.{same_text}
 use Rattle.std.proofs.lemmas.Cmp.{nat_list_eq_equiv}
@@ -11,7 +11,7 @@ use Rattle.session_choice.specs.Changes.{key_of}
 use Rattle.session_choice.specs.Keyed.{found_by, updated_by, without_by}
 use Rattle.session_choice.specs.Table.{AreDistinct}
 use Rattle.session_choice.specs.declared.known.Known.{Known}
-use Rattle.session_choice.proofs.Lists.{by_test, all_append, all_weaken}
+use Rattle.session_choice.proofs.Lists.{by_test, all_append}
 
 id_of : List ℕ → NodeId
 id_of bytes = record { 0 = bytes }

@@ -1,7 +1,5 @@
 -- The cases of a measured offset.
-use Rattle.std.proofs.Common.{◌≡◌, ℤ, ◌≤◌, Bool, true, false, List, [], ◌∷◌, length, Option, Some, None, refl, sym, ap, subst, ◌∙◌}
-use Rattle.std.specs.Prelude.{if◌then◌else◌}
-use Rattle.std.specs.List.{AllByRecursion}
+use Rattle.std.proofs.Common.{◌≡◌, ℤ, ◌≤◌, Bool, true, false, length, Some, None, refl, ap, ◌∙◌}
 use Rattle.lk_base.specs.IdOrder.{same_id}
 use Rattle.lk_base.specs.Timeline.{IsTidy}
 use Rattle.lk_base.specs.declared.ids.NodeId.{NodeId}
@@ -10,7 +8,6 @@ use Rattle.session_choice.specs.Keyed.{found_by, updated_by}
 use Rattle.session_choice.specs.Table.{Table, HasDistinctIds, HasTidyTimelines}
 use Rattle.session_choice.specs.Winning.{wins_over}
 use Rattle.session_choice.specs.declared.known.Known.{Known}
-use Rattle.session_choice.specs.declared.verdict.Verdict.{Verdict}
 use Rattle.session_choice.specs.declared.verdict.Verdict.TheVariants.{Joined, Stayed, Remeasured, Unknown}
 use Rattle.session_choice.proofs.DistinctLemmas.{all_updated, all_found, same-equal, found-same, length-updated, distinct-joined}
 use Rattle.session_choice.proofs.TableLemmas.{verdict_in, measured_in}

@@ -1,6 +1,6 @@
 -- What holds of the table after a call.
-use Rattle.std.proofs.Common.{◌≡◌, ℕ, ℤ, ◌≤◌, ◌<◌, Bool, true, false, List, [], ◌∷◌, ◌++◌, length, Option, Some, None, refl, sym, ap, subst, ◌∙◌, arith, length-append}
-use Rattle.std.specs.Prelude.{if◌then◌else◌, nat_lt, int_lt, option_map, is_some}
+use Rattle.std.proofs.Common.{◌≡◌, ◌≤◌, true, false, List, [], ◌∷◌, ◌++◌, length, Option, Some, None, refl, sym, ap, ◌∙◌, arith, length-append}
+use Rattle.std.specs.Prelude.{if◌then◌else◌, nat_lt, int_lt}
 use Rattle.std.specs.List.{AllByRecursion}
 use Rattle.std.proofs.lemmas.Bool.Decides.{nat_tests}
 use Rattle.lk_base.specs.IdOrder.{same_id}
@@ -8,12 +8,12 @@ use Rattle.lk_base.specs.Timeline.{IsTidy}
 use Rattle.lk_base.specs.declared.ids.NodeId.{NodeId}
 use Rattle.lk_base.specs.declared.timeline.Timeline.{Timeline}
 use Rattle.session_choice.specs.Changes.{key_of, saw_held, latest_of, held_after, saw_row, saw_other_of, row_after, others_after, known_by}
-use Rattle.session_choice.specs.Keyed.{found_by, updated_by, without_by}
-use Rattle.session_choice.specs.Table.{Table, AreDistinct, HasDistinctIds, HasTidyTimelines}
+use Rattle.session_choice.specs.Keyed.{found_by, updated_by}
+use Rattle.session_choice.specs.Table.{Table, AreDistinct}
 use Rattle.session_choice.specs.declared.known.Known.{Known}
 use Rattle.session_choice.specs.declared.verdict.Saw.{Saw}
 use Rattle.session_choice.specs.declared.verdict.Saw.TheVariants.{Taken, Kept, New, Full}
-use Rattle.session_choice.proofs.DistinctLemmas.{all_updated, all_without, all_found, length-updated, distinct-updated, distinct-pushed}
+use Rattle.session_choice.proofs.DistinctLemmas.{all_updated, length-updated, distinct-updated, distinct-pushed}
 use Rattle.session_choice.proofs.Lists.{by_test, all_append}
 use Rattle.session_choice.proofs.TableLemmas.{saw_in, seen_in}
 

@@ -1,27 +1,22 @@
 -- What each call makes of the table, and that this is what it makes of the history.
-use Rattle.std.proofs.Common.{◌≡◌, ℕ, zero, suc, ℤ, ◌<ℤ◌, ◌≤◌, ◌<◌, Bool, true, false, ◌⊎◌, inl, inr, List, [], ◌∷◌, ◌++◌, length, map, Option, Some, None, refl, sym, ap, subst, ◌∙◌, arith}
+use Rattle.std.proofs.Common.{◌≡◌, ℕ, zero, suc, ℤ, ◌<ℤ◌, Bool, false, ◌⊎◌, inl, inr, List, [], ◌∷◌, ◌++◌, length, map, Option, Some, None, refl, sym, ap, subst, ◌∙◌}
 use Rattle.std.specs.Prelude.{if◌then◌else◌, nat_lt, int_lt, option_map, is_some, slice_get}
-use Rattle.std.specs.List.{AllByRecursion}
 use Rattle.std.proofs.lemmas.List.{map-append, length-map}
 use Rattle.lk_base.specs.IdOrder.{same_id}
-use Rattle.lk_base.specs.Timeline.{IsTidy}
 use Rattle.lk_base.specs.declared.ids.NodeId.{NodeId}
 use Rattle.lk_base.specs.declared.timeline.Timeline.{Timeline}
-use Rattle.session_choice.specs.Best.{best_of}
 use Rattle.session_choice.specs.Changes.{key_of, saw_held, latest_of, held_after, saw_row, saw_other_of, row_after, others_after, known_by}
-use Rattle.session_choice.specs.History.{Taking, History, StandsFor, best_in, known_of, session_of, with_taken, begun, opening, other_in, known_in, saw_by, saw_of, taken_by, saw_after, verdict_by, measured_of, joined, measured_by, measured_after, forgotten, committed}
+use Rattle.session_choice.specs.History.{Taking, History, StandsFor, best_in, known_of, session_of, with_taken, begun, other_in, known_in, saw_by, saw_of, taken_by, saw_after, verdict_by, measured_of, joined, measured_by, measured_after, forgotten, committed}
 use Rattle.session_choice.specs.Keyed.{found_by, updated_by, without_by}
-use Rattle.session_choice.specs.Table.{Table, HasDistinctIds, HasTidyTimelines}
+use Rattle.session_choice.specs.Table.{Table}
 use Rattle.session_choice.specs.Winning.{wins_over}
 use Rattle.session_choice.specs.declared.known.Known.{Known}
 use Rattle.session_choice.specs.declared.verdict.Saw.{Saw}
-use Rattle.session_choice.specs.declared.verdict.Saw.TheVariants.{Taken, Kept, New, Full}
 use Rattle.session_choice.specs.declared.verdict.Verdict.{Verdict}
 use Rattle.session_choice.specs.declared.verdict.Verdict.TheVariants.{Joined, Stayed, Remeasured, Unknown}
 use Rattle.session_choice.proofs.BestLemmas.{best_of-append, best_of-one, true-int_lt}
-use Rattle.session_choice.proofs.DistinctLemmas.{all_updated, all_without, all_found, distinct-updated, distinct-pushed, distinct-without, distinct-joined}
 use Rattle.session_choice.proofs.KeyedLemmas.{map-found, map-updated, map-without}
-use Rattle.session_choice.proofs.Lists.{by_test, all_append}
+use Rattle.session_choice.proofs.Lists.{by_test}
 
 -- ---- a history's table
 

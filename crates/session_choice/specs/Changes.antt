@@ -1,6 +1,5 @@
 -- Only for proofs: what a call makes of the sessions that are kept, each with one timeline.
-use Rattle.std.specs.Prelude.{ℕ, suc, int_lt, nat_lt, List, [], ◌∷◌, ◌++◌, length, if◌then◌else◌, Option, Some, None, option_map}
-use Rattle.lk_base.specs.IdOrder.{same_id}
+use Rattle.std.specs.Prelude.{int_lt, nat_lt, List, [], ◌∷◌, ◌++◌, length, if◌then◌else◌, Option, Some, None}
 use Rattle.lk_base.specs.declared.ids.NodeId.{NodeId}
 use Rattle.lk_base.specs.declared.timeline.Timeline.{Timeline}
 use Rattle.session_choice.specs.Keyed.{found_by, updated_by}

@@ -1,5 +1,5 @@
 -- Rows that each have an id: the first of an id, changed or left out.
-use Rattle.std.specs.Prelude.{Bool, List, [], ◌∷◌, if◌then◌else◌, Option, Some, None}
+use Rattle.std.specs.Prelude.{List, [], ◌∷◌, if◌then◌else◌, Option, Some, None}
 use Rattle.lk_base.specs.IdOrder.{same_id}
 use Rattle.lk_base.specs.declared.ids.NodeId.{NodeId}
 

@@ -1,4 +1,4 @@
-use Rattle.std.proofs.Common.{◌≡◌, ◌∙◌, sym, ap, set, arith}
+use Rattle.std.proofs.Common.{◌∙◌, sym, ap, set, arith}
 use Rattle.std.proofs.lemmas.Bool.Decides.{nat_tests}
 use Rattle.session_choice.specs.Changes.{key_of, saw_held, held_after, saw_other_of, others_after}
 use Rattle.session_choice.proofs.KeyedLemmas.{IsAt, is_at, not_found}

@@ -1,5 +1,5 @@
 use Rattle.std.proofs.Common.{arith}
-use Rattle.std.proofs.lemmas.Int.{ints, to_z-of_z}
+use Rattle.std.proofs.lemmas.Int.{to_z-of_z}
 use Rattle.session_choice.specs.Winning.{wins_over}
 use Rattle.session_choice.proofs.winning.wins.Goals as goal
 

@@ -1,7 +1,5 @@
-use Rattle.std.proofs.Common.{◌≡◌, ◌∙◌, ◌⊎◌, ◌<ℤ◌, sym, ap, subst}
-use Rattle.session_choice.specs.Best.{best_of}
-use Rattle.session_choice.specs.Changes.{latest_of}
-use Rattle.session_choice.specs.History.{History, StandsFor, committed}
+use Rattle.std.proofs.Common.{◌≡◌, ◌⊎◌, ◌<ℤ◌, sym, ap, subst}
+use Rattle.session_choice.specs.History.{committed}
 use Rattle.session_choice.specs.Kept.{table_of}
 use Rattle.session_choice.specs.Table.{Table}
 use Rattle.session_choice.proofs.TableLemmas.{stands_for, committed_in, committed_for, latest_is, committed_best}

@@ -1,11 +1,10 @@
-use Rattle.std.proofs.Common.{◌≡◌, ◌∙◌, Some, None, true, false, ◌≤◌, length, sym, ap, subst, get_or, arith}
+use Rattle.std.proofs.Common.{◌≡◌, ◌∙◌, true, false, ◌≤◌, length, sym, ap, subst, arith}
 use Rattle.std.specs.Prelude.{is_some}
 use Rattle.session_choice.specs.Changes.{key_of}
-use Rattle.session_choice.specs.History.{History, other_in, forgotten}
-use Rattle.session_choice.specs.Keyed.{found_by, without_by}
+use Rattle.session_choice.specs.History.{other_in, forgotten}
+use Rattle.session_choice.specs.Keyed.{without_by}
 use Rattle.session_choice.specs.Kept.{table_of}
 use Rattle.session_choice.specs.Table.{Table}
-use Rattle.session_choice.specs.declared.known.Known.{Known}
 use Rattle.session_choice.proofs.DistinctLemmas.{length-without, distinct-without}
 use Rattle.session_choice.proofs.KeyedLemmas.{IsAt, is_at, not_found, all_there}
 use Rattle.session_choice.proofs.TableLemmas.{answer_for, stands_for, forgot_in, forgotten_in, forgot_for, forgotten_for}

@@ -1,8 +1,8 @@
-use Rattle.std.proofs.Common.{◌≡◌, ◌∙◌, Some, None, List, length, true, false, sym, ap, subst, get_or, set, arith, w64}
+use Rattle.std.proofs.Common.{◌≡◌, ◌∙◌, true, false, sym, ap, subst, get_or, arith, w64}
 use Rattle.std.proofs.lemmas.Int.{to_z-of_z}
 use Rattle.session_choice.specs.Changes.{key_of}
-use Rattle.session_choice.specs.History.{History, measured_of, measured_after}
-use Rattle.session_choice.specs.Keyed.{found_by, updated_by}
+use Rattle.session_choice.specs.History.{measured_of, measured_after}
+use Rattle.session_choice.specs.Keyed.{updated_by}
 use Rattle.session_choice.specs.Kept.{table_of}
 use Rattle.session_choice.specs.Table.{Table, HasTidyTimelines}
 use Rattle.session_choice.specs.Winning.{wins_over}

@@ -1,7 +1,6 @@
-use Rattle.std.proofs.Common.{◌≡◌, ◌∙◌, Some, sym, ap, subst, get_or}
+use Rattle.std.proofs.Common.{◌≡◌, Some, subst, get_or}
 use Rattle.std.specs.Prelude.{slice_get}
 use Rattle.session_choice.specs.History.{known_of}
-use Rattle.session_choice.specs.Kept.{table_of}
 use Rattle.session_choice.specs.Table.{Table, HasDistinctIds}
 use Rattle.session_choice.proofs.DistinctLemmas.{one_place, get_there}
 use Rattle.session_choice.proofs.TableLemmas.{known_at}

@@ -1,8 +1,8 @@
-use Rattle.std.proofs.Common.{◌≡◌, ◌∙◌, sym, ap, subst, arith}
-use Rattle.session_choice.specs.History.{History, saw_of, saw_after}
+use Rattle.std.proofs.Common.{◌≡◌, ◌∙◌, sym, ap, subst}
+use Rattle.session_choice.specs.History.{saw_of, saw_after}
 use Rattle.session_choice.specs.Kept.{table_of}
 use Rattle.session_choice.specs.Table.{Table, HasTidyTimelines}
-use Rattle.session_choice.proofs.OthersLemmas.{saw_in-current, saw_in-other, seen_in-current, seen_in-other, few_others, distinct_others, tidy_others, tidy_row, kept_current, kept_others, full_others, not_full}
+use Rattle.session_choice.proofs.OthersLemmas.{saw_in-current, saw_in-other, seen_in-current, seen_in-other, few_others, distinct_others, tidy_others, tidy_row, kept_others, full_others}
 use Rattle.session_choice.proofs.TableLemmas.{answer_for, stands_for, saw_in, seen_in, saw_for, seen_for}
 use Rattle.session_choice.proofs.sessions.Sessions.saw.Goals as goal
 

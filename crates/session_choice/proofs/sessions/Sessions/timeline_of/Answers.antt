@@ -1,8 +1,7 @@
-use Rattle.std.proofs.Common.{◌≡◌, ◌∙◌, Some, None, Option, true, false, sym, ap, subst}
+use Rattle.std.proofs.Common.{◌≡◌, ◌∙◌, Some, None, sym, ap, subst}
 use Rattle.std.specs.Prelude.{option_map}
-use Rattle.lk_base.specs.declared.timeline.Timeline.{Timeline}
 use Rattle.session_choice.specs.Changes.{key_of}
-use Rattle.session_choice.specs.History.{History, best_in, known_in}
+use Rattle.session_choice.specs.History.{best_in, known_in}
 use Rattle.session_choice.specs.Kept.{table_of}
 use Rattle.session_choice.specs.Table.{Table}
 use Rattle.session_choice.proofs.KeyedLemmas.{IsAt, is_at, not_found}
