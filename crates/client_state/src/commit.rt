@@ -1,0 +1,54 @@
+//! An edit on its way to the session.
+
+ghost use Rattle.std.specs.Prelude.{◌≡◌, ◌<◌, ◌↔◌, ℕ, IsTrue, Some};
+ghost use Rattle.lk_base.specs.Ranges.{IsWithinLimit};
+ghost use Rattle.lk_base.specs.Timeline.{IsTidy};
+
+use crate::state::State;
+use lk_base::{ClientStart, Timeline};
+
+mod row;
+
+/// An edit on its way to the session.
+#[derive(Clone, Copy, Debug, PartialEq, Eq)]
+pub struct Commit {
+    /// The new timeline, where it is edited.
+    pub timeline: Option<Timeline>,
+    /// The new start, where it is edited.
+    pub start: Option<ClientStart>,
+    /// The host time at which it was made, in microseconds.
+    pub at: i64,
+}
+
+impl Commit {
+    ghost use Rattle.client_state.specs.Commit.{IsTidyCommit, commit_between};
+    ghost use Rattle.client_state.specs.Shown.{shown_over};
+
+    /// What an edit changed, made at the host time `now`: `old` is the state as it was captured, `shown` what the caller
+    /// was shown, and `new` that with its edits.
+    ///
+    /// The timeline is carried where it differs from either, since what an own commit changed that isn't taken yet is in
+    /// `shown` and not in `old`, and has to be carried again; likewise the start, with the stamp `now`, where its playing
+    /// or time differs.
+    pub fn between(old: &State, shown: &State, new: &State, now: i64) -> Commit
+        ensures value { result ≡ commit_between old.now shown.now new.now now }
+        ensures tidy { IsTidy new.now.timeline → IsWithinLimit new.now.start.time → IsWithinLimit now
+            → IsTidyCommit result }
+        // Laid over the state as captured, it shows the edited timeline, playing and time: no earlier own commit is hidden.
+        ensures shows_timeline { (number taken : ℕ) → taken < number
+            → (shown_over (Some (number, result)) taken old.now).timeline ≡ new.now.timeline }
+        ensures shows_playing { (number taken : ℕ) → taken < number
+            → (shown_over (Some (number, result)) taken old.now).start.playing ≡ new.now.start.playing }
+        ensures shows_time { (number taken : ℕ) → taken < number
+            → (shown_over (Some (number, result)) taken old.now).start.time ≡ new.now.start.time }
+    {
+        todo!()
+    }
+
+    /// Whether its timeline, if there, is tidy, and all its other numbers are within 2^60 of 0.
+    pub fn is_tidy(&self) -> bool
+        ensures { IsTrue result ↔ IsTidyCommit self.now }
+    {
+        todo!()
+    }
+}
