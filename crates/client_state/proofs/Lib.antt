@@ -1,0 +1,7 @@
+pub mod RoundLemmas
+pub mod EditLemmas
+pub mod TimelineLemmas
+pub mod CommitLemmas
+pub mod StartLemmas
+pub mod BlockLemmas
+pub mod WordLemmas

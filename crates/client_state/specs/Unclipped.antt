@@ -30,7 +30,7 @@ pub record IsUnclippedForce (tl : Timeline) (beat at q : ℤ) : Type 0 where
 
 -- the beats now, at the session's beat 0, and at the time that is looked at, on both lines
 pub record IsUnclippedReturn (client given : Timeline) (now offset time : ℤ) : Type 0 where
-  pub now : IsWithinLimit (wide_beat_at client now)
+  pub moment : IsWithinLimit (wide_beat_at client now)
   pub zero : IsWithinLimit (wide_beat_at (going_on client given now) (zero_time_of given offset))
   pub before : IsWithinLimit (wide_beat_at client time)
   pub after : IsWithinLimit (wide_beat_at (client_from_session_of client given now offset) time)

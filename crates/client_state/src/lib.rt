@@ -2,7 +2,7 @@
 //! clock; and the way between the client's timeline and start and the session's.
 //!
 //! In reading order: `state`, and of it `edits`, `clicks`, `row`; `commit`, and of it `row`; `own`, `timelines`,
-//! `starts`, `laws`.
+//! `starts`, `words`, `laws`.
 #![tactic(auto)]
 
 mod commit;
@@ -13,6 +13,7 @@ mod state;
 #[cfg(test)]
 mod tests;
 mod timelines;
+mod words;
 
 pub use commit::Commit;
 pub use laws::{forced_beats_fall_on_the_quantum, returned_timelines_keep_beats, rows_are_read_back, tempo_keeps_the_beat};
