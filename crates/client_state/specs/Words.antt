@@ -100,12 +100,12 @@ start_in flags time stamp = record { playing = flag_in flags 4; time = clipped_i
 unfoldable pub commit_of_words : List ℕ → Commit
 commit_of_words words = record {
   timeline =
-    if flag_in (slice_index words 0) 1
-    then Some (timeline_in (slice_index words 1) (slice_index words 2) (slice_index words 3))
-    else None;
+      if flag_in (slice_index words 0) 1
+      then Some (timeline_in (slice_index words 1) (slice_index words 2) (slice_index words 3))
+      else None;
   start =
-    if flag_in (slice_index words 0) 2
-    then Some (start_in (slice_index words 0) (slice_index words 4) (slice_index words 5))
-    else None;
+      if flag_in (slice_index words 0) 2
+      then Some (start_in (slice_index words 0) (slice_index words 4) (slice_index words 5))
+      else None;
   at = clipped_in (slice_index words 6);
 }

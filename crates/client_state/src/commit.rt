@@ -72,7 +72,12 @@ fn timeline_between(old: &Timeline, shown: &Timeline, new: &Timeline) -> Option<
     }
 }
 
-fn start_between(old: &ClientStart, shown: &ClientStart, new: &ClientStart, now: i64) -> Option<ClientStart>
+fn start_between(
+    old: &ClientStart,
+    shown: &ClientStart,
+    new: &ClientStart,
+    now: i64,
+) -> Option<ClientStart>
     ensures { result ≡ spec.start_between old.now shown.now new.now now }
 {
     if plays_alike(new, old) && plays_alike(new, shown) {

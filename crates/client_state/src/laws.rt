@@ -27,7 +27,7 @@ pub fn forced_beats_fall_on_the_quantum()
     ensures quantum { (tl : Timeline) (beat at q : ℤ) → IsTidy tl → IsQuantum q → pos 0 <ℤ q
         → IsUnclippedForce tl beat at q
         → (k : ℤ) × (unsigned_abs
-            ((beat_at (forced_of tl beat at q) at -ℤ (forced_of tl beat at q).beat) -ℤ (beat +ℤ k *ℤ q)) ≤ 17) }
+        ((beat_at (forced_of tl beat at q) at -ℤ (forced_of tl beat at q).beat) -ℤ (beat +ℤ k *ℤ q)) ≤ 17) }
     ensures free { (tl : Timeline) (beat at : ℤ) → IsTidy tl → IsUnclippedForce tl beat at (pos 0)
         → beat_at (forced_of tl beat at (pos 0)) at ≡ beat }
 {}

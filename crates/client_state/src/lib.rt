@@ -16,7 +16,10 @@ mod timelines;
 mod words;
 
 pub use commit::Commit;
-pub use laws::{forced_beats_fall_on_the_quantum, returned_timelines_keep_beats, rows_are_read_back, tempo_keeps_the_beat};
+pub use laws::{
+    forced_beats_fall_on_the_quantum, returned_timelines_keep_beats, rows_are_read_back,
+    tempo_keeps_the_beat,
+};
 pub use own::{Own, shown};
 pub use starts::{later_start, start_to_client, start_to_session};
 pub use state::State;

@@ -20,7 +20,12 @@ pub struct OriginSpent;
 /// that time, so that the client's beats go on at `now`. After Link 3 (`ClientSessionTimelines.hpp`); the formula is this
 /// project's own.
 #[tactic(auto, unfolding(crate::specs::Timelines::client_from_session_of, crate::specs::Timelines::zero_time_of))]
-pub fn client_from_session(client: &Timeline, session: &Timeline, now: i64, xform: XForm) -> Timeline
+pub fn client_from_session(
+    client: &Timeline,
+    session: &Timeline,
+    now: i64,
+    xform: XForm,
+) -> Timeline
     requires client { IsTidy client.now }
     requires session { IsTidy session.now }
     requires now { IsWithinLimit now }

@@ -58,7 +58,12 @@ fn timeline_words(timeline: &Option<Timeline>) -> (u64, u64, u64, u64)
     ensures most { result.0 ≤ 1 }
 {
     match timeline {
-        Some(tl) => (1, tl.mpb.cast_unsigned(), tl.beat.cast_unsigned(), tl.time.cast_unsigned()),
+        Some(tl) => (
+            1,
+            tl.mpb.cast_unsigned(),
+            tl.beat.cast_unsigned(),
+            tl.time.cast_unsigned(),
+        ),
         None => (0, 0, 0, 0),
     }
 }

@@ -9,13 +9,15 @@ ghost use Rattle.client_state.specs.Edits.{advance_of, forced_of, next_time_of, 
 
 use crate::state::State;
 use lk_base::{Timeline, clip};
-use timeline_math::{beat_at, closest_match, encoded_beat, encoded_time, next_match, tidy, time_at};
+use timeline_math::{
+    beat_at, closest_match, encoded_beat, encoded_time, next_match, tidy, time_at,
+};
 
 impl State {
     ghost use Rattle.client_state.specs.Edits.{tempo_set_of, forced_of, requested_of, played_of};
 
     /// Sets the tempo, in microseconds per beat, clamped to 60,060..=3,000,000, and keeps the beat at the host time
-    /// `at`, but for a rounding of at most 8 microbeats.
+    /// `at`, but for a rounding of at most 8 microbeats, where the new time origin isn't clipped.
     pub fn set_tempo(&mut self, mpb: i64, at: i64)
         requires tidy { IsTidy self.old.timeline }
         requires at { IsWithinLimit at }
@@ -26,9 +28,10 @@ impl State {
     }
 
     /// Makes the beat at the host time `at` one with the phase of `beat`, counted from the beat origin, whatever the
-    /// peers have: the time origin moves by less than half a quantum of beats, and the beat origin so that `beat` is
-    /// there. With the quantum 0 the beat at `at` is `beat`. After Link 3 (`forceBeatAtTime`); the formula is this
-    /// project's own.
+    /// peers have. Where nothing is clipped, the time origin moves by as long as at most half a quantum of beats,
+    /// rounded up, lasts, and the beat origin by a whole number of quanta, and it is so but for a rounding of at most
+    /// 17 microbeats; with the quantum 0 only the beat origin moves, and the beat at `at` is `beat`. After Link 3
+    /// (`forceBeatAtTime`); the formula is this project's own.
     pub fn force_beat(&mut self, beat: i64, at: i64, quantum: i64)
         requires tidy { IsTidy self.old.timeline }
         requires beat { IsWithinLimit beat }
@@ -115,7 +118,7 @@ fn forced(tl: &Timeline, beat: i64, at: i64, quantum: i64) -> Timeline
     }
 }
 
-// The time origin with the beats from `here` to `there` past it, clipped.
+// The time origin, earlier by as long as the beats from `here` to `there` last, clipped.
 fn advanced(tl: &Timeline, there: i64, here: i64) -> i64
     requires tidy { IsTidy tl.now }
     requires there { IsWithin (2 ^ 61) there }
@@ -126,7 +129,7 @@ fn advanced(tl: &Timeline, there: i64, here: i64) -> i64
     moved_back(tl.time, advance(tl, apart(here, there)))
 }
 
-// How long so many beats last from beat 0 on.
+// How long so many microbeats last from beat 0 on.
 #[tactic(auto, unfolding(crate::specs::Edits::advance_of))]
 fn advance(tl: &Timeline, shift: i128) -> i128
     requires tidy { IsTidy tl.now }
