@@ -182,7 +182,7 @@ fn compared(k: u64, carried: bool) -> i64 {
     if carried {
         folded_commit(&Commit::between(&old, &shown, &new, place(k, 10)))
     } else {
-        folded_state(&old) ^ folded_state(&shown) ^ folded_state(&new) ^ place(k, 10)
+        old.moment ^ shown.moment ^ new.moment ^ place(k, 10)
     }
 }
 

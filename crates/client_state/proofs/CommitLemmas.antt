@@ -1,5 +1,5 @@
 -- What a commit carries, and what shows where it is laid over a state.
-use Rattle.std.proofs.Common.{◌≡◌, ℕ, ◌<◌, ℤ, Bool, true, false, not, ◌&&◌, cond, nat_lt, if◌then◌else◌, Option, Some, None, unwrap_or, refl, ap, subst, sym, ◌∙◌, arith}
+use Rattle.std.proofs.Common.{◌≡◌, ℕ, ◌<◌, ℤ, Bool, true, false, ◌&&◌, nat_lt, if◌then◌else◌, Option, Some, None, unwrap_or, refl, ap, subst, sym, ◌∙◌, arith}
 use Rattle.std.proofs.lemmas.Bool.Decides.{Decides-int_eq}
 use Rattle.std.specs.Option.{ForSome}
 use Rattle.std.specs.Ordering.{int_eq}
@@ -13,12 +13,9 @@ use Rattle.client_state.specs.Shown.{laid_over, shown_over}
 use Rattle.client_state.specs.State.{IsTidyState}
 use Rattle.client_state.specs.declared.commit.Commit.{Commit}
 use Rattle.client_state.specs.declared.state.State.{State}
+use Rattle.client_state.proofs.BoolLemmas.{both}
 
 -- ---- from the tests
-both : (a b : Bool) → (a && b) ≡ true → (a ≡ true) × (b ≡ true)
-both true b e = (refl, e)
-both false b e = absurd (cc)
-
 same_bool-equal : (a b : Bool) → same_bool a b ≡ true → a ≡ b
 same_bool-equal true b e = sym e
 same_bool-equal false true e = absurd (cc)

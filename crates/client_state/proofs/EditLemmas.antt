@@ -1,5 +1,5 @@
 -- What the edits keep.
-use Rattle.std.proofs.Common.{◌≡◌, ℕ, zero, suc, ◌*◌, ◌^◌, ◌<◌, ◌≤◌, ℤ, pos, negsuc, ◌+ℤ◌, ◌-ℤ◌, ◌*ℤ◌, ◌<ℤ◌, ◌≤ℤ◌, unsigned_abs, refl, ap, sym, ◌∙◌, arith}
+use Rattle.std.proofs.Common.{◌≡◌, ℕ, ◌<◌, ◌≤◌, ℤ, pos, negsuc, ◌+ℤ◌, ◌-ℤ◌, ◌*ℤ◌, ◌<ℤ◌, ◌≤ℤ◌, unsigned_abs, ap, ◌∙◌, arith}
 use Rattle.std.proofs.lemmas.Int.{ints, clamps}
 use Rattle.lk_base.specs.Ranges.{IsQuantum, IsWithinLimit}
 use Rattle.lk_base.specs.Rounding.{clipped_of, nearest_of}
@@ -14,7 +14,7 @@ use Rattle.timeline_math.proofs.EncodingLemmas.{encoded_beat-near, encoded_beat-
 use Rattle.timeline_math.proofs.QuantumLemmas.{closest_match_of-near, closest_match_of-phase, phase_of-divides}
 use Rattle.client_state.specs.Edits.{timeline_at, tempo_set_of, match_of, shift_of, advance_of, forced_of}
 use Rattle.client_state.specs.Unclipped.{IsUnclippedTempo, IsUnclippedForce, wide_beat_at, wide_time_at}
-use Rattle.client_state.proofs.RoundLemmas.{undone, scaled_diff, advanced_near}
+use Rattle.client_state.proofs.RoundLemmas.{undone, scaled_diff, advanced_near, natural_of}
 
 beat_at-within : (tl : Timeline) (time : ℤ) → IsWithinLimit (beat_at tl time)
 unfolding beat_at
@@ -69,10 +69,6 @@ forced-near tl m at shift moved is_m fast moved_is =
     (moved_is ∙ ap (λ d. tl.time -ℤ (nearest_of ((shift -ℤ tl.beat) *ℤ d) (pos 1_000_000) -ℤ nearest_of ((pos 0 -ℤ tl.beat) *ℤ d) (pos 1_000_000))) is_m)
     (nearest_of-IsNearest ((at -ℤ tl.time) *ℤ pos 1_000_000) (pos m) some).near
     (nearest_of-IsNearest ((at -ℤ moved) *ℤ pos 1_000_000) (pos m) some).near)
-
-natural_of : (z : ℤ) → pos 0 ≤ℤ z → (m : ℕ) × (z ≡ pos m)
-natural_of (pos m) h = (m, refl)
-natural_of (negsuc m) h = absurd (omega (arith, ints))
 
 pub forced-origin : (tl : Timeline) (beat at q : ℤ) → IsTidy tl → IsUnclippedForce tl beat at q → unsigned_abs (beat_at (forced_of tl beat at q) at -ℤ (forced_of tl beat at q).beat -ℤ (beat_at tl at -ℤ tl.beat +ℤ shift_of tl beat at q)) ≤ 17
 unfolding beat_at forced_of

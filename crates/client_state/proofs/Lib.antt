@@ -1,3 +1,4 @@
+pub mod BoolLemmas
 pub mod RoundLemmas
 pub mod EditLemmas
 pub mod TimelineLemmas

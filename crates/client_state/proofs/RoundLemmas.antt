@@ -1,5 +1,5 @@
 -- Roundings that are undone, or made in several steps.
-use Rattle.std.proofs.Common.{◌≡◌, ℕ, ◌*◌, ◌≤◌, ℤ, pos, ◌+ℤ◌, ◌-ℤ◌, ◌*ℤ◌, neg_ℤ, unsigned_abs, ap, arith}
+use Rattle.std.proofs.Common.{◌≡◌, ℕ, ◌≤◌, ℤ, pos, negsuc, ◌+ℤ◌, ◌-ℤ◌, ◌*ℤ◌, ◌≤ℤ◌, neg_ℤ, unsigned_abs, refl, ap, arith}
 use Rattle.std.proofs.lemmas.Int.{ints, by_lt_z}
 use Rattle.lk_base.specs.Rounding.{IsNear}
 use Rattle.lk_base.proofs.RoundingLemmas.{scaled_le, scaled_sum, scaled_neg}
@@ -57,3 +57,8 @@ advanced_near b time at s late zero moved p r m fast near_late near_zero moved_i
     let apart = scaled_le r (p +ℤ s) 18 m (omega (arith, ints)) in
     absurd (omega (arith, ints)))
     (λ ge. omega (arith, ints)))
+
+-- a number that isn't below 0
+pub natural_of : (z : ℤ) → pos 0 ≤ℤ z → (m : ℕ) × (z ≡ pos m)
+natural_of (pos m) h = (m, refl)
+natural_of (negsuc m) h = absurd (omega (arith, ints))

@@ -1,20 +1,13 @@
 -- Which of several starts is the first of greatest stamp, as they come.
-use Rattle.std.proofs.Common.{◌≡◌, ℤ, ◌<ℤ◌, ◌≤ℤ◌, int_lt, int_le, Bool, true, false, ◌&&◌, cond, List, [], ◌∷◌, ◌++◌, Option, Some, None, unwrap_or, refl, ap, sym, ◌∙◌, arith, append_assoc, append-nil}
+use Rattle.std.proofs.Common.{◌≡◌, ℤ, ◌<ℤ◌, ◌≤ℤ◌, int_le, Bool, true, false, ◌&&◌, cond, List, [], ◌∷◌, ◌++◌, Some, None, unwrap_or, refl, ap, sym, ◌∙◌, arith, append_assoc, append-nil}
 use Rattle.std.proofs.lemmas.Int.{ints, by_lt_z}
 use Rattle.std.proofs.lemmas.List.Folds.{list_all-append}
 use Rattle.std.specs.List.{find, list_all}
 use Rattle.lk_base.specs.declared.start.SessionStart.{SessionStart}
 use Rattle.client_state.specs.Starts.{is_latest_in, latest_start_of}
+use Rattle.client_state.proofs.BoolLemmas.{both, and-false}
 
 -- ---- lists
-both : (a b : Bool) → (a && b) ≡ true → (a ≡ true) × (b ≡ true)
-both true b e = (refl, e)
-both false b e = absurd (cc)
-
-and-false : (a : Bool) → (a && false) ≡ false
-and-false true = refl
-and-false false = refl
-
 -- what one test finds, another finds too that passes nothing more before it: at the first element
 kept_at : {X : Type 0} (p q : X → Bool) (x : X) (xs ys : List X) (h : X) (b : Bool) → p x ≡ b → (p x ≡ false → q x ≡ false) → (find p xs ≡ Some h → find q (xs ++ ys) ≡ Some h) → find p (x ∷ xs) ≡ Some h → q h ≡ true → find q (x ∷ xs ++ ys) ≡ Some h
 kept_at p q x xs ys h true first fewer rest found passes =

@@ -1,25 +1,20 @@
 -- A client's timeline that went to the session and comes back.
-use Rattle.std.proofs.Common.{◌≡◌, ℕ, ◌*◌, ◌^◌, ◌≤◌, ℤ, pos, negsuc, ◌+ℤ◌, ◌-ℤ◌, ◌*ℤ◌, ◌≤ℤ◌, unsigned_abs, Bool, true, false, ◌&&◌, if◌then◌else◌, Option, Some, None, refl, ap, sym, ◌∙◌, arith}
-use Rattle.std.proofs.lemmas.Int.{ints, clamps}
+use Rattle.std.proofs.Common.{◌≡◌, ℕ, ◌^◌, ◌≤◌, ℤ, pos, ◌+ℤ◌, ◌-ℤ◌, ◌*ℤ◌, ◌≤ℤ◌, unsigned_abs, Bool, true, false, if◌then◌else◌, Some, None, refl, ap, sym, ◌∙◌, arith}
+use Rattle.std.proofs.lemmas.Int.{ints}
 use Rattle.std.proofs.lemmas.Bool.Decides.{Decides-int_eq}
 use Rattle.std.specs.Ordering.{int_eq}
-use Rattle.lk_base.specs.Ranges.{IsWithinLimit}
-use Rattle.lk_base.specs.Rounding.{clipped_of, nearest_of}
+use Rattle.lk_base.specs.Rounding.{nearest_of}
 use Rattle.lk_base.specs.Timeline.{IsTidy}
 use Rattle.lk_base.specs.declared.timeline.Timeline.{Timeline}
 use Rattle.lk_base.proofs.RoundingLemmas.{nearest_of-IsNearest, clipped_of-same}
 use Rattle.ghost_xform.specs.GhostTime.{ghost_of}
 use Rattle.timeline_math.specs.Beats.{beat_at}
-use Rattle.client_state.specs.Edits.{timeline_at}
 use Rattle.client_state.specs.Timelines.{client_from_session_of, going_on, keeps_beat, renewed_of, session_from_client_of, zero_time_of}
 use Rattle.client_state.specs.Unclipped.{IsUnclippedReturn, wide_beat_at}
-use Rattle.client_state.proofs.RoundLemmas.{near_sum}
+use Rattle.client_state.proofs.BoolLemmas.{both}
+use Rattle.client_state.proofs.RoundLemmas.{near_sum, natural_of}
 
 -- ---- the tempo that is given is the client's
-first_of : {P : Type 0} (a b : Bool) → (a ≡ true → P) → (a && b) ≡ true → P
-first_of true b f e = f refl
-first_of false b f e = absurd (cc)
-
 -- one of two given by a flag, with the tempo that is common to both
 tempo_if : (kept spent : Bool) (a b given : Timeline) (mpb : ℤ) → (kept ≡ true → a.mpb ≡ mpb) → b.mpb ≡ mpb → (if kept then Some a else if spent then None else Some b) ≡ Some given → given.mpb ≡ mpb
 tempo_if true spent a b given mpb of_a of_b e = let same : a ≡ given = cc in ap (λ tl. tl.mpb) (sym same) ∙ of_a refl
@@ -29,7 +24,8 @@ tempo_if false false a b given mpb of_a of_b e = let same : b ≡ given = cc in 
 kept-tempo : (session client : Timeline) (offset : ℤ) → keeps_beat session client offset ≡ true → session.mpb ≡ client.mpb
 unfolding keeps_beat
 kept-tempo session client offset kept =
-    first_of (int_eq session.mpb client.mpb) (int_eq (beat_at session (ghost_of offset client.time)) (pos 0)) (λ same. (Decides-int_eq session.mpb client.mpb).0 same) kept
+    let tests = both (int_eq session.mpb client.mpb) (int_eq (beat_at session (ghost_of offset client.time)) (pos 0)) kept in
+    (Decides-int_eq session.mpb client.mpb).0 tests.0
 
 renewed-tempo : (session client : Timeline) (at offset : ℤ) → (renewed_of session client at offset).mpb ≡ client.mpb
 unfolding renewed_of
@@ -54,10 +50,6 @@ returned-near b t now zero at d m some is_m =
     (nearest_of-IsNearest (one (zero -ℤ now)) (pos m) some).near
     (nearest_of-IsNearest (one (at -ℤ zero)) (pos m) some).near
     (nearest_of-IsNearest (one (at -ℤ t)) (pos m) some).near)
-
-natural_of : (z : ℤ) → pos 0 ≤ℤ z → (m : ℕ) × (z ≡ pos m)
-natural_of (pos m) h = (m, refl)
-natural_of (negsuc m) h = absurd (omega (arith, ints))
 
 -- for a session of the client's tempo
 returned-beat : (client given : Timeline) (now offset time : ℤ) → IsTidy client → given.mpb ≡ client.mpb → IsUnclippedReturn client given now offset time → unsigned_abs (beat_at (client_from_session_of client given now offset) time -ℤ beat_at client time) ≤ 2

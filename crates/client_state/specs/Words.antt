@@ -1,6 +1,6 @@
 -- States and commits as rows of nine words, and back: the one place that says which word is what. Signed numbers are
 -- stored in two's complement.
-use Rattle.std.specs.Prelude.{ℕ, ℤ, pos, ◌+◌, ◌*◌, ◌/◌, ◌%◌, ◌^◌, ◌==◌, Bool, if◌then◌else◌, List, [], ◌∷◌, slice_index, Option, Some, None}
+use Rattle.std.specs.Prelude.{ℕ, ℤ, ◌+◌, ◌*◌, ◌/◌, ◌%◌, ◌^◌, ◌==◌, Bool, if◌then◌else◌, List, [], ◌∷◌, slice_index, Option, Some, None}
 use Rattle.std.specs.Int.{w64, cast_signed, cast_unsigned}
 use Rattle.lk_base.specs.Rounding.{clipped_of}
 use Rattle.lk_base.specs.declared.start.ClientStart.{ClientStart}

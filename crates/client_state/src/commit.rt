@@ -62,6 +62,7 @@ impl Commit {
     }
 }
 
+// The new timeline, where it differs from either other.
 fn timeline_between(old: &Timeline, shown: &Timeline, new: &Timeline) -> Option<Timeline>
     ensures { result ≡ spec.timeline_between old.now shown.now new.now }
 {
@@ -72,6 +73,7 @@ fn timeline_between(old: &Timeline, shown: &Timeline, new: &Timeline) -> Option<
     }
 }
 
+// The new start, set at `now`, where it plays otherwise than either other.
 fn start_between(
     old: &ClientStart,
     shown: &ClientStart,
@@ -98,6 +100,7 @@ fn plays_alike(a: &ClientStart, b: &ClientStart) -> bool
     a.playing == b.playing && a.time == b.time
 }
 
+// Whether it is tidy, if it is there.
 fn is_tidy_timeline(timeline: &Option<Timeline>) -> bool
     ensures { IsTrue result ↔ ForSome timeline.now IsTidy }
 {
@@ -107,6 +110,7 @@ fn is_tidy_timeline(timeline: &Option<Timeline>) -> bool
     }
 }
 
+// Whether its numbers are in range, if it is there.
 fn is_tidy_start(start: &Option<ClientStart>) -> bool
     ensures { IsTrue result ↔ ForSome start.now IsTidyStart }
 {

@@ -85,6 +85,7 @@ fn start_words(start: &Option<ClientStart>) -> (u64, u64, u64)
     }
 }
 
+// The timeline in three words, where its flag is set.
 fn timeline_if(flags: u64, mpb: u64, beat: u64, time: u64) -> Option<Timeline>
     ensures value { result ≡ (if flag_in flags 1 then Some (timeline_in mpb beat time) else None) }
     ensures tidy { ForSome result IsTidy }
@@ -96,6 +97,7 @@ fn timeline_if(flags: u64, mpb: u64, beat: u64, time: u64) -> Option<Timeline>
     }
 }
 
+// The start in two words, where its flag is set.
 fn start_if(flags: u64, time: u64, stamp: u64) -> Option<ClientStart>
     ensures value { result ≡ (if flag_in flags 2 then Some (start_in flags time stamp) else None) }
     ensures tidy { ForSome result IsTidyStart }

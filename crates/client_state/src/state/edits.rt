@@ -67,6 +67,7 @@ impl State {
     }
 }
 
+// The line of the clamped tempo through the beat that is there at `at`, with the same beat origin.
 #[tactic(auto, unfolding(crate::specs::Edits::tempo_set_of))]
 fn tempo_set(tl: &Timeline, mpb: i64, at: i64) -> Timeline
     requires tidy { IsTidy tl.now }
@@ -100,6 +101,7 @@ fn clamped(mpb: i64) -> i64
     tidied.mpb
 }
 
+// The line whose encoded beat at `at` is moved to the closest match of `beat`, which is then named `beat`.
 #[tactic(auto, unfolding(crate::specs::Edits::forced_of))]
 fn forced(tl: &Timeline, beat: i64, at: i64, quantum: i64) -> Timeline
     requires tidy { IsTidy tl.now }
@@ -149,6 +151,7 @@ fn apart(from: i64, to: i64) -> i128
     to as i128 - from as i128
 }
 
+// A beat origin moved on, clipped.
 fn moved(origin: i64, by: i128) -> i64
     requires origin { IsWithinLimit origin }
     requires by { IsWithin (2 ^ 63) by }
@@ -158,6 +161,7 @@ fn moved(origin: i64, by: i128) -> i64
     clip(origin as i128 + by)
 }
 
+// A time origin moved back, clipped.
 fn moved_back(origin: i64, by: i128) -> i64
     requires origin { IsWithinLimit origin }
     requires by { IsWithin (2 ^ 63) by }
@@ -167,6 +171,7 @@ fn moved_back(origin: i64, by: i128) -> i64
     clip(origin as i128 - by)
 }
 
+// The line with the beat forced, with peers at its next match.
 #[tactic(auto, unfolding(crate::specs::Edits::requested_of))]
 fn requested(peers: u32, tl: &Timeline, beat: i64, at: i64, quantum: i64) -> Timeline
     requires tidy { IsTidy tl.now }

@@ -60,6 +60,7 @@ fn state_flags(playing: bool, sync: bool, peers: u32) -> u64
     flag(playing, 1) + flag(sync, 2) + 4 * peers as u64
 }
 
+// The number of peers in a flags word.
 fn peers_in(word: u64) -> u32
     ensures { result ≡ word / 4 % 2 ^ 32 }
 {

@@ -101,7 +101,10 @@ fn expect_edits(rt: &impl Abort, seed: &mut u64) {
     assert_eq!(rt; new.timeline.beat, old.timeline.beat);
     new.force_beat(beat, at, quantum);
     let past = past(since(&new.timeline, at), beat, quantum);
-    assert!(rt; past <= 17 || past >= quantum - 17, "{beat} at {at} in {quantum}");
+    assert!(rt;
+        past <= 17 || past >= quantum - 17,
+        "{beat} at {at} in {quantum}"
+    );
     assert_eq!(rt;
         State {
             timeline: old.timeline,

@@ -1,4 +1,4 @@
-use Rattle.std.proofs.Common.{◌<◌, ◌^◌, rules, ap, ◌∙◌, arith}
+use Rattle.std.proofs.Common.{◌<◌, ◌^◌, rules, ap, ◌∙◌}
 use Rattle.client_state.specs.Words.{state_of_words, words_of_state}
 use Rattle.client_state.proofs.WordLemmas.{state-back}
 use Rattle.client_state.proofs.state.State.row.Goals as goal

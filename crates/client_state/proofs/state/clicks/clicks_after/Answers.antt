@@ -1,4 +1,4 @@
-use Rattle.std.proofs.Common.{FitsSigned, rules, sym, ◌∙◌, arith}
+use Rattle.std.proofs.Common.{sym, ◌∙◌, arith}
 use Rattle.std.proofs.lemmas.Int.{ints, to_z-of_z}
 use mir.Syntax.{w64}
 use Rattle.client_state.proofs.BlockLemmas.{part_kept}
