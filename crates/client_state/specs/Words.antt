@@ -1,0 +1,111 @@
+-- States and commits as rows of nine words, and back: the one place that says which word is what. Signed numbers are
+-- stored in two's complement.
+use Rattle.std.specs.Prelude.{ℕ, ℤ, ◌+◌, ◌*◌, ◌/◌, ◌%◌, ◌^◌, ◌==◌, Bool, if◌then◌else◌, List, [], ◌∷◌, slice_index, Option, Some, None}
+use Rattle.std.specs.Int.{w64, cast_signed, cast_unsigned}
+use Rattle.lk_base.specs.Rounding.{clipped_of}
+use Rattle.lk_base.specs.declared.start.ClientStart.{ClientStart}
+use Rattle.lk_base.specs.declared.timeline.Timeline.{Timeline}
+use Rattle.timeline_math.specs.Tidying.{tidy_of}
+use Rattle.client_state.specs.declared.commit.Commit.{Commit}
+use Rattle.client_state.specs.declared.state.State.{State}
+
+-- ---- numbers and flags in words
+
+abbrev pub word_of : ℤ → ℕ
+word_of z = cast_unsigned w64 z
+
+-- the number in a word, and the same within the limit
+abbrev pub number_in : ℕ → ℤ
+number_in word = cast_signed w64 word
+
+abbrev pub clipped_in : ℕ → ℤ
+clipped_in word = clipped_of (number_in word)
+
+abbrev pub timeline_in : ℕ → ℕ → ℕ → Timeline
+timeline_in mpb beat time = tidy_of (record { mpb = number_in mpb; beat = number_in beat; time = number_in time })
+
+-- a flag as a number, and the flag of this weight in a word
+abbrev pub flag_of : Bool → ℕ → ℕ
+flag_of flag weight = if flag then weight else 0
+
+abbrev pub flag_in : ℕ → ℕ → Bool
+flag_in word weight = word / weight % 2 == 1
+
+-- ---- a state
+
+-- playing is 1, sync is 2, and a peer is 4
+abbrev pub state_flags_of : State → ℕ
+state_flags_of state = flag_of state.start.playing 1 + flag_of state.sync 2 + 4 * state.peers
+
+unfoldable pub words_of_state : State → List ℕ
+words_of_state state =
+    word_of state.timeline.mpb
+    ∷ word_of state.timeline.beat
+    ∷ word_of state.timeline.time
+    ∷ word_of state.start.time
+    ∷ word_of state.start.stamp
+    ∷ state_flags_of state
+    ∷ word_of state.moment
+    ∷ state.app
+    ∷ state.audio
+    ∷ []
+
+unfoldable pub state_of_words : List ℕ → State
+state_of_words words = record {
+  timeline = timeline_in (slice_index words 0) (slice_index words 1) (slice_index words 2);
+  start = record {
+    playing = flag_in (slice_index words 5) 1;
+    time = clipped_in (slice_index words 3);
+    stamp = clipped_in (slice_index words 4);
+  };
+  sync = flag_in (slice_index words 5) 2;
+  peers = slice_index words 5 / 4 % 2 ^ 32;
+  moment = clipped_in (slice_index words 6);
+  app = slice_index words 7;
+  audio = slice_index words 8;
+}
+
+-- ---- a commit
+
+-- a timeline is 1, a start is 2, and one that plays is 4 more
+abbrev pub timeline_flag_of : Option Timeline → ℕ
+timeline_flag_of None = 0
+timeline_flag_of (Some tl) = 1
+
+abbrev pub start_flags_of : Option ClientStart → ℕ
+start_flags_of None = 0
+start_flags_of (Some start) = 2 + flag_of start.playing 4
+
+-- the words of a number of something that may be absent: 0 then
+abbrev pub word_if : {A : Type 0} → (A → ℤ) → Option A → ℕ
+word_if number None = 0
+word_if number (Some a) = word_of (number a)
+
+unfoldable pub words_of_commit : Commit → List ℕ
+words_of_commit commit =
+    (timeline_flag_of commit.timeline + start_flags_of commit.start)
+    ∷ word_if (λ tl. tl.mpb) commit.timeline
+    ∷ word_if (λ tl. tl.beat) commit.timeline
+    ∷ word_if (λ tl. tl.time) commit.timeline
+    ∷ word_if (λ start. start.time) commit.start
+    ∷ word_if (λ start. start.stamp) commit.start
+    ∷ word_of commit.at
+    ∷ 0
+    ∷ 0
+    ∷ []
+
+abbrev pub start_in : ℕ → ℕ → ℕ → ClientStart
+start_in flags time stamp = record { playing = flag_in flags 4; time = clipped_in time; stamp = clipped_in stamp }
+
+unfoldable pub commit_of_words : List ℕ → Commit
+commit_of_words words = record {
+  timeline =
+      if flag_in (slice_index words 0) 1
+      then Some (timeline_in (slice_index words 1) (slice_index words 2) (slice_index words 3))
+      else None;
+  start =
+      if flag_in (slice_index words 0) 2
+      then Some (start_in (slice_index words 0) (slice_index words 4) (slice_index words 5))
+      else None;
+  at = clipped_in (slice_index words 6);
+}

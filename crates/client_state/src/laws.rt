@@ -1,0 +1,49 @@
+//! Laws of edits, conversions and rows, in a musician's words: to call one is to know it.
+
+ghost use Rattle.std.specs.Prelude.{◌≡◌, ◌≤◌, ◌<◌, ◌^◌, ◌+ℤ◌, ◌-ℤ◌, ◌*ℤ◌, ◌<ℤ◌, ℤ, pos, Some, unsigned_abs};
+ghost use Rattle.lk_base.specs.Ranges.{IsQuantum};
+ghost use Rattle.lk_base.specs.Timeline.{IsTidy};
+ghost use Rattle.lk_base.specs.declared.timeline.Timeline.{Timeline};
+ghost use Rattle.timeline_math.specs.Beats.{beat_at};
+ghost use Rattle.client_state.specs.Commit.{IsTidyCommit};
+ghost use Rattle.client_state.specs.Edits.{tempo_set_of, forced_of};
+ghost use Rattle.client_state.specs.State.{IsTidyState};
+ghost use Rattle.client_state.specs.Timelines.{client_from_session_of, session_from_client_of};
+ghost use Rattle.client_state.specs.Unclipped.{IsUnclippedTempo, IsUnclippedForce, IsUnclippedReturn};
+ghost use Rattle.client_state.specs.Words.{words_of_state, state_of_words, words_of_commit, commit_of_words};
+ghost use Rattle.client_state.specs.declared.commit.Commit.{Commit};
+ghost use Rattle.client_state.specs.declared.state.State.{State};
+
+/// Setting a tempo keeps the beat at that moment, but for at most 8 microbeats of rounding, where the new time origin
+/// isn't clipped.
+pub fn tempo_keeps_the_beat()
+    ensures { (tl : Timeline) (mpb at : ℤ) → IsTidy tl → IsUnclippedTempo tl mpb at
+        → unsigned_abs (beat_at (tempo_set_of tl mpb at) at -ℤ beat_at tl at) ≤ 8 }
+{}
+
+/// Where nothing is clipped, forcing a beat puts the beat at that moment, counted from the beat origin, on the forced
+/// beat but for whole quanta and at most 17 microbeats of rounding. Without a quantum it is the forced beat.
+pub fn forced_beats_fall_on_the_quantum()
+    ensures quantum { (tl : Timeline) (beat at q : ℤ) → IsTidy tl → IsQuantum q → pos 0 <ℤ q
+        → IsUnclippedForce tl beat at q
+        → (k : ℤ) × (unsigned_abs
+        ((beat_at (forced_of tl beat at q) at -ℤ (forced_of tl beat at q).beat) -ℤ (beat +ℤ k *ℤ q)) ≤ 17) }
+    ensures free { (tl : Timeline) (beat at : ℤ) → IsTidy tl → IsUnclippedForce tl beat at (pos 0)
+        → beat_at (forced_of tl beat at (pos 0)) at ≡ beat }
+{}
+
+/// A client's timeline that went to the session and comes back moves no beat by more than 2 microbeats, where nothing is
+/// clipped.
+pub fn returned_timelines_keep_beats()
+    ensures { (client session given : Timeline) (at now offset time : ℤ) → IsTidy client → IsTidy session
+        → session_from_client_of session client at offset ≡ Some given
+        → IsUnclippedReturn client given now offset time
+        → unsigned_abs (beat_at (client_from_session_of client given now offset) time -ℤ beat_at client time) ≤ 2 }
+{}
+
+/// A tidy state and a tidy commit are read back from their rows. The second premise holds of all states in code.
+pub fn rows_are_read_back()
+    ensures state { (state : State) → IsTidyState state → state.peers < 2 ^ 32
+        → state_of_words (words_of_state state) ≡ state }
+    ensures commit { (commit : Commit) → IsTidyCommit commit → commit_of_words (words_of_commit commit) ≡ commit }
+{}

@@ -1,0 +1,68 @@
+//! A state as a row of words, and back.
+
+ghost use Rattle.std.specs.Prelude.{◌≡◌, ◌+◌, ◌*◌, ◌/◌, ◌%◌, ◌^◌};
+ghost use Rattle.client_state.specs.Words.{flag_of};
+
+use crate::state::State;
+use crate::words::{clipped_in, flag, flag_in, timeline_in};
+use lk_base::ClientStart;
+
+impl State {
+    ghost use Rattle.client_state.specs.State.{IsTidyState};
+    ghost use Rattle.client_state.specs.Words.{words_of_state, state_of_words};
+
+    /// The state as a row of nine words. A tidy state is read back from its row.
+    #[tactic(auto, unfolding(crate::specs::Words::words_of_state))]
+    pub fn row(&self) -> [u64; 9]
+        ensures words { result ≡ words_of_state self.now }
+        ensures reads_back { IsTidyState self.now → state_of_words result ≡ self.now }
+    {
+        [
+            self.timeline.mpb.cast_unsigned(),
+            self.timeline.beat.cast_unsigned(),
+            self.timeline.time.cast_unsigned(),
+            self.start.time.cast_unsigned(),
+            self.start.stamp.cast_unsigned(),
+            state_flags(self.start.playing, self.sync, self.peers),
+            self.moment.cast_unsigned(),
+            self.app,
+            self.audio,
+        ]
+    }
+
+    /// The state in a row. Whatever the words are, it is tidy: the tempo is clamped, and every other signed number is
+    /// clipped to 2^60.
+    #[tactic(auto, unfolding(crate::specs::Words::state_of_words))]
+    pub fn from_row(row: &[u64; 9]) -> State
+        ensures state { result ≡ state_of_words row.now }
+        ensures tidy { IsTidyState result }
+    {
+        State {
+            timeline: timeline_in(row[0], row[1], row[2]),
+            start: ClientStart {
+                playing: flag_in(row[5], 1),
+                time: clipped_in(row[3]),
+                stamp: clipped_in(row[4]),
+            },
+            sync: flag_in(row[5], 2),
+            peers: peers_in(row[5]),
+            moment: clipped_in(row[6]),
+            app: row[7],
+            audio: row[8],
+        }
+    }
+}
+
+// Playing is 1, sync is 2, and a peer is 4.
+fn state_flags(playing: bool, sync: bool, peers: u32) -> u64
+    ensures { result ≡ flag_of playing 1 + flag_of sync 2 + 4 * peers }
+{
+    flag(playing, 1) + flag(sync, 2) + 4 * peers as u64
+}
+
+// The number of peers in a flags word.
+fn peers_in(word: u64) -> u32
+    ensures { result ≡ word / 4 % 2 ^ 32 }
+{
+    (word / 4 % (1 << 32)) as u32
+}
