@@ -1,4 +1,4 @@
-use Rattle.std.proofs.Common.{Ok, refl, arith, rules}
+use Rattle.std.proofs.Common.{refl, arith, rules}
 use Rattle.asdp_messages.specs.Datagram as message
 use Rattle.asdp_messages.specs.Spelling.{sent, spelled_of}
 use Rattle.asdp_messages.specs.Spelling as written
