@@ -1,0 +1,4 @@
+pub mod Happenings
+pub mod Answers
+pub mod Expiry
+pub mod Table
