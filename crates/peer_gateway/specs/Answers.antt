@@ -1,5 +1,5 @@
 -- What a life of peers answers, by its rows alone.
-use Rattle.std.specs.Prelude.{◌≡◌, ℕ, ℤ, ◌==◌, nat_le, Bool, not, ◌&&◌, ◌||◌, if◌then◌else◌, List, [], ◌∷◌, length, map, filter, is_some, Option, Some, None, option_map, option_and_then}
+use Rattle.std.specs.Prelude.{◌≡◌, ℕ, ℤ, ◌==◌, nat_le, nat_lt, Bool, not, ◌&&◌, ◌||◌, if◌then◌else◌, List, [], ◌∷◌, length, map, filter, is_some, Option, Some, None, option_map, option_and_then}
 use Rattle.std.specs.Int.{int_min}
 use Rattle.std.specs.List.{list_any}
 use Rattle.std.specs.Option.{option_map_or}
@@ -38,7 +38,7 @@ ended_by moment life = length (filter (λ row. not (lives moment row)) (rows_of 
 -- the least of some numbers
 abbrev pub least_in : List ℤ → Option ℤ
 least_in [] = None
-least_in (x ∷ xs) = Some (option_map_or (int_min x) x (least_in xs))
+least_in (x ∷ xs) = Some (option_map_or (int_min x) (least_in xs) x)
 
 unfoldable pub least_limit_of : List Happening → Option ℤ
 least_limit_of life = least_in (map (λ row. row.limit) (rows_of life))
@@ -62,7 +62,7 @@ comes_before a b = id_lt a.id b.id || (same_id a.id b.id && nat_lt a.gate.0 b.ga
 -- the first of some rows in that order
 abbrev pub first_of : List PeerRow → Option PeerRow
 first_of [] = None
-first_of (row ∷ rows) = Some (option_map_or (λ other. if comes_before other row then other else row) row (first_of rows))
+first_of (row ∷ rows) = Some (option_map_or (λ other. if comes_before other row then other else row) (first_of rows) row)
 
 -- the rows of a session that tell where they answer
 abbrev pub answering_in : NodeId → List Happening → List PeerRow

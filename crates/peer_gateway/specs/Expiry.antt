@@ -1,5 +1,5 @@
 -- When rows end, in order.
-use Rattle.std.specs.Prelude.{◌≡◌, ◌⊎◌, ◌<◌, ◌<ℤ◌, List, [], ◌∷◌, IsTrue, Unit}
+use Rattle.std.specs.Prelude.{◌≡◌, ◌⊎◌, ◌<◌, ◌<ℤ◌, List, [], ◌∷◌, IsTrue}
 use Rattle.std.specs.List.{AllByRecursion}
 use Rattle.lk_base.specs.IdOrder.{id_lt}
 use Rattle.peer_gateway.specs.Happenings.{Has}

@@ -2,3 +2,4 @@ pub mod Happenings
 pub mod Answers
 pub mod Expiry
 pub mod Table
+pub mod Order

@@ -1,8 +1,12 @@
 //! The table of peers.
 
+mod answers;
+mod limits;
+mod rows;
+
 use crate::expiry::Expiry;
 use crate::row::{PeerRow, Seen};
-use lk_base::{Endpoint, Gate, NodeId, Target};
+use lk_base::{Endpoint, Gate, NodeId};
 use std::alloc::{AllocError, Global};
 use std::marker::Model;
 
@@ -23,15 +27,20 @@ pub struct Peers {
 }
 
 impl Model for Peers {
+    ghost use Rattle.std.specs.Prelude.{◌≤◌, ◌*◌, vec_capacity};
+    ghost use Rattle.peer_gateway.specs.Order.{IsTable};
     ghost use Rattle.peer_gateway.specs.Table.{Table};
 
     ghost Value = { Table };
 
-    // view, invariant: to be written
+    ghost view = { λ s. record { gates = s.gates; rows = s.rows.items } };
+
+    ghost invariant = { λ s. IsTable s.gates s.rows.items s.by_limit.items
+        × (128 * s.gates ≤ vec_capacity s.rows) × (128 * s.gates ≤ vec_capacity s.by_limit) };
 }
 
 impl Peers {
-    ghost use Rattle.std.specs.Prelude.{◌≡◌, ◌≤◌, ◌<◌, ◌*◌, ℕ, List, [], length, map, IfOk};
+    ghost use Rattle.std.specs.Prelude.{◌≡◌, ◌≤◌, ◌<◌, ◌*◌, ℕ, List, [], false, length, map, IfOk};
     ghost use Rattle.lk_base.specs.Ranges.{IsMoment};
     ghost use Rattle.peer_gateway.specs.Answers.{had_row, seen_of, ended_by, least_limit_of, peers_in, has_peers, target_of};
     ghost use Rattle.peer_gateway.specs.Expiry.{expiry_of, IsInOrder, HaveSame};
@@ -43,7 +52,14 @@ impl Peers {
         ensures stands { IfOk result (λ peers. StandsFor peers []) }
         ensures gates { IfOk result (λ peers. peers.gates ≡ gates) }
     {
-        todo!()
+        let room = ROWS * usize::from(gates);
+        let rows = Vec::with_capacity(alloc, room)?;
+        let by_limit = Vec::with_capacity(alloc, room)?;
+        Ok(Peers {
+            gates,
+            rows,
+            by_limit,
+        })
     }
 
     /// Writes the row of a peer that was seen on a gate at the host time `now`, with a time to live in seconds.
@@ -67,7 +83,27 @@ impl Peers {
         ensures full { result ≡ Seen.TableFull → self.new ≡ self.old }
         ensures gates { self.new.gates ≡ self.old.gates }
     {
-        todo!()
+        let row = PeerRow {
+            gate,
+            id,
+            session,
+            endpoint,
+            limit: now + (i64::from(ttl) + 1) * 1_000_000,
+        };
+        match rows::place_of(&self.rows, gate, &id) {
+            Ok(at) => {
+                rows::renew(&mut self.rows, &mut self.by_limit, self.gates, at, row);
+                Seen::Known
+            }
+            Err(at) => {
+                if rows::rows_on(&self.rows, gate) < ROWS {
+                    rows::add(&mut self.rows, &mut self.by_limit, self.gates, at, row);
+                    Seen::New
+                } else {
+                    Seen::TableFull
+                }
+            }
+        }
     }
 
     /// Ends the row of a peer that said goodbye on a gate. False where it had none; nothing changes then.
@@ -78,7 +114,13 @@ impl Peers {
         ensures unchanged { result ≡ false → self.new ≡ self.old }
         ensures gates { self.new.gates ≡ self.old.gates }
     {
-        todo!()
+        match rows::place_of(&self.rows, gate, &id) {
+            Ok(at) => {
+                rows::end_row(&mut self.rows, &mut self.by_limit, self.gates, at, gate, &id);
+                true
+            }
+            Err(_) => false,
+        }
     }
 
     /// Ends each row whose limit is at or before the host time `now`, and answers how many.
@@ -88,7 +130,7 @@ impl Peers {
         ensures unchanged { result ≡ 0 → self.new ≡ self.old }
         ensures gates { self.new.gates ≡ self.old.gates }
     {
-        todo!()
+        rows::end_rows(&mut self.rows, &mut self.by_limit, self.gates, now) as u32
     }
 
     /// Ends all rows.
@@ -96,14 +138,8 @@ impl Peers {
         ensures stands { StandsFor self.new [] }
         ensures gates { self.new.gates ≡ self.old.gates }
     {
-        todo!()
-    }
-
-    /// The limit of the row that ends first. None where there is no row.
-    pub fn least_limit(&self) -> Option<i64>
-        ensures { (life : List Happening) → StandsFor self.now life → result ≡ least_limit_of life }
-    {
-        todo!()
+        self.rows.clear();
+        self.by_limit.clear();
     }
 
     /// When each row ends: an entry for each row, in order of limit, then gate, then id.
@@ -114,28 +150,6 @@ impl Peers {
         ensures count { (life : List Happening) → StandsFor self.now life
             → length result.now ≡ length (rows_of life) }
     {
-        todo!()
-    }
-
-    /// How many peers there are in a session: one that was seen on several gates counts once.
-    pub fn count(&self, session: NodeId) -> u32
-        ensures { (life : List Happening) → StandsFor self.now life → result ≡ peers_in session life }
-    {
-        todo!()
-    }
-
-    /// Whether a peer is in a session.
-    pub fn has(&self, session: NodeId) -> bool
-        ensures { (life : List Happening) → StandsFor self.now life → result ≡ has_peers session life }
-    {
-        todo!()
-    }
-
-    /// The peer by which a session's clock is measured, of the rows in it with an endpoint: the founder at the least
-    /// gate where it has such a row, and else the first by id and then gate. None where no row in it has an endpoint.
-    pub fn target(&self, session: NodeId) -> Option<Target>
-        ensures { (life : List Happening) → StandsFor self.now life → result ≡ target_of session life }
-    {
-        todo!()
+        &self.by_limit
     }
 }
