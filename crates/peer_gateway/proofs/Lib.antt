@@ -4,3 +4,4 @@ pub mod KeyLemmas
 pub mod LimitLemmas
 pub mod TableLemmas
 pub mod LifeLemmas
+pub mod AnswerLemmas

@@ -160,3 +160,15 @@ pub index_has : {A : Type 0} (xs : List A) (k : ℕ) (d : A) → k < length xs �
 index_has [] k d l = absurd (omega arith)
 index_has (a ∷ xs) zero d l = inl refl
 index_has (a ∷ xs) (suc k) d l = inr (index_has xs k d (omega arith))
+
+-- ---- a list that may begin with one more
+
+pub has_cond : {A : Type 0} (a : A) (xs : List A) (x : A) (b : Bool) → Has (cond b (a ∷ xs) xs) x → ((a ≡ x) × (b ≡ true)) ⊎ Has xs x
+has_cond a xs x true (inl e) = inl (e, refl)
+has_cond a xs x true (inr h) = inr h
+has_cond a xs x false h = inr h
+
+pub has_from_all_of : {A : Type 0} (p : A → Bool) (xs : List A) (x : A) → list_all p xs ≡ true → Has xs x → p x ≡ true
+has_from_all_of p [] x t h = absurd h
+has_from_all_of p (a ∷ xs) x t (inl e) = sym (ap p e) ∙ (and_parts (p a) (list_all p xs) t).0
+has_from_all_of p (a ∷ xs) x t (inr h) = has_from_all_of p xs x (and_parts (p a) (list_all p xs) t).1 h

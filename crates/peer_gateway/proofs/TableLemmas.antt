@@ -417,3 +417,9 @@ pub none_ended : {gates : ℕ} {rows : List PeerRow} {limits : List Expiry} (mom
     → ((e : Expiry) → Has limits e → moment <ℤ e.limit) → filter (lives moment) rows ≡ rows
 none_ended {gates} {rows} moment t left =
     filter_whole (lives moment) rows (λ row h. is_later row.limit moment (left (expiry_of row) (t.there row h)))
+
+pub not_lives_le : (moment : ℤ) (rows : List PeerRow) → length (filter (λ row. not (lives moment row)) rows) ≤ length rows
+not_lives_le moment rows =
+    let both : length (filter (lives moment) rows) + length (filter (λ row. not (lives moment row)) rows) ≡ length rows =
+        length-filter_both (lives moment) (λ row. not (lives moment row)) (λ _. refl) rows in
+    omega arith

@@ -5,7 +5,7 @@ mod limits;
 mod rows;
 
 use crate::expiry::Expiry;
-use crate::row::{PeerRow, Seen};
+use crate::row::{PeerRow, Seen, sighted};
 use lk_base::{Endpoint, Gate, NodeId};
 use std::alloc::{AllocError, Global};
 use std::marker::Model;
@@ -83,13 +83,7 @@ impl Peers {
         ensures full { result ≡ Seen.TableFull → self.new ≡ self.old }
         ensures gates { self.new.gates ≡ self.old.gates }
     {
-        let row = PeerRow {
-            gate,
-            id,
-            session,
-            endpoint,
-            limit: now + (i64::from(ttl) + 1) * 1_000_000,
-        };
+        let row = sighted(gate, id, ttl, session, endpoint, now);
         match rows::place_of(&self.rows, gate, &id) {
             Ok(at) => {
                 rows::renew(&mut self.rows, &mut self.by_limit, self.gates, at, row);

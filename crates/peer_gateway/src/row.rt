@@ -1,5 +1,9 @@
 //! What is kept of a peer.
 
+ghost use Rattle.std.specs.Prelude.{◌≡◌};
+ghost use Rattle.lk_base.specs.Ranges.{IsMoment};
+ghost use Rattle.peer_gateway.specs.Happenings.{row_seen};
+
 use lk_base::{Endpoint, Gate, NodeId};
 
 /// A peer as it was last seen on one gate.
@@ -24,4 +28,25 @@ pub enum Seen {
     Known,
     /// The gate has 128 rows, and none of this id. Nothing changed.
     TableFull,
+}
+
+// The row of a peer that is seen at the host time `now`: it ends a second after its time to live.
+pub(crate) fn sighted(
+    gate: Gate,
+    id: NodeId,
+    ttl: u8,
+    session: NodeId,
+    endpoint: Option<Endpoint>,
+    now: i64,
+) -> PeerRow
+    requires { IsMoment now }
+    ensures { result ≡ row_seen gate id ttl session endpoint now }
+{
+    PeerRow {
+        gate,
+        id,
+        session,
+        endpoint,
+        limit: now + (i64::from(ttl) + 1) * 1_000_000,
+    }
 }
