@@ -5,3 +5,6 @@ pub mod LimitLemmas
 pub mod TableLemmas
 pub mod LifeLemmas
 pub mod AnswerLemmas
+pub mod PickLemmas
+pub mod CountLemmas
+pub mod LawLemmas

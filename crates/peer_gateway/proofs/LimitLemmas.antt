@@ -22,7 +22,7 @@ ended_more xs n moment x l read ends all e h =
     | inr q ↦ elim q as (λ _. e.limit ≤ℤ moment)
         [ inl same ↦ subst (λ (z : Expiry). z.limit ≤ℤ moment) (read ∙ same) ends | inr none ↦ absurd none ] ]
 
-first_less : (a b : Ordering) → ordering_then a b ≡ Less → (a ≡ Less) ⊎ (a ≡ Equal)
+pub first_less : (a b : Ordering) → ordering_then a b ≡ Less → (a ≡ Less) ⊎ (a ≡ Equal)
 first_less Less b e = inl refl
 first_less Equal b e = inr refl
 first_less Greater b e = absurd (cc)

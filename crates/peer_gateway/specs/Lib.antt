@@ -3,3 +3,4 @@ pub mod Answers
 pub mod Expiry
 pub mod Table
 pub mod Order
+pub mod Picks

@@ -36,7 +36,8 @@ impl Model for Peers {
     ghost view = { λ s. record { gates = s.gates; rows = s.rows.items } };
 
     ghost invariant = { λ s. IsTable s.gates s.rows.items s.by_limit.items
-        × (128 * s.gates ≤ vec_capacity s.rows) × (128 * s.gates ≤ vec_capacity s.by_limit) };
+        × (128 * s.gates ≤ vec_capacity s.rows) × (128 * s.gates ≤ vec_capacity s.by_limit)
+        × (s.gates ≤ 4) };
 }
 
 impl Peers {
