@@ -23,7 +23,7 @@ had_found gate id table life i stands place =
     let d = row_at gate id in
     sym (any_stands (is_row_of gate id) table life stands)
     ∙ any_from_has (is_row_of gate id) table.rows (get_or table.rows i d) (index_has table.rows i d place.within)
-        (is_found table.rows gate id i d place)
+    (is_found table.rows gate id i d place)
 
 pub had_none : (gate : Gate) (id : NodeId) (table : Table) (life : List Happening) (i : ℕ) → StandsFor table life
     → BelongsAt (order_at gate id) table.rows i → had_row gate id life ≡ false
@@ -65,13 +65,14 @@ how_many_ended moment table life up stands = count_stands (λ row. not (lives mo
 none_out : {A : Type 0} (p : A → Bool) (xs : List A) → length (filter (λ x. not (p x)) xs) ≡ 0 → (x : A) → Has xs x → p x ≡ true
 none_out p [] e x h = absurd h
 none_out {A} p (a ∷ xs) e x h =
-    elim (cases_Bool (p a)) as (λ _. p x ≡ true)
-    [ inl t ↦
-        let rest : length (filter (λ (y : A). not (p y)) xs) ≡ 0 = rw t at e in
-        elim h as (λ _. p x ≡ true) [ inl q ↦ sym (ap p q) ∙ t | inr k ↦ none_out p xs rest x k ]
-    | inr f ↦
-        let some : suc (length (filter (λ (y : A). not (p y)) xs)) ≡ 0 = rw f at e in
-        absurd (omega arith) ]
+    elim (cases_Bool (p a)) as (λ _. p x ≡ true) [
+      | inl t ↦
+          let rest : length (filter (λ (y : A). not (p y)) xs) ≡ 0 = rw t at e in
+          elim h as (λ _. p x ≡ true) [ inl q ↦ sym (ap p q) ∙ t | inr k ↦ none_out p xs rest x k ]
+      | inr f ↦
+          let some : suc (length (filter (λ (y : A). not (p y)) xs)) ≡ 0 = rw f at e in
+          absurd (omega arith)
+    ]
 
 -- where none ended all stay
 pub all_stay : (moment : ℤ) (rows : List PeerRow) → length (filter (λ row. not (lives moment row)) rows) ≡ 0 → filter (lives moment) rows ≡ rows

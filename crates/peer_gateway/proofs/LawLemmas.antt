@@ -43,31 +43,41 @@ all_true p (a ∷ xs) each = and_from (p a) (list_all p xs) (each a (inl refl)) 
 
 -- one more happening before a life
 after_more : (first : Happening) (later : List Happening) (row : PeerRow) → IsRowAfter later row → IsRowAfter (first ∷ later) row
-after_more first later row m =
-    (suc m.0, m.1, subst (λ (n : ℕ). All (λ h. Ends h row → ⊥) (drop n (first ∷ later))) (sym (add-one (suc m.0)))
-        (subst (λ (n : ℕ). All (λ h. Ends h row → ⊥) (drop n later)) (add-one m.0) m.2))
+after_more first later row m = (
+  suc m.0,
+  m.1,
+  subst (λ (n : ℕ). All (λ h. Ends h row → ⊥) (drop n (first ∷ later))) (sym (add-one (suc m.0)))
+      (subst (λ (n : ℕ). All (λ h. Ends h row → ⊥) (drop n later)) (add-one m.0) m.2),
+)
 
 here : (row : PeerRow) (later : List Happening) → list_all (outlives row) later ≡ true → IsRowAfter (sighting row ∷ later) row
-here row later e =
-    (0, refl, All-from_recursion (λ h. Ends h row → ⊥) later
-        (all_from_has (λ h. Ends h row → ⊥) later (λ h k. not_ended row h (has_from_all_of (outlives row) later h e k))))
+here row later e = (
+  0,
+  refl,
+  All-from_recursion (λ h. Ends h row → ⊥) later
+      (all_from_has (λ h. Ends h row → ⊥) later (λ h k. not_ended row h (has_from_all_of (outlives row) later h e k))),
+)
 
 pub row_after : (life : List Happening) (row : PeerRow) → Has (rows_of life) row → IsRowAfter life row
 unfolding rows_of
 row_after [] row h = absurd h
 row_after (sighting first ∷ later) row h =
-    elim (has_cond first (rows_of later) row (list_all (outlives first) later) h) as (λ _. IsRowAfter (sighting first ∷ later) row)
-    [ inl e ↦ subst (λ (z : PeerRow). IsRowAfter (sighting first ∷ later) z) e.0 (here first later e.1)
-    | inr k ↦ after_more (sighting first) later row (row_after later row k) ]
+    elim (has_cond first (rows_of later) row (list_all (outlives first) later) h) as (λ _. IsRowAfter (sighting first ∷ later) row) [
+      | inl e ↦ subst (λ (z : PeerRow). IsRowAfter (sighting first ∷ later) z) e.0 (here first later e.1)
+      | inr k ↦ after_more (sighting first) later row (row_after later row k)
+    ]
 row_after (goodbye gate id ∷ later) row h = after_more (goodbye gate id) later row (row_after later row h)
 row_after (pruning moment ∷ later) row h = after_more (pruning moment) later row (row_after later row h)
 
 -- a row of what follows
 after_less : (first : Happening) (later : List Happening) (row : PeerRow) (k : ℕ) → slice_get later k ≡ Some (sighting row)
     → All (λ h. Ends h row → ⊥) (drop (suc k + 1) (first ∷ later)) → IsRowAfter later row
-after_less first later row k e all =
-    (k, e, subst (λ (n : ℕ). All (λ h. Ends h row → ⊥) (drop n later)) (sym (add-one k))
-        (subst (λ (n : ℕ). All (λ h. Ends h row → ⊥) (drop n (first ∷ later))) (add-one (suc k)) all))
+after_less first later row k e all = (
+  k,
+  e,
+  subst (λ (n : ℕ). All (λ h. Ends h row → ⊥) (drop n later)) (sym (add-one k))
+      (subst (λ (n : ℕ). All (λ h. Ends h row → ⊥) (drop n (first ∷ later))) (add-one (suc k)) all),
+)
 
 same_sighting : (a b : PeerRow) → sighting a ≡ sighting b → a ≡ b
 same_sighting a b e = cc
@@ -88,8 +98,8 @@ after_row (sighting first ∷ later) row zero e all =
     let each = recursion_from_All (λ h. Ends h row → ⊥) later all in
     subst (λ (z : PeerRow). Has (cond (list_all (outlives first) later) (first ∷ rows_of later) (rows_of later)) z) same
     (cond_inl first (rows_of later) (list_all (outlives first) later)
-        (subst (λ (z : PeerRow). list_all (outlives z) later ≡ true) (sym same)
-            (all_true (outlives row) later (λ h k. outlived row h (has_from_all (λ h. Ends h row → ⊥) later h each k)))))
+    (subst (λ (z : PeerRow). list_all (outlives z) later ≡ true) (sym same)
+    (all_true (outlives row) later (λ h k. outlived row h (has_from_all (λ h. Ends h row → ⊥) later h each k)))))
 after_row (goodbye gate id ∷ later) row zero e all = absurd (cc)
 after_row (pruning moment ∷ later) row zero e all = absurd (cc)
 after_row (sighting first ∷ later) row (suc k) e all =

@@ -56,14 +56,14 @@ pub stands_goodbye : (gate : Gate) (id : NodeId) (old new : Table) (life : List 
 stands_goodbye gate id old new life stands ended =
     let others : PeerRow → Bool = λ row. not (is_row_of gate id row) in
     record {
-        kept = λ row h.
-            let f = ended.from row h in
-            subst (λ (rows : List PeerRow). Has rows row) (sym (ended_by_goodbye gate id life))
-            (has_filter others (rows_of life) row (stands.kept row f.0) (not_from_false (is_row_of gate id row) f.1));
-        all = λ row h.
-            let m = filter_has others (rows_of life) row
-                (subst (λ (rows : List PeerRow). Has rows row) (ended_by_goodbye gate id life) h) in
-            ended.stay row (stands.all row m.0) (not-true (is_row_of gate id row) m.1);
+      kept = λ row h.
+          let f = ended.from row h in
+          subst (λ (rows : List PeerRow). Has rows row) (sym (ended_by_goodbye gate id life))
+          (has_filter others (rows_of life) row (stands.kept row f.0) (not_from_false (is_row_of gate id row) f.1));
+      all = λ row h.
+          let m = filter_has others (rows_of life) row
+          (subst (λ (rows : List PeerRow). Has rows row) (ended_by_goodbye gate id life) h) in
+          ended.stay row (stands.all row m.0) (not-true (is_row_of gate id row) m.1);
     }
 
 ended_by_pruning : (moment : ℤ) (life : List Happening) → rows_of (life ++ pruning moment ∷ []) ≡ filter (lives moment) (rows_of life)
@@ -73,13 +73,13 @@ pub stands_pruning : (moment : ℤ) (old new : Table) (life : List Happening) �
     → new.rows ≡ filter (lives moment) old.rows → StandsFor new (was_pruned moment life)
 stands_pruning moment old new life stands same =
     record {
-        kept = λ row h.
-            let m = filter_has (lives moment) old.rows row (subst (λ (rows : List PeerRow). Has rows row) same h) in
-            subst (λ (rows : List PeerRow). Has rows row) (sym (ended_by_pruning moment life))
-            (has_filter (lives moment) (rows_of life) row (stands.kept row m.0) m.1);
-        all = λ row h.
-            let m = filter_has (lives moment) (rows_of life) row (subst (λ (rows : List PeerRow). Has rows row) (ended_by_pruning moment life) h) in
-            subst (λ (rows : List PeerRow). Has rows row) (sym same) (has_filter (lives moment) old.rows row (stands.all row m.0) m.1);
+      kept = λ row h.
+          let m = filter_has (lives moment) old.rows row (subst (λ (rows : List PeerRow). Has rows row) same h) in
+          subst (λ (rows : List PeerRow). Has rows row) (sym (ended_by_pruning moment life))
+          (has_filter (lives moment) (rows_of life) row (stands.kept row m.0) m.1);
+      all = λ row h.
+          let m = filter_has (lives moment) (rows_of life) row (subst (λ (rows : List PeerRow). Has rows row) (ended_by_pruning moment life) h) in
+          subst (λ (rows : List PeerRow). Has rows row) (sym same) (has_filter (lives moment) old.rows row (stands.all row m.0) m.1);
     }
 
 pub stands_sighting : (row : PeerRow) (old new : Table) (life : List Happening) → StandsFor old life
@@ -88,19 +88,21 @@ stands_sighting row old new life stands written =
     let others : PeerRow → Bool = λ other. not (is_row_of row.gate row.id other) in
     let more : rows_of (life ++ sighting row ∷ []) ≡ filter others (rows_of life) ++ row ∷ [] = rows_more life (sighting row) in
     record {
-        kept = λ other h.
-            subst (λ (rows : List PeerRow). Has rows other) (sym more)
-            (elim (written.from other h) as (λ _. Has (filter others (rows_of life) ++ row ∷ []) other)
-                [ inl e ↦ has_right (filter others (rows_of life)) (row ∷ []) other (inl (sym e))
-                | inr f ↦ has_left (filter others (rows_of life)) (row ∷ []) other
-                    (has_filter others (rows_of life) other (stands.kept other f.0) (not_from_false (is_row_of row.gate row.id other) f.1)) ]);
-        all = λ other h.
-            elim (has_parts (filter others (rows_of life)) (row ∷ []) other (subst (λ (rows : List PeerRow). Has rows other) more h))
-            as (λ _. Has new.rows other)
-            [ inl p ↦ let m = filter_has others (rows_of life) other p in
+      kept = λ other h.
+          subst (λ (rows : List PeerRow). Has rows other) (sym more)
+          (elim (written.from other h) as (λ _. Has (filter others (rows_of life) ++ row ∷ []) other) [
+            | inl e ↦ has_right (filter others (rows_of life)) (row ∷ []) other (inl (sym e))
+            | inr f ↦ has_left (filter others (rows_of life)) (row ∷ []) other
+                (has_filter others (rows_of life) other (stands.kept other f.0) (not_from_false (is_row_of row.gate row.id other) f.1))
+          ]);
+      all = λ other h.
+          elim (has_parts (filter others (rows_of life)) (row ∷ []) other (subst (λ (rows : List PeerRow). Has rows other) more h))
+          as (λ _. Has new.rows other) [
+            | inl p ↦ let m = filter_has others (rows_of life) other p in
                 written.stay other (stands.all other m.0) (not-true (is_row_of row.gate row.id other) m.1)
             | inr q ↦ elim q as (λ _. Has new.rows other)
-                [ inl e ↦ subst (λ (z : PeerRow). Has new.rows z) e written.here | inr none ↦ absurd none ] ];
+                [ inl e ↦ subst (λ (z : PeerRow). Has new.rows z) e written.here | inr none ↦ absurd none ]
+          ];
     }
 
 -- ---- a life has no two rows of one gate and id
@@ -130,7 +132,7 @@ keys_apart [] = tt
 keys_apart (sighting row ∷ later) =
     apart_step row (rows_of later) (list_all (outlives row) later)
     (λ e other h. not-true (is_row_of other.gate other.id row)
-        (has_from_all_of (outlives row) later (sighting other) e (is_sighted later other h)))
+    (has_from_all_of (outlives row) later (sighting other) e (is_sighted later other h)))
     (keys_apart later)
 keys_apart (goodbye gate id ∷ later) = keys_apart later
 keys_apart (pruning moment ∷ later) = keys_apart later
@@ -155,11 +157,11 @@ place_of_key (row ∷ rows) apart zero zero a b p q g i = refl
 place_of_key (row ∷ rows) apart zero (suc k) a b p q g i =
     let is : row ≡ a = cc in
     absurd (false≢true (sym (apart.0 b (got_has rows k b q)) ∙ test_from_key b.gate b.id row
-        (ap (λ (z : PeerRow). z.gate) is ∙ g) (ap (λ (z : PeerRow). z.id) is ∙ i)))
+    (ap (λ (z : PeerRow). z.gate) is ∙ g) (ap (λ (z : PeerRow). z.id) is ∙ i)))
 place_of_key (row ∷ rows) apart (suc j) zero a b p q g i =
     let is : row ≡ b = cc in
     absurd (false≢true (sym (apart.0 a (got_has rows j a p)) ∙ test_from_key a.gate a.id row
-        (ap (λ (z : PeerRow). z.gate) is ∙ sym g) (ap (λ (z : PeerRow). z.id) is ∙ sym i)))
+    (ap (λ (z : PeerRow). z.gate) is ∙ sym g) (ap (λ (z : PeerRow). z.id) is ∙ sym i)))
 place_of_key (row ∷ rows) apart (suc j) (suc k) a b p q g i = ap suc (place_of_key rows apart.1 j k a b p q g i)
 
 -- ---- what the rows of a life are, by the table's
@@ -181,6 +183,6 @@ pub stands_none : (table : Table) → table.rows ≡ [] → StandsFor table []
 unfolding rows_of
 stands_none table e =
     record {
-        kept = λ row h. subst (λ (rows : List PeerRow). Has rows row) e h;
-        all = λ row h. absurd h;
+      kept = λ row h. subst (λ (rows : List PeerRow). Has rows row) e h;
+      all = λ row h. absurd h;
     }

@@ -128,8 +128,8 @@ length_le [] ys d sub = omega arith
 length_le {A} (a ∷ xs) ys d sub =
     let s = split_at ys a (sub a (inl refl)) in
     let others : (x : A) → Has xs x → Has (s.0 ++ s.1) x =
-        λ x h. elim (has_middle s.0 s.1 a x (subst (λ (zs : List A). Has zs x) s.2 (sub x (inr h)))) as (λ _. Has (s.0 ++ s.1) x)
-        [ inl e ↦ absurd (d.0 (subst (λ (z : A). Has xs z) e h)) | inr q ↦ q ] in
+    λ x h. elim (has_middle s.0 s.1 a x (subst (λ (zs : List A). Has zs x) s.2 (sub x (inr h)))) as (λ _. Has (s.0 ++ s.1) x)
+    [ inl e ↦ absurd (d.0 (subst (λ (z : A). Has xs z) e h)) | inr q ↦ q ] in
     let less : length xs ≤ length (s.0 ++ s.1) = length_le xs (s.0 ++ s.1) d.1 others in
     let whole : length ys ≡ suc (length (s.0 ++ s.1)) = ap length s.2 ∙ length_middle s.0 s.1 a in
     omega arith

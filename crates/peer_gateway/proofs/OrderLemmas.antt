@@ -15,10 +15,11 @@ use Rattle.peer_gateway.proofs.MemberLemmas.{Distinct, has_left, has_right, has_
 
 pub rise_distinct : {A : Type 0} {order : A → A → Ordering} (o : IsTotalOrder order) (xs : List A) → Rise order xs → Distinct xs
 rise_distinct o [] up = tt
-rise_distinct {A} {order} o (x ∷ xs) up =
-    (λ h. let less : order x x ≡ Less = has_from_all (λ y. order x y ≡ Less) xs x up.0 h in
-        let same : order x x ≡ Equal = tied_itself o x in cc
-    , rise_distinct o xs up.1)
+rise_distinct {A} {order} o (x ∷ xs) up = (
+  λ h. let less : order x x ≡ Less = has_from_all (λ y. order x y ≡ Less) xs x up.0 h in
+      let same : order x x ≡ Equal = tied_itself o x in cc,
+  rise_distinct o xs up.1,
+)
 
 rise_step : {A : Type 0} (order : A → A → Ordering) (a : A) (ys : List A) (b : Bool)
     → ((y : A) → Has ys y → order a y ≡ Less) → Rise order ys → Rise order (cond b (a ∷ ys) ys)
@@ -33,9 +34,10 @@ rise_filter order p (a ∷ xs) up =
 
 pub rise_front : {A : Type 0} (order : A → A → Ordering) (xs ys : List A) → Rise order (xs ++ ys) → Rise order xs
 rise_front order [] ys up = tt
-rise_front order (a ∷ xs) ys up =
-    (all_from_has (λ y. order a y ≡ Less) xs (λ y h. has_from_all (λ y. order a y ≡ Less) (xs ++ ys) y up.0 (has_left xs ys y h))
-    , rise_front order xs ys up.1)
+rise_front order (a ∷ xs) ys up = (
+  all_from_has (λ y. order a y ≡ Less) xs (λ y h. has_from_all (λ y. order a y ≡ Less) (xs ++ ys) y up.0 (has_left xs ys y h)),
+  rise_front order xs ys up.1,
+)
 
 pub rise_back : {A : Type 0} (order : A → A → Ordering) (xs ys : List A) → Rise order (xs ++ ys) → Rise order ys
 rise_back order [] ys up = up
@@ -51,11 +53,12 @@ rise_across order (a ∷ xs) ys up x y (inr h) k = rise_across order xs ys up.1 
 pub rise_joined : {A : Type 0} (order : A → A → Ordering) (xs ys : List A) → Rise order xs → Rise order ys
     → ((x y : A) → Has xs x → Has ys y → order x y ≡ Less) → Rise order (xs ++ ys)
 rise_joined order [] ys up vp across = vp
-rise_joined {A} order (a ∷ xs) ys up vp across =
-    (all_from_has (λ y. order a y ≡ Less) (xs ++ ys)
-        (λ y h. elim (has_parts xs ys y h) as (λ _. order a y ≡ Less)
-            [ inl p ↦ has_from_all (λ y. order a y ≡ Less) xs y up.0 p | inr q ↦ across a y (inl refl) q ])
-    , rise_joined order xs ys up.1 vp (λ x y h k. across x y (inr h) k))
+rise_joined {A} order (a ∷ xs) ys up vp across = (
+  all_from_has (λ y. order a y ≡ Less) (xs ++ ys)
+      (λ y h. elim (has_parts xs ys y h) as (λ _. order a y ≡ Less)
+      [ inl p ↦ has_from_all (λ y. order a y ≡ Less) xs y up.0 p | inr q ↦ across a y (inl refl) q ]),
+  rise_joined order xs ys up.1 vp (λ x y h k. across x y (inr h) k),
+)
 
 -- a greater one seen from the other side
 pub turned : {A : Type 0} {order : A → A → Ordering} (o : IsTotalOrder order) (x y : A) → order x y ≡ Greater → order y x ≡ Less
@@ -77,7 +80,7 @@ rise_with {A} order xs ys y up below above =
     rise_joined order xs (y ∷ ys) (rise_front order xs ys up)
     (all_from_has (λ z. order y z ≡ Less) ys above, rise_back order xs ys up)
     (λ a b h k. elim k as (λ _. order a b ≡ Less)
-        [ inl e ↦ ap (λ z. order a z) (sym e) ∙ below a h | inr q ↦ rise_across order xs ys up a b h q ])
+    [ inl e ↦ ap (λ z. order a z) (sym e) ∙ below a h | inr q ↦ rise_across order xs ys up a b h q ])
 
 -- one put in the place of one that ranks the same
 pub rise_replaced : {A : Type 0} {order : A → A → Ordering} (o : IsTotalOrder order) (xs ys : List A) (x y : A)
@@ -106,7 +109,7 @@ searchable : {A : Type 0} {order : A → A → Ordering} (o : IsTotalOrder order
 searchable {A} {order} o xs x up =
     searchable_from_sorted o (λ (y : A). y) xs x
     (λ k d low l. subst (λ (n : ℕ). is_lt (order (get_or xs n d) (get_or xs k d)) ≡ false) (sym (add-one k))
-        (neighbours o xs up k d (omega arith)))
+    (neighbours o xs up k d (omega arith)))
 
 -- what a search finds
 pub place_found : {A : Type 0} {order : A → A → Ordering} (o : IsTotalOrder order) (xs : List A) (x : A) (r : Result ℕ ℕ) → Rise order xs
@@ -116,15 +119,15 @@ place_found o xs x (Ok i) up within found = record { within = within; equal = fo
 place_found {A} {order} o xs x (Err i) up within found =
     let parts = found (searchable o xs x up) in
     record {
-        within = within;
-        before = λ y h.
-            let m = has_index (take i xs) y h in
-            let low : m.0 < i = omega (arith, length-take i xs) in
-            ap (λ z. order z x) (sym (m.2 y) ∙ get_or-take i xs m.0 y low) ∙ parts.0 m.0 y (omega arith) low;
-        after = λ y h.
-            let m = has_index (drop i xs) y h in
-            let high : i + m.0 < length xs = omega (arith, length-drop i xs) in
-            ap (λ z. order z x) (sym (m.2 y) ∙ get_or-drop i xs m.0 y) ∙ parts.1 (i + m.0) y (omega arith) high;
+      within = within;
+      before = λ y h.
+          let m = has_index (take i xs) y h in
+          let low : m.0 < i = omega (arith, length-take i xs) in
+          ap (λ z. order z x) (sym (m.2 y) ∙ get_or-take i xs m.0 y low) ∙ parts.0 m.0 y (omega arith) low;
+      after = λ y h.
+          let m = has_index (drop i xs) y h in
+          let high : i + m.0 < length xs = omega (arith, length-drop i xs) in
+          ap (λ z. order z x) (sym (m.2 y) ∙ get_or-drop i xs m.0 y) ∙ parts.1 (i + m.0) y (omega arith) high;
     }
 
 -- ---- one more, and one less
@@ -134,9 +137,10 @@ pub absent : {A : Type 0} {order : A → A → Ordering} (o : IsTotalOrder order
     → BelongsAt (λ y. order y x) xs i → Has xs x → ⊥
 absent {A} {order} o xs x i place h =
     let same : order x x ≡ Equal = tied_itself o x in
-    elim (has_parts (take i xs) (drop i xs) x (subst (λ (zs : List A). Has zs x) (sym (take-append-drop i xs)) h)) as (λ _. ⊥)
-    [ inl p ↦ let less : order x x ≡ Less = place.before x p in cc
-    | inr q ↦ let more : order x x ≡ Greater = place.after x q in cc ]
+    elim (has_parts (take i xs) (drop i xs) x (subst (λ (zs : List A). Has zs x) (sym (take-append-drop i xs)) h)) as (λ _. ⊥) [
+      | inl p ↦ let less : order x x ≡ Less = place.before x p in cc
+      | inr q ↦ let more : order x x ≡ Greater = place.after x q in cc
+    ]
 
 pub rise_inserted : {A : Type 0} {order : A → A → Ordering} (o : IsTotalOrder order) (xs : List A) (x : A) (i : ℕ)
     → Rise order xs → BelongsAt (λ y. order y x) xs i → Rise order (take i xs ++ x ∷ drop i xs)
@@ -153,10 +157,10 @@ rise_removed {A} order xs i d l up =
 pub inserted : {A : Type 0} (xs : List A) (x : A) (i : ℕ) → IsWith x xs (take i xs ++ x ∷ drop i xs)
 inserted {A} xs x i =
     record {
-        here = middle_itself (take i xs) (drop i xs) x;
-        stay = λ y h. middle_has (take i xs) (drop i xs) x y (subst (λ (zs : List A). Has zs y) (sym (take-append-drop i xs)) h);
-        from = λ y h. elim (has_middle (take i xs) (drop i xs) x y h) as (λ _. (y ≡ x) ⊎ Has xs y)
-            [ inl e ↦ inl e | inr q ↦ inr (subst (λ (zs : List A). Has zs y) (take-append-drop i xs) q) ];
+      here = middle_itself (take i xs) (drop i xs) x;
+      stay = λ y h. middle_has (take i xs) (drop i xs) x y (subst (λ (zs : List A). Has zs y) (sym (take-append-drop i xs)) h);
+      from = λ y h. elim (has_middle (take i xs) (drop i xs) x y h) as (λ _. (y ≡ x) ⊎ Has xs y)
+          [ inl e ↦ inl e | inr q ↦ inr (subst (λ (zs : List A). Has zs y) (take-append-drop i xs) q) ];
     }
 
 pub had_already : {A : Type 0} (xs : List A) (x : A) → Has xs x → IsWith x xs xs
@@ -170,22 +174,24 @@ had_never {A} xs x none =
 pub apart_middle : {A : Type 0} {order : A → A → Ordering} (o : IsTotalOrder order) (xs ys : List A) (x y : A)
     → Rise order (xs ++ x ∷ ys) → Has (xs ++ ys) y → order y x ≡ Equal → ⊥
 apart_middle {A} {order} o xs ys x y up h e =
-    elim (has_parts xs ys y h) as (λ _. ⊥)
-    [ inl p ↦ let less : order y x ≡ Less = rise_across order xs (x ∷ ys) up y x p (inl refl) in cc
-    | inr q ↦ let more : order y x ≡ Greater =
-            turned_back o x y (has_from_all (λ z. order x z ≡ Less) ys y (rise_back order xs (x ∷ ys) up).0 q) in cc ]
+    elim (has_parts xs ys y h) as (λ _. ⊥) [
+      | inl p ↦ let less : order y x ≡ Less = rise_across order xs (x ∷ ys) up y x p (inl refl) in cc
+      | inr q ↦ let more : order y x ≡ Greater =
+          turned_back o x y (has_from_all (λ z. order x z ≡ Less) ys y (rise_back order xs (x ∷ ys) up).0 q) in cc
+    ]
 
 pub removed : {A : Type 0} {order : A → A → Ordering} (o : IsTotalOrder order) (xs : List A) (x : A) (i : ℕ)
     → i < length xs → get_or xs i x ≡ x → Rise order xs → IsWithout x xs (take i xs ++ drop (suc i) xs)
 removed {A} {order} o xs x i l here up =
     let split : xs ≡ take i xs ++ x ∷ drop (suc i) xs = subst (λ (z : A). xs ≡ take i xs ++ z ∷ drop (suc i) xs) here (split_here xs i x l) in
     record {
-        stay = λ y h other. elim (has_middle (take i xs) (drop (suc i) xs) x y (subst (λ (zs : List A). Has zs y) split h))
-            as (λ _. Has (take i xs ++ drop (suc i) xs) y) [ inl e ↦ absurd (other e) | inr q ↦ q ];
-        from = λ y h.
-            (subst (λ (zs : List A). Has zs y) (sym split) (middle_has (take i xs) (drop (suc i) xs) x y h)
-            , λ e. apart_middle o (take i xs) (drop (suc i) xs) x y (subst (λ (zs : List A). Rise order zs) split up) h
-                (ap (λ z. order z x) e ∙ tied_itself o x));
+      stay = λ y h other. elim (has_middle (take i xs) (drop (suc i) xs) x y (subst (λ (zs : List A). Has zs y) split h))
+          as (λ _. Has (take i xs ++ drop (suc i) xs) y) [ inl e ↦ absurd (other e) | inr q ↦ q ];
+      from = λ y h. (
+        subst (λ (zs : List A). Has zs y) (sym split) (middle_has (take i xs) (drop (suc i) xs) x y h),
+        λ e. apart_middle o (take i xs) (drop (suc i) xs) x y (subst (λ (zs : List A). Rise order zs) split up) h
+            (ap (λ z. order z x) e ∙ tied_itself o x),
+      );
     }
 
 -- what ranks the same is the same: so what is found is there

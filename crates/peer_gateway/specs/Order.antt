@@ -73,4 +73,4 @@ pub record IsWritten (row : PeerRow) (old new : List PeerRow) : Type 0 where
   pub here : Has new row
   pub stay : (other : PeerRow) → Has old other → is_row_of row.gate row.id other ≡ false → Has new other
   pub from : (other : PeerRow) → Has new other
-    → (other ≡ row) ⊎ (Has old other × (is_row_of row.gate row.id other ≡ false))
+      → (other ≡ row) ⊎ (Has old other × (is_row_of row.gate row.id other ≡ false))

@@ -111,7 +111,14 @@ impl Peers {
     {
         match rows::place_of(&self.rows, gate, &id) {
             Ok(at) => {
-                rows::end_row(&mut self.rows, &mut self.by_limit, self.gates, at, gate, &id);
+                rows::end_row(
+                    &mut self.rows,
+                    &mut self.by_limit,
+                    self.gates,
+                    at,
+                    gate,
+                    &id,
+                );
                 true
             }
             Err(_) => false,

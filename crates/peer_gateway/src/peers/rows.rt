@@ -53,7 +53,13 @@ pub fn rows_on(rows: &Vec<PeerRow>, gate: Gate) -> usize
 }
 
 // Writes the row at its place over that of its gate and id.
-pub fn renew(rows: &mut Vec<PeerRow>, by_limit: &mut Vec<Expiry>, gates: u8, at: usize, row: PeerRow)
+pub fn renew(
+    rows: &mut Vec<PeerRow>,
+    by_limit: &mut Vec<Expiry>,
+    gates: u8,
+    at: usize,
+    row: PeerRow,
+)
     requires table { IsTable gates rows.old.items by_limit.old.items }
     requires capacity { 128 * gates ≤ vec_capacity by_limit.old }
     requires place { IsAt (order_at row.gate row.id) rows.old.items at }
@@ -62,7 +68,8 @@ pub fn renew(rows: &mut Vec<PeerRow>, by_limit: &mut Vec<Expiry>, gates: u8, at:
     ensures capacity { vec_capacity rows.new ≡ vec_capacity rows.old }
     ensures limits { vec_capacity by_limit.new ≡ vec_capacity by_limit.old }
 {
-    end_entry(by_limit, &expiry(&rows[at]));
+    let old = expiry(&rows[at]);
+    end_entry(by_limit, &old);
     add_entry(by_limit, expiry(&row));
     rows[at] = row;
 }
@@ -85,7 +92,14 @@ pub fn add(rows: &mut Vec<PeerRow>, by_limit: &mut Vec<Expiry>, gates: u8, at: u
 }
 
 // Takes the row of a gate and an id out of its place.
-pub fn end_row(rows: &mut Vec<PeerRow>, by_limit: &mut Vec<Expiry>, gates: u8, at: usize, gate: Gate, id: &NodeId)
+pub fn end_row(
+    rows: &mut Vec<PeerRow>,
+    by_limit: &mut Vec<Expiry>,
+    gates: u8,
+    at: usize,
+    gate: Gate,
+    id: &NodeId,
+)
     requires table { IsTable gates rows.old.items by_limit.old.items }
     requires place { IsAt (order_at gate id.now) rows.old.items at }
     ensures table { IsTable gates rows.new.items by_limit.new.items }

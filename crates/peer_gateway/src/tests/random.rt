@@ -29,7 +29,16 @@ fn drawn(state: &mut u64) -> u32 {
 // One of 160 ids, whose order isn't that of their numbers.
 fn id(n: u32) -> NodeId {
     let n = n % 160;
-    NodeId([33 + (n % 7) as u8, 33 + (n * 37 % 64) as u8, 33 + n as u8, 48, 49, 50, 51, 52])
+    NodeId([
+        33 + (n % 7) as u8,
+        33 + (n * 37 % 64) as u8,
+        33 + n as u8,
+        48,
+        49,
+        50,
+        51,
+        52,
+    ])
 }
 
 // The endpoint at a port. 0 stands for none.
@@ -61,7 +70,10 @@ fn plain_saw(model: &mut Vec<Plain>, row: Plain) -> Result<Seen, AllocError> {
         return Ok(Seen::TableFull);
     }
     model.retain(|other| !is_of(other, row.gate, row.id));
-    let at = model.iter().take_while(|other| is_earlier(other, &row)).count();
+    let at = model
+        .iter()
+        .take_while(|other| is_earlier(other, &row))
+        .count();
     model.insert(at, row)?;
     Ok(if known { Seen::Known } else { Seen::New })
 }
@@ -114,16 +126,18 @@ fn plain_target(model: &[Plain], session: u32) -> Option<Target> {
 // Whether there is just the entry of each row, in the same order.
 fn are_limits_of(by_limit: &[Expiry], model: &[Plain]) -> bool {
     by_limit.len() == model.len()
-        && by_limit
-            .iter()
-            .zip(model)
-            .all(|(e, row)| e.limit == row.limit && e.gate.0 == row.gate && e.id == id(row.id))
+        && by_limit.iter().zip(model).all(|(e, row)| e.limit == row.limit
+            && e.gate.0 == row.gate
+            && e.id == id(row.id))
 }
 
 // Compares each answer about a session.
 fn compare(rt: &impl Abort, peers: &Peers, model: &[Plain], session: u32) {
     assert_eq!(rt; peers.count(id(session)), plain_count(model, session));
-    assert_eq!(rt; peers.has(id(session)), model.iter().any(|row| row.session == session));
+    assert_eq!(rt;
+        peers.has(id(session)),
+        model.iter().any(|row| row.session == session)
+    );
     assert_eq!(rt; peers.target(id(session)), plain_target(model, session));
     assert_eq!(rt; peers.least_limit(), model.first().map(|row| row.limit));
     assert!(rt; are_limits_of(peers.by_limit(), model));

@@ -21,4 +21,4 @@ pub returns-in-Err-clause-stands : goal.returns-in-Err-clause-stands
 returns-in-Err-clause-stands c life stands =
     subst (λ (t : Table). StandsFor t (said_goodbye c.args.gate c.args.id life)) c.self.view_is
     (stands_goodbye c.args.gate c.args.id _ _ life (subst (λ (t : Table). StandsFor t life) (sym c.self.view_is) stands)
-        (none_left c.args.gate c.args.id _ _ c.in-Err.ensures))
+    (none_left c.args.gate c.args.id _ _ c.in-Err.ensures))

@@ -20,7 +20,7 @@ pub returns-clause-answer : goal.returns-clause-answer
 returns-clause-answer c life stands =
     let back : to_z w64 (of_z w64 c.args.now) ≡ c.args.now = to_z-of_z w64 c.args.now c.ranges.now in
     let ended : c.end_rows.result ≡ length (filter (λ row. not (lives c.args.now row)) c.self.inside.rows.items) =
-        subst (λ (m : ℤ). c.end_rows.result ≡ length (filter (λ row. not (lives m row)) c.self.inside.rows.items)) back c.end_rows.ensures.ended in
+    subst (λ (m : ℤ). c.end_rows.result ≡ length (filter (λ row. not (lives m row)) c.self.inside.rows.items)) back c.end_rows.ensures.ended in
     ended
     ∙ how_many_ended c.args.now _ life c.self.invariant.0.in_order (subst (λ (t : Table). StandsFor t life) (sym c.self.view_is) stands)
 

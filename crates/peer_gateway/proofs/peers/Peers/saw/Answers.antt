@@ -20,8 +20,8 @@ returns-in-Ok-clause-stands c life stands =
     let before = subst (λ (t : Table). StandsFor t life) (sym c.self.view_is) stands in
     let row = row_seen c.args.gate c.args.id c.args.ttl c.args.session c.args.endpoint c.args.now in
     let is : c.sighted-row.result ≡ row =
-        c.sighted-row.ensures
-        ∙ ap (λ (m : ℤ). row_seen c.args.gate c.args.id c.args.ttl c.args.session c.args.endpoint m) (to_z-of_z w64 c.args.now c.ranges.now) in
+    c.sighted-row.ensures
+    ∙ ap (λ (m : ℤ). row_seen c.args.gate c.args.id c.args.ttl c.args.session c.args.endpoint m) (to_z-of_z w64 c.args.now c.ranges.now) in
     stands_seen _ Known row _ life (known c.args.gate c.args.id _ life c.in-Ok.at before c.in-Ok.ensures)
     (stands_sighting row _ _ life before (subst (λ (r : PeerRow). IsWritten r c.self.inside.rows.items c.renew.new.rows.items) is c.renew.ensures.written))
 
@@ -29,15 +29,15 @@ pub returns-then-rows_on-lt-ROWS-clause-answer : goal.returns-then-rows_on-lt-RO
 returns-then-rows_on-lt-ROWS-clause-answer c life stands =
     let few : length (filter (is_on c.args.gate) c.self.inside.rows.items) < 128 = omega (arith, c.rows_on.ensures) in
     sym (new c.args.gate c.args.id _ life c.in-Err.at c.self.invariant.0.in_order
-        (subst (λ (t : Table). StandsFor t life) (sym c.self.view_is) stands) c.in-Err.ensures few)
+    (subst (λ (t : Table). StandsFor t life) (sym c.self.view_is) stands) c.in-Err.ensures few)
 
 pub returns-then-rows_on-lt-ROWS-clause-stands : goal.returns-then-rows_on-lt-ROWS-clause-stands
 returns-then-rows_on-lt-ROWS-clause-stands c life stands =
     let before = subst (λ (t : Table). StandsFor t life) (sym c.self.view_is) stands in
     let row = row_seen c.args.gate c.args.id c.args.ttl c.args.session c.args.endpoint c.args.now in
     let is : c.sighted-row.result ≡ row =
-        c.sighted-row.ensures
-        ∙ ap (λ (m : ℤ). row_seen c.args.gate c.args.id c.args.ttl c.args.session c.args.endpoint m) (to_z-of_z w64 c.args.now c.ranges.now) in
+    c.sighted-row.ensures
+    ∙ ap (λ (m : ℤ). row_seen c.args.gate c.args.id c.args.ttl c.args.session c.args.endpoint m) (to_z-of_z w64 c.args.now c.ranges.now) in
     let few : length (filter (is_on c.args.gate) c.self.inside.rows.items) < 128 = omega (arith, c.rows_on.ensures) in
     stands_seen _ New row _ life (new c.args.gate c.args.id _ life c.in-Err.at c.self.invariant.0.in_order before c.in-Err.ensures few)
     (stands_sighting row _ _ life before (subst (λ (r : PeerRow). IsWritten r c.self.inside.rows.items c.add.new.rows.items) is c.add.ensures.written))
@@ -46,7 +46,7 @@ pub returns-else-rows_on-lt-ROWS-clause-answer : goal.returns-else-rows_on-lt-RO
 returns-else-rows_on-lt-ROWS-clause-answer c life stands =
     let most : 128 ≤ length (filter (is_on c.args.gate) c.self.inside.rows.items) = omega (arith, c.rows_on.ensures) in
     sym (full c.args.gate c.args.id _ life c.in-Err.at c.self.invariant.0.in_order
-        (subst (λ (t : Table). StandsFor t life) (sym c.self.view_is) stands) c.in-Err.ensures most)
+    (subst (λ (t : Table). StandsFor t life) (sym c.self.view_is) stands) c.in-Err.ensures most)
 
 pub returns-else-rows_on-lt-ROWS-clause-stands : goal.returns-else-rows_on-lt-ROWS-clause-stands
 returns-else-rows_on-lt-ROWS-clause-stands c life stands =

@@ -23,10 +23,10 @@ returns-in-Some-first_answering c life stands =
     let rows = c.self.inside.rows.items in
     let none : find (is_founding c.args.session) rows ≡ None = sym c.first_of_founder.ensures ∙ ap pointed c.in-None.is in
     let e : find (is_answering c.args.session) rows ≡ Some c.in-Some-first_answering.row.now =
-        sym c.first_answering.ensures ∙ ap pointed c.in-Some-first_answering.is in
+    sym c.first_answering.ensures ∙ ap pointed c.in-Some-first_answering.is in
     c.pinged-in-Some-first_answering.ensures
     ∙ target_other c.args.session _ life c.in-Some-first_answering.row.now c.self.invariant.0.in_order
-        (subst (λ (t : Table). StandsFor t life) (sym c.self.view_is) stands) none e
+    (subst (λ (t : Table). StandsFor t life) (sym c.self.view_is) stands) none e
 
 pub returns-in-None-first_answering : goal.returns-in-None-first_answering
 returns-in-None-first_answering c life stands =

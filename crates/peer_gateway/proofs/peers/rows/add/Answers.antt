@@ -22,12 +22,12 @@ returns c =
     let fits : IsOk c.insert-inserted.result = c.insert-inserted.ensures.succeeds space in
     let made : c.insert-inserted.new.self.items ≡ take c.args.at rows ++ c.args.row ∷ drop c.args.at rows = search rules in
     let with' : IsWith (expiry_of c.args.row) limits more =
-        subst (λ (e : Expiry). IsWith e limits more) c.expiry.ensures c.add_entry.ensures.added in
+    subst (λ (e : Expiry). IsWith e limits more) c.expiry.ensures c.add_entry.ensures.added in
     let both = row_added c.args.row c.args.at more c.requires.table c.requires.place c.requires.gate c.requires.room
-        with' c.add_entry.ensures.in_order in
+    with' c.add_entry.ensures.in_order in
     record {
-        table = subst (λ (zs : List PeerRow). IsTable c.args.gates zs more) (sym made) both.0;
-        written = subst (λ (zs : List PeerRow). IsWritten c.args.row rows zs) (sym made) both.1;
-        capacity = (c.insert-inserted.ensures.in_place space).1.0;
-        limits = c.add_entry.ensures.capacity;
+      table = subst (λ (zs : List PeerRow). IsTable c.args.gates zs more) (sym made) both.0;
+      written = subst (λ (zs : List PeerRow). IsWritten c.args.row rows zs) (sym made) both.1;
+      capacity = (c.insert-inserted.ensures.in_place space).1.0;
+      limits = c.add_entry.ensures.capacity;
     }

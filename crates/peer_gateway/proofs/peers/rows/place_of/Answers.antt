@@ -9,6 +9,6 @@ pub returns : goal.returns
 returns c =
     rw c.deref.ensures.value at
     (place_found row_total c.deref.result.now (row_at c.args.gate c.args.id.now) c.binary_search_by.result (rw c.deref.ensures.value c.requires)
-        c.binary_search_by.ensures.bound
-        (c.binary_search_by.ensures.position (order_at c.args.gate c.args.id.now)
-            (always_returns_same _ _ _ (λ a r f' k. search rules))))
+    c.binary_search_by.ensures.bound
+    (c.binary_search_by.ensures.position (order_at c.args.gate c.args.id.now)
+    (always_returns_same _ _ _ (λ a r f' k. search rules))))

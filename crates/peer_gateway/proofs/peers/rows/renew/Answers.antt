@@ -10,9 +10,9 @@ add_entry-requires-clause-room c =
     let limits = c.args.by_limit.now.items in
     let less = c.end_entry.new.by_limit.items in
     let without : IsWithout (expiry_of c.index.result.now) limits less =
-        subst (λ (e : Expiry). IsWithout e limits less) c.expiry.ensures c.end_entry.ensures.ended in
+    subst (λ (e : Expiry). IsWithout e limits less) c.expiry-old.ensures c.end_entry.ensures.ended in
     let few : length less < 128 * c.args.gates =
-        shorter c.args.at c.index.result.now less c.requires.table c.requires.place.within c.index.ensures without c.end_entry.ensures.in_order in
+    shorter c.args.at c.index.result.now less c.requires.table c.requires.place.within c.index.ensures without c.end_entry.ensures.in_order in
     omega (arith, c.end_entry.new.by_limit.ok.0, c.end_entry.ensures.capacity)
 
 pub returns-clause-table : goal.returns-clause-table
@@ -21,11 +21,11 @@ returns-clause-table c =
     let less = c.end_entry.new.by_limit.items in
     let more = c.add_entry.new.by_limit.items in
     let without : IsWithout (expiry_of c.index.result.now) limits less =
-        subst (λ (e : Expiry). IsWithout e limits less) c.expiry.ensures c.end_entry.ensures.ended in
+    subst (λ (e : Expiry). IsWithout e limits less) c.expiry-old.ensures c.end_entry.ensures.ended in
     let with' : IsWith (expiry_of c.args.row) less more =
-        subst (λ (e : Expiry). IsWith e less more) c.expiry-2.ensures c.add_entry.ensures.added in
+    subst (λ (e : Expiry). IsWith e less more) c.expiry.ensures c.add_entry.ensures.added in
     (row_renewed c.args.row c.args.at c.index.result.now less more c.requires.table c.requires.place c.index.ensures
-        without with' c.add_entry.ensures.in_order).0
+    without with' c.add_entry.ensures.in_order).0
 
 pub returns-clause-written : goal.returns-clause-written
 returns-clause-written c =
@@ -33,8 +33,8 @@ returns-clause-written c =
     let less = c.end_entry.new.by_limit.items in
     let more = c.add_entry.new.by_limit.items in
     let without : IsWithout (expiry_of c.index.result.now) limits less =
-        subst (λ (e : Expiry). IsWithout e limits less) c.expiry.ensures c.end_entry.ensures.ended in
+    subst (λ (e : Expiry). IsWithout e limits less) c.expiry-old.ensures c.end_entry.ensures.ended in
     let with' : IsWith (expiry_of c.args.row) less more =
-        subst (λ (e : Expiry). IsWith e less more) c.expiry-2.ensures c.add_entry.ensures.added in
+    subst (λ (e : Expiry). IsWith e less more) c.expiry.ensures c.add_entry.ensures.added in
     (row_renewed c.args.row c.args.at c.index.result.now less more c.requires.table c.requires.place c.index.ensures
-        without with' c.add_entry.ensures.in_order).1
+    without with' c.add_entry.ensures.in_order).1
