@@ -1,5 +1,5 @@
 -- Pieces that are appended one after the other, some of them several words.
-use Rattle.std.proofs.Common.{◌≡◌, ◌++◌, ◌∷◌, [], List, ℕ, ap, sym, ◌∙◌, append_assoc}
+use Rattle.std.proofs.Common.{◌≡◌, ◌++◌, ◌∷◌, [], List, ℕ, ap, ◌∙◌, append_assoc}
 
 -- three words, and what follows them
 three_and : (a b c rest : List ℕ) → (a ++ 32 ∷ (b ++ 32 ∷ c)) ++ rest ≡ a ++ 32 ∷ (b ++ 32 ∷ (c ++ rest))

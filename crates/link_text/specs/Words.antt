@@ -1,6 +1,6 @@
 -- How the words of a line are spelled: truth values, endpoints. (Numbers are std's `decimal` and
 -- `signed_decimal`, hex is `decode_of` of the crate `hex`.)
-use Rattle.std.specs.Prelude.{ℕ, ◌/◌, ◌%◌, ◌^◌, ◌<◌, Bool, true, false, List, [], ◌∷◌, ◌++◌}
+use Rattle.std.specs.Prelude.{ℕ, ◌/◌, ◌%◌, ◌^◌, Bool, true, false, List, [], ◌∷◌, ◌++◌}
 use Rattle.std.specs.Fmt.{decimal}
 use Rattle.lk_base.specs.declared.endpoint.Endpoint.{Endpoint}
 

@@ -1,0 +1,10 @@
+pub mod MemberLemmas
+pub mod OrderLemmas
+pub mod KeyLemmas
+pub mod LimitLemmas
+pub mod TableLemmas
+pub mod LifeLemmas
+pub mod AnswerLemmas
+pub mod PickLemmas
+pub mod CountLemmas
+pub mod LawLemmas

@@ -1,0 +1,56 @@
+use Rattle.std.proofs.Common.{◌≡◌, ◌≤◌, ◌<◌, ◌∙◌, ℤ, sym, subst, ap, length, filter, arith, w64}
+use mir.Val.{to_z, of_z}
+use Rattle.std.proofs.lemmas.Int.{to_z-of_z}
+use Rattle.peer_gateway.specs.Answers.{is_on, seen_of}
+use Rattle.peer_gateway.specs.Happenings.{StandsFor, life_after, row_seen}
+use Rattle.peer_gateway.specs.Order.{IsWritten}
+use Rattle.peer_gateway.specs.Table.{Table}
+use Rattle.peer_gateway.specs.declared.row.PeerRow.{PeerRow}
+use Rattle.peer_gateway.specs.declared.row.Seen.TheVariants.{New, Known, TableFull}
+use Rattle.peer_gateway.proofs.AnswerLemmas.{known, new, full, stands_seen}
+use Rattle.peer_gateway.proofs.LifeLemmas.{stands_sighting}
+use Rattle.peer_gateway.proofs.peers.Peers.saw.Goals as goal
+
+pub returns-in-Ok-clause-answer : goal.returns-in-Ok-clause-answer
+returns-in-Ok-clause-answer c life stands =
+    sym (known c.args.gate c.args.id _ life c.in-Ok.at (subst (λ (t : Table). StandsFor t life) (sym c.self.view_is) stands) c.in-Ok.ensures)
+
+pub returns-in-Ok-clause-stands : goal.returns-in-Ok-clause-stands
+returns-in-Ok-clause-stands c life stands =
+    let before = subst (λ (t : Table). StandsFor t life) (sym c.self.view_is) stands in
+    let row = row_seen c.args.gate c.args.id c.args.ttl c.args.session c.args.endpoint c.args.now in
+    let is : c.sighted-row.result ≡ row =
+    c.sighted-row.ensures
+    ∙ ap (λ (m : ℤ). row_seen c.args.gate c.args.id c.args.ttl c.args.session c.args.endpoint m) (to_z-of_z w64 c.args.now c.ranges.now) in
+    stands_seen _ Known row _ life (known c.args.gate c.args.id _ life c.in-Ok.at before c.in-Ok.ensures)
+    (stands_sighting row _ _ life before (subst (λ (r : PeerRow). IsWritten r c.self.inside.rows.items c.renew.new.rows.items) is c.renew.ensures.written))
+
+pub returns-then-rows_on-lt-ROWS-clause-answer : goal.returns-then-rows_on-lt-ROWS-clause-answer
+returns-then-rows_on-lt-ROWS-clause-answer c life stands =
+    let few : length (filter (is_on c.args.gate) c.self.inside.rows.items) < 128 = omega (arith, c.rows_on.ensures) in
+    sym (new c.args.gate c.args.id _ life c.in-Err.at c.self.invariant.0.in_order
+    (subst (λ (t : Table). StandsFor t life) (sym c.self.view_is) stands) c.in-Err.ensures few)
+
+pub returns-then-rows_on-lt-ROWS-clause-stands : goal.returns-then-rows_on-lt-ROWS-clause-stands
+returns-then-rows_on-lt-ROWS-clause-stands c life stands =
+    let before = subst (λ (t : Table). StandsFor t life) (sym c.self.view_is) stands in
+    let row = row_seen c.args.gate c.args.id c.args.ttl c.args.session c.args.endpoint c.args.now in
+    let is : c.sighted-row.result ≡ row =
+    c.sighted-row.ensures
+    ∙ ap (λ (m : ℤ). row_seen c.args.gate c.args.id c.args.ttl c.args.session c.args.endpoint m) (to_z-of_z w64 c.args.now c.ranges.now) in
+    let few : length (filter (is_on c.args.gate) c.self.inside.rows.items) < 128 = omega (arith, c.rows_on.ensures) in
+    stands_seen _ New row _ life (new c.args.gate c.args.id _ life c.in-Err.at c.self.invariant.0.in_order before c.in-Err.ensures few)
+    (stands_sighting row _ _ life before (subst (λ (r : PeerRow). IsWritten r c.self.inside.rows.items c.add.new.rows.items) is c.add.ensures.written))
+
+pub returns-else-rows_on-lt-ROWS-clause-answer : goal.returns-else-rows_on-lt-ROWS-clause-answer
+returns-else-rows_on-lt-ROWS-clause-answer c life stands =
+    let most : 128 ≤ length (filter (is_on c.args.gate) c.self.inside.rows.items) = omega (arith, c.rows_on.ensures) in
+    sym (full c.args.gate c.args.id _ life c.in-Err.at c.self.invariant.0.in_order
+    (subst (λ (t : Table). StandsFor t life) (sym c.self.view_is) stands) c.in-Err.ensures most)
+
+pub returns-else-rows_on-lt-ROWS-clause-stands : goal.returns-else-rows_on-lt-ROWS-clause-stands
+returns-else-rows_on-lt-ROWS-clause-stands c life stands =
+    let before = subst (λ (t : Table). StandsFor t life) (sym c.self.view_is) stands in
+    let row = row_seen c.args.gate c.args.id c.args.ttl c.args.session c.args.endpoint c.args.now in
+    let most : 128 ≤ length (filter (is_on c.args.gate) c.self.inside.rows.items) = omega (arith, c.rows_on.ensures) in
+    stands_seen _ TableFull row _ life (full c.args.gate c.args.id _ life c.in-Err.at c.self.invariant.0.in_order before c.in-Err.ensures most) stands

@@ -1,0 +1,16 @@
+//! The peers that a node has seen on its gates, each with its session and where it answers pings, and when it ends.
+//!
+//! In reading order: `row`, `peers`, and of it `answers`; `expiry`, `laws`.
+#![tactic(auto)]
+
+mod expiry;
+mod laws;
+mod peers;
+mod row;
+#[cfg(test)]
+mod tests;
+
+pub use expiry::Expiry;
+pub use laws::{no_row_twice, rows_are_what_nothing_ended};
+pub use peers::Peers;
+pub use row::Seen;
