@@ -1,6 +1,6 @@
 #!/usr/bin/env bash
 # What the edits, conversions and rows of client_state cost: bench/client.sh [RUNS]. In a temporary folder it proves and builds a program that
-# calls each of them in 100 rounds of 100,000 calls, and runs it RUNS times (three where not given). State, timelines and times are others at
+# calls each of them in 1,000 rounds of 10,000 calls, and runs it RUNS times (three where not given). State, timelines and times are others at
 # each call. They lie within 2^39 microseconds or microbeats of 0 (six days), and the quantum is a bar of 1 to 8 beats. The results are folded
 # into a number that is the same in each run.
 # It prints in nanoseconds a call: `round`, the least that a round took; `loop`, the same of a loop that only makes and folds the numbers
@@ -29,9 +29,9 @@ use lk_base::{ClientStart, Timeline};
 use std::io;
 use std::time::Instant;
 
-const ROUNDS: u64 = 100;
+const ROUNDS: u64 = 1000;
 
-const CALLS: u64 = 100_000;
+const CALLS: u64 = 10_000;
 
 /// What is called in a loop.
 #[derive(Clone, Copy)]
@@ -278,7 +278,7 @@ python3 - "$folder/crates/bench_client/out/bench_client" "${1:-3}" <<'PY'
 import os, subprocess, sys
 
 program, runs = sys.argv[1], int(sys.argv[2])
-ROUNDS = 100
+ROUNDS = 1000
 ROWS = [  # the call, the loop without it, and the aim in nanoseconds
     ("client_from_session", "two_timelines", 38),
     ("session_from_client", "two_timelines", 38),
