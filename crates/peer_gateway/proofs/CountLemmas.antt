@@ -1,14 +1,12 @@
 -- The ids that a pass counts are those of the session's rows, each once.
-use Rattle.std.proofs.Common.{◌≡◌, ◌⊎◌, ◌+◌, ◌<◌, ◌≤◌, ℕ, Bool, true, false, not, cond, ◌&&◌, List, [], ◌∷◌, ◌++◌, Option, Some, None, length, filter, map, refl, sym, ap, ◌∙◌, subst, inl, inr, arith}
-use Rattle.std.specs.Cmp.{IsTotalOrder, IsEquivalence}
-use Rattle.std.specs.Cmp.Lexicographic.{slice_cmp, pointwise, texts_ties, on_texts, on_texts_equal}
-use Rattle.std.specs.List.{list_any, IsDistinct}
-use Rattle.std.specs.Ordering.{is_eq, nat_cmp, ordering_then}
-use Rattle.std.specs.Set.{distinct_count, is_member}
+use Rattle.std.proofs.Common.{◌≡◌, ◌⊎◌, ◌≤◌, Bool, true, false, not, cond, ◌&&◌, List, [], ◌∷◌, Option, Some, None, length, filter, map, refl, sym, ap, ◌∙◌, subst, inl, inr, arith}
+use Rattle.std.specs.Cmp.{IsTotalOrder}
+use Rattle.std.specs.Cmp.Lexicographic.{slice_cmp, texts_ties, on_texts, on_texts_equal}
+use Rattle.std.specs.List.{IsDistinct}
+use Rattle.std.specs.Ordering.{is_eq, nat_cmp}
 use Rattle.std.specs.declared.cmp.Ordering.{Ordering}
 use Rattle.std.specs.declared.cmp.Ordering.TheVariants.{Less, Equal, Greater}
-use Rattle.std.proofs.lemmas.Bool.{false≢true, cases_Bool, and_parts, and_from, not-true, not_from_false, cases_cond}
-use Rattle.std.proofs.lemmas.Cmp.{tied_itself}
+use Rattle.std.proofs.lemmas.Bool.{false≢true, cases_Bool, and_parts, not-true}
 use Rattle.std.proofs.lemmas.Map.Made.{length-from_keys}
 use Rattle.lk_base.specs.IdOrder.{same_id}
 use Rattle.lk_base.specs.declared.ids.NodeId.{NodeId}
@@ -18,9 +16,9 @@ use Rattle.peer_gateway.specs.Order.{row_order, Rise}
 use Rattle.peer_gateway.specs.Picks.{is_last, is_counted, ids_counted}
 use Rattle.peer_gateway.specs.Table.{Table}
 use Rattle.peer_gateway.specs.declared.row.PeerRow.{PeerRow}
-use Rattle.peer_gateway.proofs.KeyLemmas.{id_from_test, test_from_id, same_node}
+use Rattle.peer_gateway.proofs.KeyLemmas.{id_from_test}
 use Rattle.peer_gateway.proofs.LimitLemmas.{first_less}
-use Rattle.peer_gateway.proofs.MemberLemmas.{all_from_has, has_from_all, has_filter, filter_has, has_map, map_has, has_cond, any_same}
+use Rattle.peer_gateway.proofs.MemberLemmas.{all_from_has, has_from_all, has_filter, filter_has, has_map, map_has, any_same}
 
 abbrev id_order : NodeId → NodeId → Ordering
 id_order a b = slice_cmp nat_cmp a.0 b.0

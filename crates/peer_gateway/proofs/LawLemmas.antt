@@ -1,7 +1,7 @@
 -- The rows of a life are its sightings that nothing later ends.
-use Rattle.std.proofs.Common.{◌≡◌, ◌⊎◌, ◌↔◌, ◌+◌, ◌<ℤ◌, ◌≤ℤ◌, ℕ, ℤ, zero, suc, Bool, true, false, not, cond, int_lt, List, [], ◌∷◌, Some, length, drop, slice_get, get_or, refl, sym, ap, ◌∙◌, subst, inl, inr, arith, All, add-one}
-use Rattle.std.specs.List.{list_all, AllByRecursion}
-use Rattle.std.proofs.lemmas.Bool.{false≢true, true_from_ne_false, and_from, not-true, not_from_false, false_from_ne_true, cases_Bool}
+use Rattle.std.proofs.Common.{◌≡◌, ◌+◌, ◌≤ℤ◌, ℕ, ℤ, zero, suc, Bool, true, false, not, cond, int_lt, List, [], ◌∷◌, Some, drop, slice_get, refl, sym, ◌∙◌, subst, inl, inr, arith, All, add-one}
+use Rattle.std.specs.List.{list_all}
+use Rattle.std.proofs.lemmas.Bool.{false≢true, and_from, not-true, not_from_false, false_from_ne_true}
 use Rattle.std.proofs.lemmas.Int.{ints}
 use Rattle.std.proofs.lemmas.List.Elements.{All-from_recursion, recursion_from_All}
 use Rattle.lk_base.specs.declared.endpoint.Gate.{Gate}

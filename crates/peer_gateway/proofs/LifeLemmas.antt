@@ -1,5 +1,5 @@
 -- Which rows a life leaves.
-use Rattle.std.proofs.Common.{◌≡◌, ◌⊎◌, ◌+◌, ◌<◌, ◌≤◌, ℕ, ℤ, zero, suc, Bool, true, false, not, cond, ◌&&◌, List, [], ◌∷◌, ◌++◌, Some, length, filter, slice_get, refl, sym, ap, ◌∙◌, subst, inl, inr, arith}
+use Rattle.std.proofs.Common.{◌≡◌, ℕ, ℤ, zero, suc, Bool, true, false, not, cond, ◌&&◌, List, [], ◌∷◌, ◌++◌, Some, length, filter, slice_get, refl, sym, ap, ◌∙◌, subst, inl, inr}
 use Rattle.std.specs.List.{list_all, list_any}
 use Rattle.std.proofs.lemmas.Bool.{not-true, not_from_false, false≢true, false_from_ne_true}
 use Rattle.std.proofs.lemmas.List.{append-nil}

@@ -1,34 +1,32 @@
 -- What one pass over the rows in their order picks and counts, and what stands first in the list by limit.
-use Rattle.std.proofs.Common.{◌≡◌, ◌⊎◌, ◌+◌, ◌*◌, ◌<◌, ◌≤◌, ◌<ℤ◌, ◌≤ℤ◌, ℕ, ℤ, zero, suc, Bool, true, false, not, cond, ltb, ◌||◌, ◌&&◌, List, [], ◌∷◌, ◌++◌, Option, Some, None, is_some, length, filter, map, slice_get, refl, sym, ap, ◌∙◌, subst, inl, inr, arith}
-use Rattle.std.specs.Prelude.{option_map, option_and_then, nat_lt, IsTrue, if◌then◌else◌}
-use Rattle.std.specs.Cmp.{IsTotalOrder, IsEquivalence, int_ranks}
-use Rattle.std.specs.Cmp.Lexicographic.{slice_cmp, pointwise, texts_ties, on_texts, nat_list_cmp_total, on_texts_equal}
+use Rattle.std.proofs.Common.{◌≡◌, ◌⊎◌, ◌<◌, ◌<ℤ◌, ◌≤ℤ◌, ℕ, ℤ, Bool, true, false, cond, ◌||◌, ◌&&◌, List, [], ◌∷◌, Option, Some, None, length, map, slice_get, refl, sym, ap, ◌∙◌, subst, inl, inr, arith}
+use Rattle.std.specs.Prelude.{option_map, nat_lt, IsTrue, if◌then◌else◌}
+use Rattle.std.specs.Cmp.{int_ranks}
+use Rattle.std.specs.Cmp.Lexicographic.{slice_cmp, texts_ties}
 use Rattle.std.specs.Int.{int_min}
-use Rattle.std.specs.List.{find, list_any, IsDistinct}
+use Rattle.std.specs.List.{find}
 use Rattle.std.specs.Option.{option_map_or}
 use Rattle.std.specs.Ordering.{is_lt, is_eq, nat_cmp, int_cmp, ordering_then, MatchOrdering}
-use Rattle.std.specs.Set.{distinct_count, is_member}
 use Rattle.std.specs.declared.cmp.Ordering.{Ordering}
 use Rattle.std.specs.declared.cmp.Ordering.TheVariants.{Less, Equal, Greater}
-use Rattle.std.proofs.lemmas.Bool.{false≢true, cases_Bool, cases_cond, and_parts, and_from, or_left, or_right, false_from_ne_true, not-true}
+use Rattle.std.proofs.lemmas.Bool.{false≢true, cases_Bool, cases_cond, and_parts, and_from}
 use Rattle.std.proofs.lemmas.Bool.Decides.{nat_tests}
-use Rattle.std.proofs.lemmas.Cmp.{ranked, tied_itself}
+use Rattle.std.proofs.lemmas.Cmp.{ranked}
 use Rattle.std.proofs.lemmas.Int.{ints, clamps}
-use Rattle.std.proofs.lemmas.Map.Made.{length-from_keys}
 use Rattle.lk_base.specs.IdOrder.{same_id, id_lt}
 use Rattle.lk_base.specs.declared.ids.NodeId.{NodeId}
-use Rattle.peer_gateway.specs.Answers.{least_in, least_limit_of, is_in, peers_in, comes_before, first_of, answering_in, founder_in, target_at, target_of}
+use Rattle.peer_gateway.specs.Answers.{least_in, least_limit_of, comes_before, first_of, answering_in, founder_in, target_at, target_of}
 use Rattle.peer_gateway.specs.Expiry.{expiry_of, IsEarlier, IsInOrder, HaveSame}
 use Rattle.peer_gateway.specs.Happenings.{Happening, StandsFor, rows_of, Has}
 use Rattle.peer_gateway.specs.Order.{row_order, entry_order, Rise, IsTable}
-use Rattle.peer_gateway.specs.Picks.{is_answering, is_founding, is_last, is_counted, ids_counted}
+use Rattle.peer_gateway.specs.Picks.{is_answering, is_founding}
 use Rattle.peer_gateway.specs.Table.{Table}
 use Rattle.peer_gateway.specs.declared.expiry.Expiry.{Expiry}
 use Rattle.peer_gateway.specs.declared.row.PeerRow.{PeerRow}
-use Rattle.peer_gateway.proofs.KeyLemmas.{row_total, id_from_test, test_from_id}
+use Rattle.peer_gateway.proofs.KeyLemmas.{row_total}
 use Rattle.peer_gateway.proofs.LifeLemmas.{life_distinct}
 use Rattle.peer_gateway.proofs.LimitLemmas.{limit_le, first_less}
-use Rattle.peer_gateway.proofs.MemberLemmas.{all_from_has, has_from_all, has_filter, filter_has, has_map, map_has, any_same, length_same}
+use Rattle.peer_gateway.proofs.MemberLemmas.{all_from_has, has_from_all, has_filter, filter_has, has_map, map_has, length_same}
 use Rattle.peer_gateway.proofs.OrderLemmas.{rise_distinct, turned_back}
 use Rattle.peer_gateway.proofs.TableLemmas.{lengths}
 

@@ -1,11 +1,9 @@
 -- The two lists of a table through each change.
-use Rattle.std.proofs.Common.{◌≡◌, ◌⊎◌, ◌+◌, ◌-◌, ◌*◌, ◌<◌, ◌≤◌, ◌<ℤ◌, ◌≤ℤ◌, ℕ, zero, suc, ℤ, Bool, true, false, not, cond, eqb, int_lt, ◌==◌, List, [], ◌∷◌, ◌++◌, length, filter, map, get_or, set, take, drop, refl, sym, ap, ◌∙◌, subst, inl, inr, arith}
-use Rattle.std.specs.Ordering.{nat_cmp}
+use Rattle.std.proofs.Common.{◌≡◌, ◌⊎◌, ◌+◌, ◌*◌, ◌<◌, ◌≤◌, ◌<ℤ◌, ◌≤ℤ◌, ℕ, zero, suc, ℤ, Bool, true, false, not, cond, eqb, int_lt, ◌==◌, List, [], ◌∷◌, ◌++◌, length, filter, map, get_or, set, take, drop, refl, sym, ap, ◌∙◌, subst, inl, inr, arith}
 use Rattle.std.specs.declared.cmp.Ordering.{Ordering}
 use Rattle.std.specs.declared.cmp.Ordering.TheVariants.{Less, Equal, Greater}
 use Rattle.std.specs.Cmp.{IsTotalOrder}
 use Rattle.std.proofs.lemmas.Bool.{false≢true, eqb-false, eqb-true, not-true, cases_Bool, false_from_ne_true}
-use Rattle.std.proofs.lemmas.Cmp.{tied_itself}
 use Rattle.std.proofs.lemmas.Int.{ints}
 use Rattle.std.proofs.lemmas.List.{take-append-drop, set_split, length-map, length-drop}
 use Rattle.std.proofs.lemmas.List.Filters.{length-filter_both}
@@ -18,8 +16,8 @@ use Rattle.peer_gateway.specs.Order.{order_at, row_order, entry_order, Rise, IsA
 use Rattle.peer_gateway.specs.declared.expiry.Expiry.{Expiry}
 use Rattle.peer_gateway.specs.declared.row.PeerRow.{PeerRow}
 use Rattle.peer_gateway.proofs.KeyLemmas.{row_total, entry_total, key_from_order, key_from_test, test_from_key, order_from_key, other_from_order, key_from_expiry}
-use Rattle.peer_gateway.proofs.MemberLemmas.{Distinct, has_parts, has_middle, middle_has, middle_itself, has_left, has_right, has_filter, filter_has, has_map, map_has, has_from_all, length_le, length_same, index_has}
-use Rattle.peer_gateway.proofs.OrderLemmas.{rise_distinct, rise_filter, rise_back, rise_across, rise_without, rise_replaced, rise_inserted, rise_removed, turned_back, apart_middle, split_here}
+use Rattle.peer_gateway.proofs.MemberLemmas.{Distinct, has_parts, has_middle, middle_has, middle_itself, has_right, has_filter, filter_has, has_map, map_has, has_from_all, length_le, length_same, index_has}
+use Rattle.peer_gateway.proofs.OrderLemmas.{rise_distinct, rise_filter, rise_back, rise_without, rise_replaced, rise_inserted, turned_back, apart_middle, split_here}
 
 -- ---- how many pass a test
 

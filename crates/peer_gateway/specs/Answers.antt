@@ -1,11 +1,10 @@
 -- What a life of peers answers, by its rows alone.
-use Rattle.std.specs.Prelude.{◌≡◌, ℕ, ℤ, ◌==◌, nat_le, nat_lt, Bool, not, ◌&&◌, ◌||◌, if◌then◌else◌, List, [], ◌∷◌, length, map, filter, is_some, Option, Some, None, option_map, option_and_then}
+use Rattle.std.specs.Prelude.{ℕ, ℤ, ◌==◌, nat_le, nat_lt, Bool, not, ◌&&◌, ◌||◌, if◌then◌else◌, List, [], ◌∷◌, length, map, filter, is_some, Option, Some, None, option_map, option_and_then}
 use Rattle.std.specs.Int.{int_min}
 use Rattle.std.specs.List.{list_any}
 use Rattle.std.specs.Option.{option_map_or}
 use Rattle.std.specs.Set.{distinct_count}
 use Rattle.lk_base.specs.IdOrder.{same_id, id_lt}
-use Rattle.lk_base.specs.declared.endpoint.Endpoint.{Endpoint}
 use Rattle.lk_base.specs.declared.endpoint.Gate.{Gate}
 use Rattle.lk_base.specs.declared.endpoint.Target.{Target}
 use Rattle.lk_base.specs.declared.ids.NodeId.{NodeId}

@@ -1,11 +1,10 @@
 -- Only for proofs: the orders of the lists that a table keeps, and what their calls leave of them.
-use Rattle.std.specs.Prelude.{◌≡◌, ◌⊎◌, ◌<◌, ◌≤◌, ◌*◌, ℕ, Bool, false, List, [], ◌∷◌, length, filter, take, drop, suc, slice_index_or}
+use Rattle.std.specs.Prelude.{◌≡◌, ◌⊎◌, ◌<◌, ◌≤◌, ℕ, false, List, [], ◌∷◌, length, filter, take, drop, slice_index_or}
 use Rattle.std.specs.List.{AllByRecursion}
 use Rattle.std.specs.Cmp.Lexicographic.{slice_cmp}
 use Rattle.std.specs.Ordering.{nat_cmp, int_cmp, ordering_then}
 use Rattle.std.specs.declared.cmp.Ordering.{Ordering}
 use Rattle.std.specs.declared.cmp.Ordering.TheVariants.{Less, Equal, Greater}
-use Rattle.std.specs.Result.{MatchResult}
 use Rattle.lk_base.specs.declared.endpoint.Gate.{Gate}
 use Rattle.lk_base.specs.declared.ids.NodeId.{NodeId}
 use Rattle.peer_gateway.specs.Answers.{is_on}

@@ -1,4 +1,4 @@
-use Rattle.std.proofs.Common.{◌≡◌, List, length, map, sym, subst, ap, ◌∙◌}
+use Rattle.std.proofs.Common.{List, length, map, sym, subst, ap, ◌∙◌}
 use Rattle.peer_gateway.specs.Expiry.{expiry_of, IsInOrder, HaveSame}
 use Rattle.peer_gateway.specs.Happenings.{StandsFor, rows_of}
 use Rattle.peer_gateway.specs.Table.{Table}

@@ -1,4 +1,4 @@
-use Rattle.std.proofs.Common.{sym, subst, rules}
+use Rattle.std.proofs.Common.{sym, subst}
 use Rattle.peer_gateway.specs.Happenings.{StandsFor, said_goodbye}
 use Rattle.peer_gateway.specs.Table.{Table}
 use Rattle.peer_gateway.proofs.AnswerLemmas.{had_found, had_none, none_left}

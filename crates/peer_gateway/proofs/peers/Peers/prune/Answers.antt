@@ -1,4 +1,4 @@
-use Rattle.std.proofs.Common.{◌≡◌, ◌≤◌, ◌<◌, ◌*◌, ◌∙◌, ℕ, ℤ, length, filter, not, sym, subst, ap, rules, arith, List, w64}
+use Rattle.std.proofs.Common.{◌≡◌, ◌∙◌, ℤ, length, filter, not, sym, subst, ap, arith, List, w64}
 use mir.Val.{to_z, of_z}
 use Rattle.std.proofs.lemmas.Int.{to_z-of_z}
 use Rattle.peer_gateway.specs.Happenings.{StandsFor, lives}

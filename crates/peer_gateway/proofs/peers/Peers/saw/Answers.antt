@@ -1,8 +1,7 @@
 use Rattle.std.proofs.Common.{◌≡◌, ◌≤◌, ◌<◌, ◌∙◌, ℤ, sym, subst, ap, length, filter, arith, w64}
-use mir.Val.{to_z, of_z}
 use Rattle.std.proofs.lemmas.Int.{to_z-of_z}
-use Rattle.peer_gateway.specs.Answers.{is_on, seen_of}
-use Rattle.peer_gateway.specs.Happenings.{StandsFor, life_after, row_seen}
+use Rattle.peer_gateway.specs.Answers.{is_on}
+use Rattle.peer_gateway.specs.Happenings.{StandsFor, row_seen}
 use Rattle.peer_gateway.specs.Order.{IsWritten}
 use Rattle.peer_gateway.specs.Table.{Table}
 use Rattle.peer_gateway.specs.declared.row.PeerRow.{PeerRow}

@@ -1,5 +1,4 @@
 use Rattle.std.proofs.Common.{◌≡◌, IsOk, List, subst, sym, rules, ◌∷◌, ◌++◌, take, drop}
-use Rattle.peer_gateway.specs.Happenings.{Has}
 use Rattle.peer_gateway.specs.Order.{entry_order, Rise, IsWith}
 use Rattle.peer_gateway.specs.declared.expiry.Expiry.{Expiry}
 use Rattle.peer_gateway.proofs.KeyLemmas.{entry_total, entry_equal}

@@ -1,4 +1,4 @@
-use Rattle.std.proofs.Common.{◌≡◌, List, subst, sym, rules, suc, ◌++◌, take, drop}
+use Rattle.std.proofs.Common.{List, subst, sym}
 use Rattle.peer_gateway.specs.Order.{entry_order, Rise, IsWithout}
 use Rattle.peer_gateway.specs.declared.expiry.Expiry.{Expiry}
 use Rattle.peer_gateway.proofs.KeyLemmas.{entry_total, entry_equal}

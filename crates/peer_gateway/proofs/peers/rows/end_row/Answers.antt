@@ -1,4 +1,4 @@
-use Rattle.std.proofs.Common.{◌≡◌, List, subst, sym, suc, ◌++◌, take, drop}
+use Rattle.std.proofs.Common.{List, subst, sym}
 use Rattle.peer_gateway.specs.Expiry.{expiry_of}
 use Rattle.peer_gateway.specs.Order.{IsTable, IsEnded, IsWithout}
 use Rattle.peer_gateway.specs.declared.expiry.Expiry.{Expiry}

@@ -1,4 +1,4 @@
-use Rattle.std.proofs.Common.{◌≡◌, ◌≤ℤ◌, ◌<ℤ◌, ◌∙◌, ℕ, ℤ, List, not, length, filter, take, drop, subst, sym, ap, rules, arith, w64, true, false}
+use Rattle.std.proofs.Common.{◌≡◌, ◌≤ℤ◌, ◌<ℤ◌, ℕ, ℤ, List, filter, take, drop, subst, sym, rules, arith, w64}
 use mir.Val.{to_z, of_z}
 use Rattle.std.proofs.lemmas.Fn.{filter_same}
 use Rattle.std.proofs.lemmas.Int.{to_z-of_z}

@@ -1,6 +1,6 @@
-use Rattle.std.proofs.Common.{◌≡◌, ◌<◌, ◌*◌, List, length, subst, arith}
+use Rattle.std.proofs.Common.{◌<◌, ◌*◌, length, subst, arith}
 use Rattle.peer_gateway.specs.Expiry.{expiry_of}
-use Rattle.peer_gateway.specs.Order.{IsTable, IsWith, IsWithout}
+use Rattle.peer_gateway.specs.Order.{IsWith, IsWithout}
 use Rattle.peer_gateway.specs.declared.expiry.Expiry.{Expiry}
 use Rattle.peer_gateway.proofs.TableLemmas.{row_renewed, shorter}
 use Rattle.peer_gateway.proofs.peers.rows.renew.Goals as goal
