@@ -8,14 +8,10 @@
 # run; `ratio`, the first over that of `store`; and how many rounds counted. Then the machine. Two threads that have no processor each count
 # few rounds, and their middle one tells of the waiting for a processor.
 set -eu
-here=$(cd "$(dirname "${BASH_SOURCE[0]}")/.." && pwd)
-command -v rt >/dev/null || { echo "bench/cells.sh: there is no rt on the PATH" >&2; exit 1; }
-folder=$(mktemp -d)
-trap 'rm -rf "$folder"' EXIT
-tar -C "$here" --exclude='crates/*/out' -cf - crates crates.txt HANDLES | tar -C "$folder" -xf -
-echo "bench_cells: audio_handoff triple_buffer" >>"$folder/crates.txt"
-mkdir -p "$folder/crates/bench_cells/src"
-cd "$folder/crates/bench_cells"
+# shellcheck source=bench/prepare.sh
+. "$(dirname "${BASH_SOURCE[0]}")/prepare.sh"
+prepare bench_cells audio_handoff triple_buffer
+cd "$crate"
 cat >src/main.rt <<'RT'
 //! Times the calls of `triple_buffer`. A line for each measure: its name, the words of a row, the rounds that count, the nanoseconds of
 //! 1,000 calls in the best of them and in the middle one, and the words that were read, folded.
@@ -434,8 +430,8 @@ invariant time_both round "record { writer : $writer; reader : $reader; made : $
 invariant publish_beside round "record { cell : $writer; made : $made ≡ l.round * 1000 + 1 }"
 invariant read_beside round "$reader"
 
-rt run --jobs 1 >"$folder/build.log" 2>&1 || { cat "$folder/build.log" >&2; exit 1; }
-python3 - "$folder/crates/bench_cells/out/bench_cells" "${1:-3}" <<'PY'
+build
+python3 - "$program" "${1:-3}" <<'PY'
 import os, subprocess, sys
 
 program, runs = sys.argv[1], int(sys.argv[2])

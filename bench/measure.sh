@@ -7,14 +7,10 @@
 # `call`, what is left of the first without the second, and the aim for it; `ratio`, the first over the second; `whole`, the time of all rounds
 # in the best run, which shows what else the machine did. Then the machine.
 set -eu
-here=$(cd "$(dirname "${BASH_SOURCE[0]}")/.." && pwd)
-command -v rt >/dev/null || { echo "bench/measure.sh: there is no rt on the PATH" >&2; exit 1; }
-folder=$(mktemp -d)
-trap 'rm -rf "$folder"' EXIT
-tar -C "$here" --exclude='crates/*/out' -cf - crates crates.txt HANDLES | tar -C "$folder" -xf -
-echo "bench_measure: ping_measure ghost_xform link_payload lk_base" >>"$folder/crates.txt"
-mkdir -p "$folder/crates/bench_measure/src"
-cat >"$folder/crates/bench_measure/src/main.rt" <<'RT'
+# shellcheck source=bench/prepare.sh
+. "$(dirname "${BASH_SOURCE[0]}")/prepare.sh"
+prepare bench_measure ping_measure ghost_xform link_payload lk_base
+cat >"$crate/src/main.rt" <<'RT'
 //! Times the calls of a measurement. A line for each: its name, the calls of a round, the nanoseconds of the best round and of all, the pings
 //! that were answered, and the results folded into one number.
 #![tactic(auto)]
@@ -185,9 +181,8 @@ fn main(rt: HostRuntime) -> io::Result<()> {
     tell(&rt, "pong", Work::Pong, 100_000)
 }
 RT
-cd "$folder/crates/bench_measure"
-rt run --jobs 1 >"$folder/build.log" 2>&1 || { cat "$folder/build.log" >&2; exit 1; }
-python3 - "$folder/crates/bench_measure/out/bench_measure" "${1:-3}" <<'PY'
+build
+python3 - "$program" "${1:-3}" <<'PY'
 import os, subprocess, sys
 
 program, runs = sys.argv[1], int(sys.argv[2])

@@ -7,14 +7,10 @@
 # given; `call`, what is left of the first without the second, and the aim for it; `ratio`, the first over the second; `whole`, the time of all
 # rounds in the best run, which shows what else the machine did. Then the machine.
 set -eu
-here=$(cd "$(dirname "${BASH_SOURCE[0]}")/.." && pwd)
-command -v rt >/dev/null || { echo "bench/numbers.sh: there is no rt on the PATH" >&2; exit 1; }
-folder=$(mktemp -d)
-trap 'rm -rf "$folder"' EXIT
-tar -C "$here" --exclude='crates/*/out' -cf - crates crates.txt HANDLES | tar -C "$folder" -xf -
-echo "bench_numbers: timeline_math lk_base" >>"$folder/crates.txt"
-mkdir -p "$folder/crates/bench_numbers/src"
-cat >"$folder/crates/bench_numbers/src/main.rt" <<'RT'
+# shellcheck source=bench/prepare.sh
+. "$(dirname "${BASH_SOURCE[0]}")/prepare.sh"
+prepare bench_numbers timeline_math lk_base
+cat >"$crate/src/main.rt" <<'RT'
 //! Times the calls of `timeline_math`. A line for each: its name, the calls of a round, the nanoseconds of the best round and of all, the
 //! clicks found, and the results folded into one number.
 #![tactic(auto)]
@@ -246,9 +242,8 @@ fn main(rt: HostRuntime) -> io::Result<()> {
     tell(&rt, "far_clicking_block", Work::FarClickingBlock, 10_000)
 }
 RT
-cd "$folder/crates/bench_numbers"
-rt run --jobs 1 >"$folder/build.log" 2>&1 || { cat "$folder/build.log" >&2; exit 1; }
-python3 - "$folder/crates/bench_numbers/out/bench_numbers" "${1:-3}" <<'PY'
+build
+python3 - "$program" "${1:-3}" <<'PY'
 import os, subprocess, sys
 
 program, runs = sys.argv[1], int(sys.argv[2])

@@ -8,14 +8,11 @@
 # It prints in nanoseconds a call: `round`, the least that a round took, less its loop alone; `whole`, the time of all rounds in the best run, which shows what else
 # the machine did; the aim. Then the machine.
 set -eu
-here=$(cd "$(dirname "${BASH_SOURCE[0]}")/.." && pwd)
-command -v rt >/dev/null || { echo "bench/peers.sh: there is no rt on the PATH" >&2; exit 1; }
-folder=$(mktemp -d)
-trap 'rm -rf "$folder"' EXIT
-tar -C "$here" --exclude='crates/*/out' -cf - crates crates.txt HANDLES | tar -C "$folder" -xf -
-echo "bench_peers: peer_gateway lk_base" >>"$folder/crates.txt"
-mkdir -p "$folder/crates/bench_peers/src" "$folder/crates/bench_peers/proofs/round_of" "$folder/crates/bench_peers/proofs/filled" "$folder/crates/bench_peers/proofs/tell"
-cat >"$folder/crates/bench_peers/src/main.rt" <<'RT'
+# shellcheck source=bench/prepare.sh
+. "$(dirname "${BASH_SOURCE[0]}")/prepare.sh"
+prepare bench_peers peer_gateway lk_base
+mkdir -p "$crate/proofs/round_of" "$crate/proofs/filled" "$crate/proofs/tell"
+cat >"$crate/src/main.rt" <<'RT'
 //! Times the calls of `peer_gateway`. A line for each: its name, the rows of the table, the calls of a round, the nanoseconds of the best round
 //! and of all, and the results folded into one number.
 #![tactic(auto)]
@@ -159,7 +156,7 @@ fn main(rt: HostRuntime) -> io::Result<()> {
 RT
 for name in round_of:k filled:n tell:round; do
     function=${name%:*} loop=${name#*:}
-    cat >"$folder/crates/bench_peers/proofs/$function/Invariants.antt" <<ANTT
+    cat >"$crate/proofs/$function/Invariants.antt" <<ANTT
 use Rattle.std.proofs.Common.{◌≡◌}
 use Rattle.bench_peers.proofs.$function.Given as goal
 
@@ -167,9 +164,8 @@ abbrev pub invariant-loop-$loop : goal.invariant-loop-$loop
 invariant-loop-$loop l = l.peers.gates ≡ 4
 ANTT
 done
-cd "$folder/crates/bench_peers"
-rt run --jobs 1 >"$folder/build.log" 2>&1 || { cat "$folder/build.log" >&2; exit 1; }
-python3 - "$folder/crates/bench_peers/out/bench_peers" "${1:-3}" <<'PY'
+build
+python3 - "$program" "${1:-3}" <<'PY'
 import os, subprocess, sys
 
 program, runs = sys.argv[1], int(sys.argv[2])

@@ -8,14 +8,10 @@
 # given; `call`, what is left of the first without the second; `ratio`, the first over the second; `whole`, the time of all rounds in the best
 # run, which shows what else the machine did. Then the machine.
 set -eu
-here=$(cd "$(dirname "${BASH_SOURCE[0]}")/.." && pwd)
-command -v rt >/dev/null || { echo "bench/sessions.sh: there is no rt on the PATH" >&2; exit 1; }
-folder=$(mktemp -d)
-trap 'rm -rf "$folder"' EXIT
-tar -C "$here" --exclude='crates/*/out' -cf - crates crates.txt HANDLES | tar -C "$folder" -xf -
-echo "bench_sessions: session_choice ghost_xform lk_base" >>"$folder/crates.txt"
-mkdir -p "$folder/crates/bench_sessions/src"
-cat >"$folder/crates/bench_sessions/src/main.rt" <<'RT'
+# shellcheck source=bench/prepare.sh
+. "$(dirname "${BASH_SOURCE[0]}")/prepare.sh"
+prepare bench_sessions session_choice ghost_xform lk_base
+cat >"$crate/src/main.rt" <<'RT'
 //! Times the calls of `session_choice`. A line for each measure: its name, the number of others, the calls of a round, the nanoseconds of the
 //! best round and of all, and the answers counted.
 #![tactic(auto)]
@@ -187,9 +183,8 @@ fn main(rt: HostRuntime) -> io::Result<()> {
     Ok(())
 }
 RT
-cd "$folder/crates/bench_sessions"
-rt run --jobs 1 >"$folder/build.log" 2>&1 || { cat "$folder/build.log" >&2; exit 1; }
-python3 - "$folder/crates/bench_sessions/out/bench_sessions" "${1:-3}" <<'PY'
+build
+python3 - "$program" "${1:-3}" <<'PY'
 import os, subprocess, sys
 
 program, runs = sys.argv[1], int(sys.argv[2])
