@@ -1,3 +1,4 @@
+pub mod NumberLemmas
 pub mod MemberLemmas
 pub mod OrderLemmas
 pub mod KeyLemmas

@@ -1,10 +1,11 @@
 //! What is kept of a peer.
 
 ghost use Rattle.std.specs.Prelude.{◌≡◌};
+ghost use Rattle.lk_base.specs.IdOrder.{same_id};
 ghost use Rattle.lk_base.specs.Ranges.{IsMoment};
 ghost use Rattle.peer_gateway.specs.Happenings.{row_seen};
 
-use lk_base::{Endpoint, Gate, NodeId};
+use lk_base::{Endpoint, Gate, NodeId, u64_at};
 
 /// A peer as it was last seen on one gate.
 #[derive(Clone, Copy, Debug, PartialEq, Eq)]
@@ -49,4 +50,13 @@ pub(crate) fn sighted(
         endpoint,
         limit: now + (i64::from(ttl) + 1) * 1_000_000,
     }
+}
+
+// Whether two ids are the same. Their eight bytes are compared as one number, which is faster than one byte after the other.
+pub(crate) fn is_same(a: &NodeId, b: &NodeId) -> bool
+    ensures { result ≡ same_id a.now b.now }
+{
+    let (first, _) = u64_at(&a.0);
+    let (second, _) = u64_at(&b.0);
+    first == second
 }

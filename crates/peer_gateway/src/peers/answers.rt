@@ -7,7 +7,7 @@ ghost use Rattle.peer_gateway.specs.Picks.{is_answering, is_founding, is_last, i
 
 use crate::expiry::Expiry;
 use crate::peers::Peers;
-use crate::row::PeerRow;
+use crate::row::{PeerRow, is_same};
 use lk_base::{NodeId, Target};
 
 impl Peers {
@@ -65,7 +65,7 @@ fn first_limit(by_limit: &Vec<Expiry>) -> Option<i64>
 fn any_in(rows: &Vec<PeerRow>, session: &NodeId) -> bool
     ensures { result ≡ list_any (is_in session.now) rows.now.items }
 {
-    rows.iter().any(|row| row.session == *session)
+    rows.iter().any(|row| is_same(&row.session, session))
 }
 
 // How many ids have a row in the session. The rows of one id stand side by side.
@@ -88,7 +88,7 @@ fn ids_in(rows: &Vec<PeerRow>, session: &NodeId) -> u32
 fn is_counted(session: &NodeId, last: &Option<NodeId>, row: &PeerRow) -> bool
     ensures { result ≡ is_counted session.now last.now row.now }
 {
-    row.session == *session && !is_last(last, &row.id)
+    is_same(&row.session, session) && !is_last(last, &row.id)
 }
 
 // Whether it was counted last.
@@ -96,7 +96,7 @@ fn is_last(last: &Option<NodeId>, id: &NodeId) -> bool
     ensures { result ≡ is_last last.now id.now }
 {
     match last {
-        Some(last) => *last == *id,
+        Some(last) => is_same(last, id),
         None => false,
     }
 }
@@ -119,14 +119,14 @@ fn first_of_founder<'a>(rows: &'a Vec<PeerRow>, session: &NodeId) -> Option<&'a 
 fn is_answering(row: &PeerRow, session: &NodeId) -> bool
     ensures { result ≡ is_answering session.now row.now }
 {
-    row.session == *session && row.endpoint.is_some()
+    is_same(&row.session, session) && row.endpoint.is_some()
 }
 
 // Whether it is the founder's, too.
 fn is_founding(row: &PeerRow, session: &NodeId) -> bool
     ensures { result ≡ is_founding session.now row.now }
 {
-    is_answering(row, session) && row.id == *session
+    is_answering(row, session) && is_same(&row.id, session)
 }
 
 // Where the peer of a row is pinged.
