@@ -27,12 +27,12 @@ mod top;
 mod truth;
 mod word;
 
-use crate::adapters::{StdSink, StdSource};
-use crate::command_line::words_of;
+use crate::adapters::{BehindName, StdSink, StdSource};
 use crate::status::Status;
 use crate::top::link_main;
 use std::io::ErrorKind;
 use std::process::ExitCode;
+use std::{env, io};
 
 fn main(rt: HostRuntime) -> ExitCode {
     let status = run(&rt);
@@ -53,4 +53,14 @@ fn run(rt: &HostRuntime) -> Status {
     let mut input = StdSource::new(rt.stdin());
     let mut out = StdSink::new(rt.stdout());
     link_main(rt.alloc(), &words, &mut input, &mut out)
+}
+
+// The words after the program's name. The error is want of memory, or that one of them is no text. Std says of no
+// environment what its arguments are, so no clause can say here which words come: checks/statuses.py runs it.
+fn words_of(rt: &HostRuntime) -> io::Result<Vec<String>> {
+    let args = env::args(&(BehindName { all: rt }, rt.alloc()))?;
+    match args.collect::<Vec<String>>(rt.alloc()) {
+        Ok(words) => Ok(words),
+        Err(_) => Err(io::Error::from(ErrorKind::OutOfMemory)),
+    }
 }

@@ -1,10 +1,11 @@
-//! The adapters over readers and writers in memory.
+//! The adapters over readers, writers and arguments in memory.
 
-use super::{StdSink, StdSource};
+use super::{BehindName, StdSink, StdSource};
 use lk_outside::{Put, Sink, Source, Taken};
-use std::io;
+use std::env::{Env, FillError};
 use std::io::{Read, Write};
 use std::test::Fail;
+use std::{env, io};
 
 /// A reader and a writer that fails at each call.
 #[derive(Drop)]
@@ -67,5 +68,43 @@ fn a_writer_is_a_sink_that_counts_a_write_of_nothing(rt: HostRuntime) -> Result<
     let mut full = StdSink::new(Full);
     assert_eq!(rt; full.write(b"abc"), Put::Failed);
     assert_eq!(rt; full.fault_count(), 1);
+    Ok(())
+}
+
+/// Two arguments, of which the first, the program's name, is no UTF-8.
+#[derive(Drop)]
+struct Arguments;
+
+impl Env for Arguments {
+    fn arg(&self, i: usize, buf: &mut [u8]) -> Result<usize, FillError> {
+        let text: &[u8] = match i {
+            0 => b"\xff",
+            1 => b"replay",
+            _ => return Err(FillError::NotPresent),
+        };
+        if text.len() > buf.len() {
+            return Err(FillError::TooLong);
+        }
+        buf[..text.len()].copy_from_slice(text);
+        Ok(text.len())
+    }
+
+    fn var(&self, _name: &str, _buf: &mut [u8]) -> Result<usize, FillError> {
+        Err(FillError::NotPresent)
+    }
+
+    fn var_at(&self, _i: usize, _buf: &mut [u8]) -> Result<usize, FillError> {
+        Err(FillError::NotPresent)
+    }
+}
+
+#[test]
+fn the_words_begin_behind_a_name_that_is_no_text(rt: HostRuntime) -> Result<(), Fail> {
+    let all = Arguments;
+    let args = env::args(&(BehindName { all: &all }, rt.alloc()))?;
+    let words = args.collect::<Vec<String>>(rt.alloc())?;
+    assert_eq!(rt; words.len(), 1);
+    assert_eq!(rt; words[0].as_str(), "replay");
+    assert!(rt; env::args(&(Arguments, rt.alloc())).is_err());
     Ok(())
 }
