@@ -86,6 +86,7 @@ impl Measure {
             → (c r : ℤ) → IsWithin (2 ^ 60) c → AreFair c r (pong_after life gate from pong.now now)
             → IfDone result (λ xform. pos (2 * unsigned_abs (xform.offset -ℤ c)) ≤ℤ (r +ℤ pos 1)) }
     {
+        // A law, for the proof: honest pongs bound the error of the offset.
         honest_pongs_bound_the_error();
         if self.passes_over(gate, from) {
             return Outcome::Idle;
