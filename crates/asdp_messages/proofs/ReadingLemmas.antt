@@ -7,10 +7,12 @@ use Rattle.std.proofs.lemmas.Bool.{ltb-false}
 use Rattle.link_payload.specs.declared.fault.PayloadFault.{PayloadFault}
 use Rattle.link_payload.specs.Entries.{EntryValue, AreBytes}
 use Rattle.link_payload.specs.Fields.{state_answer_of, pong_answer_of}
+use Rattle.link_payload.proofs.EntryLemmas.{AreBytes-drop}
+use Rattle.link_payload.proofs.WalkLemmas.{SpelledOrCut}
 use Rattle.asdp_messages.specs.declared.fault.WireFault.{WireFault}
 use Rattle.asdp_messages.specs.declared.fault.WireFault.TheVariants.{Short, NotLink, TooLong, Payload}
 use Rattle.asdp_messages.specs.Datagram.{MessageValue, Alive, Response, Bye, Ping, Pong, OtherDiscovery, OtherLink, HasShortPing, IsShortMessage, IsReadAs, IsLinkReadAs, IsDiscoveryReadAs, IsMessage, is_discovery, is_link, kind_in, state_message_in, sender_in, ttl_in, group_in}
-use Rattle.asdp_messages.proofs.DatagramLemmas.{Answer, AreBytes-drop, SpelledOrCut}
+use Rattle.asdp_messages.proofs.DatagramLemmas.{Answer}
 
 -- ---- a ping's payload
 
