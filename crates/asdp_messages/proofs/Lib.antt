@@ -1,7 +1,7 @@
 pub mod HeaderLemmas
-pub mod AliveLemmas
 pub mod DatagramLemmas
+pub mod AliveLemmas
 pub mod OneLemmas
 pub mod SentLemmas
+pub mod ShortPingLemmas
 pub mod ReadingLemmas
-pub mod FunctionLemmas

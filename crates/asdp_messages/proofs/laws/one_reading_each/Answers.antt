@@ -1,4 +1,4 @@
-use Rattle.asdp_messages.proofs.FunctionLemmas.{one_each}
+use Rattle.asdp_messages.proofs.ReadingLemmas.{one_each}
 use Rattle.asdp_messages.proofs.laws.one_reading_each.Goals as goal
 
 pub returns : goal.returns

@@ -1,4 +1,4 @@
-use Rattle.asdp_messages.proofs.ReadingLemmas.{short_reading}
+use Rattle.asdp_messages.proofs.ShortPingLemmas.{short_reading}
 use Rattle.asdp_messages.proofs.laws.ping_payload_len.Goals as goal
 
 pub returns : goal.returns

@@ -1,4 +1,4 @@
-use Rattle.asdp_messages.proofs.FunctionLemmas.{message_is_read_so}
+use Rattle.asdp_messages.proofs.ReadingLemmas.{message_is_read_so}
 use Rattle.asdp_messages.proofs.laws.read_messages.Goals as goal
 
 pub returns-clause-ranges : goal.returns-clause-ranges

@@ -1,5 +1,5 @@
 use Rattle.std.proofs.Common.{arith}
-use Rattle.asdp_messages.proofs.FunctionLemmas.{answer_in_range}
+use Rattle.asdp_messages.proofs.ReadingLemmas.{answer_in_range}
 use Rattle.asdp_messages.proofs.read.read_datagram.Goals as goal
 
 pub returns-clause-value : goal.returns-clause-value
