@@ -4,6 +4,7 @@ use Rattle.std.proofs.lemmas.Int.{ints, by_lt_z}
 use Rattle.std.proofs.lemmas.List.Folds.{list_all-append}
 use Rattle.std.specs.List.{find, list_all}
 use Rattle.lk_base.specs.declared.start.SessionStart.{SessionStart}
+use Rattle.ghost_xform.proofs.CountLemmas.{le_true, le_false}
 use Rattle.client_state.specs.Starts.{is_latest_in, latest_start_of}
 use Rattle.client_state.proofs.BoolLemmas.{both, and-false}
 
@@ -37,12 +38,6 @@ list_all-weaker r q (x ∷ xs) weaker all =
     ap (λ b. b && list_all q xs) (weaker x tests.0) ∙ list_all-weaker r q xs weaker tests.1
 
 -- ---- stamps
-le_true : (a b : ℤ) → a ≤ℤ b → int_le a b ≡ true
-le_true a b h = let e : true ≡ int_le a b = omega (arith, ints) in sym e
-
-le_false : (a b : ℤ) → b <ℤ a → int_le a b ≡ false
-le_false a b h = let e : false ≡ int_le a b = omega (arith, ints) in sym e
-
 le_from : (a b : ℤ) → int_le a b ≡ true → a ≤ℤ b
 le_from a b e = omega (arith, ints)
 
