@@ -1,6 +1,5 @@
 pub mod HeaderLemmas
 pub mod DatagramLemmas
-pub mod AliveLemmas
 pub mod OneLemmas
 pub mod SentLemmas
 pub mod ShortPingLemmas

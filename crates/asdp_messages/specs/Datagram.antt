@@ -1,5 +1,5 @@
 -- Which datagrams are read, as which messages.
-use Rattle.std.specs.Prelude.{◌≡◌, ◌^◌, ◌<◌, ◌≤◌, ◌==◌, ◌||◌, ℕ, nat_lt, not, Bool, List, length, take, drop, slice_index, Option, IsSome, IfSome, Result, Ok, Err}
+use Rattle.std.specs.Prelude.{◌≡◌, ◌^◌, ◌<◌, ◌≤◌, ◌==◌, ◌||◌, ℕ, nat_lt, not, Bool, List, length, take, drop, slice_index, Option, Result, Ok, Err}
 use Rattle.std.specs.Bool.{MatchBool}
 use Rattle.std.specs.Result.{result_map_both}
 use Rattle.byteorder.specs.Endian.{big_number}
@@ -8,24 +8,12 @@ use Rattle.link_payload.specs.declared.fault.PayloadFault.{PayloadFault}
 use Rattle.link_payload.specs.declared.fields.PeerFields.{PeerFields}
 use Rattle.link_payload.specs.declared.fields.PongFields.{PongFields}
 use Rattle.link_payload.specs.Entries.{EntryValue, AreBytes, AreEntriesIn}
-use Rattle.lk_base.specs.Endpoint.{IsEndpoint}
 use Rattle.link_payload.specs.Fields.{AreInRange, AreTimesInRange, state_answer_of, pong_answer_of}
 use Rattle.asdp_messages.specs.declared.fault.WireFault.{WireFault}
 use Rattle.asdp_messages.specs.declared.fault.WireFault.TheVariants.{Short, NotLink, TooLong, Payload}
 use Rattle.asdp_messages.specs.declared.message.Message.{Message}
 use Rattle.asdp_messages.specs.declared.message.Message.TheVariants as message
 use Rattle.asdp_messages.specs.declared.message.StateMsg.{StateMsg}
-
--- A message with an endpoint, and with numbers in range. The first five facts hold of all messages
--- in code.
-pub record IsPlainAlive (m : StateMsg) : Type 0 where
-  pub ttl : m.ttl < 256
-  pub group : m.group < 2 ^ 16
-  pub from : length m.from.0 ≡ 8
-  pub session : length m.fields.session.0 ≡ 8
-  pub address : IfSome m.fields.endpoint IsEndpoint
-  pub endpoint : IsSome m.fields.endpoint
-  pub range : AreInRange m.fields
 
 -- a message without where its bytes lie
 pub data MessageValue : Type 0 where

@@ -36,10 +36,6 @@ spelled_of (Pong session ghost_time echo) = spelled_link_header_of 2 ++ spelled_
 abbrev pub sent : NodeId → ℕ → PeerFields → StateMsg
 sent from group fields = record { from = from; ttl = 5; group = group; fields = fields }
 
--- an alive, whatever its time to live
-unfoldable pub spelled_alive_of : StateMsg → List ℕ
-spelled_alive_of m = spelled_of (Alive m)
-
 -- a response that is sent
 abbrev pub spelled_response_of : NodeId → ℕ → PeerFields → List ℕ
 spelled_response_of from group fields = spelled_of (Response (sent from group fields))

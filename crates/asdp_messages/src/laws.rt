@@ -4,14 +4,13 @@ ghost use Rattle.std.specs.Prelude.{◌≡◌, ◌<◌, ◌^◌, ℕ, List, Resu
 ghost use Rattle.link_payload.specs.Entries.{AreBytes};
 ghost use Rattle.asdp_messages.specs.declared.fault.WireFault.{WireFault};
 ghost use Rattle.asdp_messages.specs.declared.message.StateMsg.{StateMsg};
-ghost use Rattle.asdp_messages.specs.Datagram.{AreAllRead, HasShortPing, IsInRange, IsPlainAlive, IsReadAs, MessageValue};
+ghost use Rattle.asdp_messages.specs.Datagram.{AreAllRead, HasShortPing, IsInRange, IsReadAs, MessageValue};
 ghost use Rattle.asdp_messages.specs.Reading.{reading_of};
-ghost use Rattle.asdp_messages.specs.Spelling.{Written, spelled_of, spelled_alive_of};
+ghost use Rattle.asdp_messages.specs.Spelling.{Written, spelled_of};
 ghost use Rattle.asdp_messages.specs.Written.{IsTidyWritten, Says};
 
 use link_payload::{
-    answered_fields, one_spelling, one_state, payload_lens, pong_reads_back, spelled_or_cut,
-    state_reads_back,
+    answered_fields, one_spelling, payload_lens, pong_reads_back, spelled_or_cut, state_reads_back,
 };
 
 /// A datagram is read in one way only.
@@ -54,21 +53,6 @@ pub fn ping_payload_len()
     ensures { (bytes : List ℕ) (reading : Result MessageValue WireFault)
         → IsReadAs bytes reading → HasShortPing reading }
 {}
-
-/// Bytes spell one plain alive at most.
-pub fn one_alive()
-    ensures { (m n : StateMsg) → IsPlainAlive m → IsPlainAlive n
-        → spelled_alive_of m ≡ spelled_alive_of n → m ≡ n }
-{
-    one_state();
-}
-
-/// A plain alive is spelled in 107 bytes.
-pub fn alive_len()
-    ensures { (m : StateMsg) → IsPlainAlive m → length (spelled_alive_of m) ≡ 107 }
-{
-    payload_lens();
-}
 
 /// Whatever is written, with any time to live and in any group, is read as that message: a state where it is tidy, a
 /// pong where it echoes a tidy ping, and a ping with its own payload.

@@ -1,21 +1,18 @@
-//! Reading datagrams. A plain alive is one whose entries stand in the order in which they are
-//! written.
+//! Reading datagrams.
 
 ghost use Rattle.std.specs.Prelude.{◌≡◌, ◌≤◌, ◌<◌, ◌+◌, ◌^◌, ◌++◌, ◌==◌, ◌||◌, ℕ, length, take, drop, IfSome, IfNone, IfOk};
-ghost use Rattle.byteorder.specs.Endian.{big_bytes};
-ghost use Rattle.asdp_messages.specs.Datagram.{IsInRange, IsPlainAlive, IsReadAs, IsDiscoveryReadAs, IsLinkReadAs, answer_value, message_value};
+ghost use Rattle.asdp_messages.specs.Datagram.{IsInRange, IsReadAs, IsDiscoveryReadAs, IsLinkReadAs, answer_value, message_value};
 ghost use Rattle.asdp_messages.specs.Reading.{reading_of};
-ghost use Rattle.asdp_messages.specs.Spelling.{spelled_header_of, spelled_alive_of};
 
 use crate::fault::WireFault;
 use crate::header::{
     DISCOVERY_ALIVE, DISCOVERY_BYE, DISCOVERY_HEADER_LEN, DISCOVERY_PROTOCOL, DISCOVERY_RESPONSE,
     GREATEST_LEN, Header, LINK_HEADER_LEN, LINK_PING, LINK_PONG, LINK_PROTOCOL,
 };
-use crate::laws::{alive_len, one_reading, one_reading_each, read_messages};
+use crate::laws::{one_reading, one_reading_each, read_messages};
 use crate::message::{Message, StateMsg};
 use byteorder::{BigEndian, ByteOrder};
-use link_payload::{read_plain_state, read_pong, read_state, spelled_or_cut};
+use link_payload::{read_pong, read_state, spelled_or_cut};
 use lk_base::{NodeId, u16_at, u64_at};
 
 /// The message in a datagram, or the first fault, in this order: fewer than 9 bytes; no message of
@@ -120,59 +117,4 @@ fn tells_state(kind: u8) -> bool
     ensures { result ≡ ((kind == 1) || (kind == 2)) }
 {
     kind == DISCOVERY_ALIVE || kind == DISCOVERY_RESPONSE
-}
-
-// How many bytes an alive with an endpoint has.
-const PLAIN_ALIVE_LEN: usize = 107;
-
-/// The alive in a datagram, with any time to live and group, where its payload is one that
-/// `link_payload`'s `read_plain_state` reads. Such a datagram has 107 bytes.
-pub fn read_plain_alive(bytes: &[u8]) -> Option<StateMsg>
-    ensures some { IfSome result (λ m. IsPlainAlive m × (bytes.now ≡ spelled_alive_of m)) }
-    ensures none { IfNone result
-        ((m : StateMsg) → IsPlainAlive m → bytes.now ≡ spelled_alive_of m → ⊥) }
-{
-    // A law, for the proof: a datagram of any other length is none.
-    alive_len();
-    if bytes.len() != PLAIN_ALIVE_LEN {
-        return None;
-    }
-    let (front, payload) = bytes.split_at(DISCOVERY_HEADER_LEN);
-    let Some(header) = header_of(front) else {
-        return None;
-    };
-    if header.kind != DISCOVERY_ALIVE {
-        return None;
-    }
-    let Some(fields) = read_plain_state(payload) else {
-        return None;
-    };
-    Some(StateMsg {
-        from: header.from,
-        ttl: header.ttl,
-        group: header.group,
-        fields,
-    })
-}
-
-// A header of any kind, where the bytes begin with the name of the protocol.
-fn header_of(bytes: &[u8]) -> Option<Header>
-    requires { length bytes.now ≡ 20 }
-    ensures some { IfSome result (λ h. bytes.now ≡ spelled_header_of h.kind h.ttl h.group h.from) }
-    ensures none { IfNone result
-        ((kind ttl group : ℕ) (from : NodeId) → bytes.now ≡ spelled_header_of kind ttl group from → ⊥) }
-{
-    let (protocol, rest) = u64_at(bytes);
-    if protocol != DISCOVERY_PROTOCOL {
-        return None;
-    }
-    let (numbers, rest) = rest.split_at(2);
-    let (group, rest) = u16_at(rest);
-    let from = NodeId::from_bytes(rest);
-    Some(Header {
-        kind: numbers[0],
-        ttl: numbers[1],
-        group,
-        from,
-    })
 }

@@ -1,9 +1,12 @@
 use crate::{
-    Message, StateMsg, WireFault, read_datagram, read_plain_alive, write_alive, write_bye,
-    write_ping_message, write_pong_message, write_response,
+    Message, StateMsg, WireFault, read_datagram, write_alive, write_bye, write_ping_message,
+    write_pong_message, write_response,
 };
 use link_payload::{PayloadFault, PeerFields, PingFields, PongFields};
 use lk_base::{Endpoint, NodeId, SessionStart, Timeline, Wire};
+
+// The key `tmln`.
+const TMLN: u32 = 0x746d_6c6e;
 
 const HEADER: &[u8] = b"_asdp_v\x01\x01\x05\0\0ABCDEFGH";
 
@@ -76,7 +79,10 @@ fn message_at(mpb: i64, beat: i64) -> StateMsg {
 
 #[test]
 fn an_alive_is_read_field_by_field(rt: HostRuntime) {
-    assert_eq!(rt; read_plain_alive(&with_header(HEADER)), Some(MESSAGE));
+    assert_eq!(rt;
+        read_datagram(&with_header(HEADER)),
+        Ok(Message::Alive(MESSAGE))
+    );
     let other: &[&[u8]] = &[
         HEADER,
         b"tmln\0\0\0\x18\0\0\0\0\0\0\x01\x01\0\0\0\0\0\0\x02\x02\xff\xff\xff\xff\xff\xff\xff\xfe",
@@ -102,33 +108,28 @@ fn an_alive_is_read_field_by_field(rt: HostRuntime) {
         }),
     };
     assert_eq!(rt;
-        read_plain_alive(&joined(other)),
-        Some(StateMsg { fields, ..MESSAGE })
+        read_datagram(&joined(other)),
+        Ok(Message::Alive(StateMsg { fields, ..MESSAGE }))
     );
 }
 
 #[test]
-fn a_damaged_alive_is_not_read(rt: HostRuntime) {
-    let damaged: &[(&str, Wire)] = &[
+fn a_damaged_alive_has_a_fault(rt: HostRuntime) {
+    let damaged: &[(&str, Wire, WireFault)] = &[
         (
             "three bytes less",
             joined(&[HEADER, TIMELINE, SESSION, START, b"mep4\0\0\0\x06\x7f\0\0"]),
+            WireFault::Payload(PayloadFault::Cut { at: 73 }),
         ),
         (
             "one byte more",
             joined(&[HEADER, TIMELINE, SESSION, START, ENDPOINT, b"\0"]),
-        ),
-        (
-            "a response",
-            with_header(b"_asdp_v\x01\x02\x05\0\0ABCDEFGH"),
+            WireFault::Payload(PayloadFault::Cut { at: 87 }),
         ),
         (
             "another version",
             with_header(b"_asdp_v\x02\x01\x05\0\0ABCDEFGH"),
-        ),
-        (
-            "another protocol",
-            with_header(b"_link_v\x01\x01\x05\0\0ABCDEFGH"),
+            WireFault::NotLink,
         ),
         (
             "a timeline of 25 bytes",
@@ -141,36 +142,37 @@ fn a_damaged_alive_is_not_read(rt: HostRuntime) {
                 START,
                 ENDPOINT,
             ]),
+            WireFault::Payload(PayloadFault::WrongSize {
+                key: TMLN,
+                size: 25,
+            }),
+        ),
+        ("a tempo of 0", with_mpb(ZERO), out_of_range(0)),
+        (
+            "a tempo above 2^31",
+            with_mpb(b"\0\0\0\0\x80\0\0\x01"),
+            out_of_range(2_147_483_649),
         ),
         (
-            "session before timeline",
-            joined(&[HEADER, SESSION, TIMELINE, START, ENDPOINT]),
+            "a beat above 2^60",
+            with_beat(b"\x10\0\0\0\0\0\0\x01"),
+            out_of_range(1_152_921_504_606_846_977),
         ),
-        (
-            "a playing byte of 2",
-            joined(&[
-                HEADER,
-                TIMELINE,
-                SESSION,
-                b"stst\0\0\0\x11\x02",
-                ZERO,
-                ZERO,
-                ENDPOINT,
-            ]),
-        ),
-        ("a tempo of 0", with_mpb(ZERO)),
-        ("a tempo above 2^31", with_mpb(b"\0\0\0\0\x80\0\0\x01")),
-        ("a beat above 2^60", with_beat(b"\x10\0\0\0\0\0\0\x01")),
         (
             "a beat below -2^60",
             with_beat(b"\xef\xff\xff\xff\xff\xff\xff\xff"),
+            out_of_range(-1_152_921_504_606_846_977),
         ),
-        ("no endpoint", joined(&[HEADER, TIMELINE, SESSION, START])),
-        ("nothing", Wire::new()),
+        ("nothing", Wire::new(), WireFault::Short { len: 0 }),
     ];
-    for (damage, bytes) in damaged {
-        assert_eq!(rt; read_plain_alive(bytes), None, "{damage}");
+    for (damage, bytes, fault) in damaged {
+        assert_eq!(rt; read_datagram(bytes), Err(*fault), "{damage}");
     }
+}
+
+// A number of the timeline that is outside its range.
+fn out_of_range(value: i64) -> WireFault {
+    WireFault::Payload(PayloadFault::OutOfRange { key: TMLN, value })
 }
 
 #[test]
@@ -207,7 +209,7 @@ fn the_ends_of_each_range_are_read(rt: HostRuntime) {
         ),
     ];
     for (bytes, message) in edges {
-        assert_eq!(rt; read_plain_alive(bytes), Some(*message));
+        assert_eq!(rt; read_datagram(bytes), Ok(Message::Alive(*message)));
     }
     let no_port = joined(&[
         HEADER,
@@ -225,8 +227,8 @@ fn the_ends_of_each_range_are_read(rt: HostRuntime) {
         ..MESSAGE.fields
     };
     assert_eq!(rt;
-        read_plain_alive(&no_port),
-        Some(StateMsg { fields, ..MESSAGE })
+        read_datagram(&no_port),
+        Ok(Message::Alive(StateMsg { fields, ..MESSAGE }))
     );
 }
 

@@ -4,7 +4,6 @@ pub mod ReadingLemmas
 pub mod EntryLemmas
 pub mod WalkLemmas
 pub mod FoundLemmas
-pub mod PlainValuesLemmas
 pub mod StateLemmas
 pub mod RangeLemmas
 pub mod FieldsLemmas

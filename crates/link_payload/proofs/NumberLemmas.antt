@@ -8,7 +8,6 @@ use Rattle.std.proofs.lemmas.Nat.{be_bytes_8}
 use Rattle.byteorder.specs.Endian.{big_bytes, big_number}
 use Rattle.byteorder.specs.Numbers.{big_from-lt}
 use Rattle.lk_base.specs.Ranges.{IsWithinLimit}
-use Rattle.lk_base.proofs.ByteLemmas.{one_natural}
 use Rattle.link_payload.specs.Entries.{spelled_number_of}
 
 abbrev pub AreBytes : List ℕ → Type 0
@@ -45,13 +44,6 @@ number_before bytes number rest z len are_bytes number_is rest_is z_is fits =
 -- the bits of a number that fits are below 2 ^ 64
 pub bits-lt : (z : ℤ) → FitsSigned w64 z → cast_unsigned w64 z < 2 ^ 64
 bits-lt z fits = omega (arith, ints)
-
--- bytes spell one signed number
-pub one_number : (y z : ℤ) → FitsSigned w64 y → FitsSigned w64 z → spelled_number_of y ≡ spelled_number_of z → y ≡ z
-unfolding spelled_number_of
-one_number y z y_fits z_fits e =
-    let bits = one_natural 8 (cast_unsigned w64 y) (cast_unsigned w64 z) (bits-lt y y_fits) (bits-lt z z_fits) e in
-    sym (to_z-of_z w64 y y_fits) ∙ ap (cast_signed w64) bits ∙ to_z-of_z w64 z z_fits
 
 pub fits-within : (z : ℤ) → IsWithinLimit z → FitsSigned w64 z
 fits-within (pos n) h = omega (arith, ints)

@@ -1,5 +1,5 @@
 -- Which fields are taken off the wire, and what entries answer.
-use Rattle.std.specs.Prelude.{◌≡◌, ◌^◌, ◌==◌, ◌&&◌, ℕ, ℤ, pos, ◌≤ℤ◌, int_le, nat_le, unsigned_abs, Bool, not, false, if◌then◌else◌, List, [], ◌∷◌, length, map, filter, drop, slice_index, Option, Some, None, IsSome, IfSome, option_map, unwrap_or, Result, Ok, Err}
+use Rattle.std.specs.Prelude.{◌≡◌, ◌^◌, ◌==◌, ◌&&◌, ℕ, ℤ, pos, ◌≤ℤ◌, int_le, nat_le, unsigned_abs, Bool, not, false, if◌then◌else◌, List, [], ◌∷◌, length, map, filter, drop, slice_index, Option, Some, None, IfSome, option_map, unwrap_or, Result, Ok, Err}
 use Rattle.std.specs.Int.{w64, cast_signed}
 use Rattle.std.specs.List.{find, last_or, list_any}
 use Rattle.byteorder.specs.Endian.{big_number}
@@ -31,13 +31,6 @@ pub record AreTimesInRange (f : PongFields) : Type 0 where
   pub ghost_time : IsWithinLimit f.ghost_time
   pub host : IsWithinLimit f.host
   pub previous : IsWithinLimit f.previous
-
--- Fields with an endpoint, and with numbers in range. The first two facts hold of all fields in code.
-pub record IsPlainState (f : PeerFields) : Type 0 where
-  pub session : length f.session.0 ≡ 8
-  pub address : IfSome f.endpoint IsEndpoint
-  pub endpoint : IsSome f.endpoint
-  pub range : AreInRange f
 
 -- ---- the numbers in values
 

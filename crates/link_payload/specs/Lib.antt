@@ -3,6 +3,5 @@ pub mod Spelling
 pub mod Fields
 pub mod Items
 pub mod Last
-pub mod PlainValues
 pub use Rattle.lk_base.specs.Ranges
 pub use Rattle.lk_base.specs.Timeline

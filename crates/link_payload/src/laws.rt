@@ -8,7 +8,7 @@ ghost use Rattle.link_payload.specs.declared.fields.PingFields.{PingFields};
 ghost use Rattle.link_payload.specs.declared.fields.PongFields.{PongFields};
 ghost use Rattle.link_payload.specs.Entries.{EntryValue, Spells, IsCutAt, AreEntriesIn, AreBytes};
 ghost use Rattle.lk_base.specs.Endpoint.{IsEndpoint};
-ghost use Rattle.link_payload.specs.Fields.{AreInRange, AreTimesInRange, IsPlainState, IsStored, IsTidyFields, IsTidyPing, state_answer_of, pong_answer_of, echoing};
+ghost use Rattle.link_payload.specs.Fields.{AreInRange, AreTimesInRange, IsStored, IsTidyFields, IsTidyPing, state_answer_of, pong_answer_of, echoing};
 ghost use Rattle.link_payload.specs.Items.{entries_of, cut_of};
 ghost use Rattle.link_payload.specs.Spelling.{spelled_state_of, spelled_ping_of, spelled_pong_of};
 
@@ -78,17 +78,10 @@ pub fn pong_reads_back()
         × (pong_answer_of es None ≡ Ok (echoing session ghost_time ping)) }
 {}
 
-/// Bytes spell one plain state at most.
-pub fn one_state()
-    ensures { (f g : PeerFields) → IsPlainState f → IsPlainState g
-        → spelled_state_of f ≡ spelled_state_of g → f ≡ g }
-{}
-
 /// How many bytes what is written has. The premises hold of all fields in code.
 pub fn payload_lens()
     ensures state { (f : PeerFields) → IsStored f
         → length (spelled_state_of f) ≡ (if is_some f.endpoint then 87 else 73) }
-    ensures plain { (f : PeerFields) → IsPlainState f → length (spelled_state_of f) ≡ 87 }
     ensures ping { (p : PingFields) → length (spelled_ping_of p) ≡ (if is_some p.previous then 32 else 16) }
     ensures pong { (session : NodeId) (ghost_time : ℤ) (echo : List ℕ) → length session.0 ≡ 8
         → length (spelled_pong_of session ghost_time echo) ≡ 32 + length echo }

@@ -1,7 +1,7 @@
 //! The ranges of the numbers that are taken off the wire.
 
 ghost use Rattle.std.specs.Prelude.{◌≡◌, ◌&&◌, pos, int_le, nat_le, unsigned_abs, ◌≤ℤ◌, ◌^◌, ◌↔◌, IsTrue, Some, None};
-ghost use Rattle.link_payload.specs.Fields.{AreInRange, answer_of, mpb_fault_of, limit_fault_of, state_range_faults_of, pong_range_faults_of};
+ghost use Rattle.link_payload.specs.Fields.{answer_of, mpb_fault_of, limit_fault_of, state_range_faults_of, pong_range_faults_of};
 
 use crate::fault::PayloadFault;
 use crate::fields::{PeerFields, PongFields};
@@ -57,24 +57,6 @@ fn limit_fault(key: u32, number: i64) -> Option<PayloadFault>
         return None;
     }
     Some(PayloadFault::OutOfRange { key, value: number })
-}
-
-pub fn are_in_range(fields: &PeerFields) -> bool
-    ensures { IsTrue result ↔ AreInRange fields.now }
-{
-    if !is_mpb(fields.timeline.mpb) {
-        return false;
-    }
-    if !is_within_limit(fields.timeline.beat) {
-        return false;
-    }
-    if !is_within_limit(fields.timeline.time) {
-        return false;
-    }
-    if !is_within_limit(fields.start.beats) {
-        return false;
-    }
-    is_within_limit(fields.start.stamp)
 }
 
 fn is_mpb(mpb: i64) -> bool

@@ -1,6 +1,6 @@
 use crate::{
-    Entry, PayloadFault, PeerFields, PingFields, PongFields, entries, read_plain_state, read_pong,
-    read_state, write_ping, write_pong, write_state,
+    Entry, PayloadFault, PeerFields, PingFields, PongFields, entries, read_pong, read_state,
+    write_ping, write_pong, write_state,
 };
 use lk_base::{Endpoint, NodeId, SessionStart, Timeline, Wire};
 
@@ -65,17 +65,6 @@ fn a_state_without_an_endpoint_has_three_entries(rt: HostRuntime) {
         out.as_slice(),
         joined(&[TIMELINE, SESSION, START]).as_slice()
     );
-}
-
-#[test]
-fn a_payload_is_read_where_it_is_written_so(rt: HostRuntime) {
-    let payload = joined(&[TIMELINE, SESSION, START, ENDPOINT]);
-    assert_eq!(rt; read_plain_state(&payload), Some(FIELDS));
-    let three = joined(&[TIMELINE, SESSION, START]);
-    assert_eq!(rt; read_plain_state(&three), None);
-    let exchanged = joined(&[SESSION, TIMELINE, START, ENDPOINT]);
-    assert_eq!(rt; read_plain_state(&exchanged), None);
-    assert_eq!(rt; read_plain_state(&[]), None);
 }
 
 #[test]

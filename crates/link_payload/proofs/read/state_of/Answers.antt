@@ -17,4 +17,4 @@ returns c =
     c.state_in_range.ensures
     ∙ state_tried
     (option_copied c.args.values.now.timeline) (option_copied c.args.values.now.session) (option_copied c.args.values.now.start) (option_copied c.args.values.now.endpoint) _ _ c.timeline_of.result c.from_bytes.result c.start_or_none.result c.endpoint_or_none.result
-    (ap option_copied c.in-Some.is) (ap option_copied c.in-Some-session.is) c.timeline_of.ensures.read c.from_bytes.ensures c.start_or_none.ensures c.endpoint_or_none.ensures
+    (ap option_copied c.in-Some.is) (ap option_copied c.in-Some-session.is) c.timeline_of.ensures c.from_bytes.ensures c.start_or_none.ensures c.endpoint_or_none.ensures
