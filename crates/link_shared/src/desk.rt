@@ -1,0 +1,134 @@
+//! What lies under the applications' lock.
+ghost use Rattle.std.specs.Prelude.{◌≡◌, ◌+◌, ◌<◌, List, [], ◌∷◌, ◌++◌, length, true, IfOk, IfErr, OnOk, MatchResult};
+ghost use Rattle.crossbeam_queue.specs.Passes.{view, ruled_capacity};
+ghost use Rattle.audio_handoff.specs.Cell.{Pair, NumbersNeverFall};
+ghost use Rattle.client_state.specs.Commit.{IsTidyCommit};
+ghost use Rattle.client_state.specs.declared.commit.Commit.{Commit};
+ghost use Rattle.link_shared.specs.Desk.{NoneIsNewer};
+
+use crate::capture::{Busy, QueueFull};
+use crate::name::LinkName;
+use crate::queue::{Hear, Heard, Item, Push, Queue, QueuePass, Show};
+use audio_handoff::{Read, StateCell};
+use client_state::Commit;
+use std::alloc::{AllocError, Global};
+use std::sync::Wait;
+use std::sync::ledger::{Book, Share};
+
+/// The one reader of the states for applications, the one pass that pushes, and the count and the ledger of the commits
+/// pushed.
+#[derive(Drop)]
+pub struct Desk<C: StateCell<9>, N: LinkName> {
+    pub(crate) reader: C::Reader,
+    pub(crate) pass: QueuePass,
+    /// How many commits were pushed.
+    pub(crate) pushed: u64,
+    pub(crate) book: Book<N>,
+    ghost reader_is: { (C.reading reader).cell ≡ N.app_states },
+    ghost never_falls: { NumbersNeverFall (C.reading reader).seen },
+    ghost none_is_newer: { NoneIsNewer (C.reading reader).number (C.reading reader).seen },
+    ghost pass_is: { (pass.table_id ≡ N.queue) × (pass.me.1 ≡ []) × ((view pass).pushes ≡ true) },
+    ghost counted: { pushed ≡ length (view pass).pushed },
+    ghost in_book: { book.total ≡ pushed },
+}
+
+impl<C: StateCell<9>, N: LinkName> Desk<C, N> {
+    ghost use Rattle.link_shared.specs.Passes.{WasFull, WasBusy};
+
+    /// Reads a state that is no older than any that the note's maker had read. Waits: by the way. Memory: a note.
+    pub(crate) fn read(
+        &mut self,
+        alloc: Global,
+        way: &C::Way,
+        cell: &C,
+        known: C::Note,
+    ) -> Result<(C::Note, Read<9>), AllocError>
+        requires cell { C.cell cell.now ≡ N.app_states }
+        requires known { (C.noting known).cell ≡ N.app_states }
+        ensures note { IfOk result (λ t. (C.noting t.0).cell ≡ N.app_states) }
+        ensures seen { IfOk result (λ t. (between : List Pair)
+            × ((C.noting t.0).seen ≡ ((C.noting known).seen ++ between) ++ (t.1.number, t.1.row) ∷ [])) }
+        ensures never_falls { IfOk result (λ t. NumbersNeverFall (C.noting t.0).seen) }
+    {
+        let Desk {
+            reader,
+            pass: _,
+            pushed: _,
+            book: _,
+        } = self;
+        cell.tell(way, reader, known);
+        let read = cell.read(way, reader);
+        let note = cell.note_of_reader(alloc, way, reader)?;
+        Ok((note, read))
+    }
+
+    /// Pushes the commit under the next number, and lets the pass know all commits pushed by then. Waits: for a place's
+    /// last user in the queue. Memory: none.
+    pub(crate) fn commit<R: Wait>(
+        &mut self,
+        rt: &R,
+        queue: &Queue,
+        pass: &mut QueuePass,
+        share: &mut Share<N>,
+        commit: Commit,
+    ) -> Result<u64, Busy>
+        requires queue { queue.now.table.shared.table_id ≡ N.queue }
+        requires places { ruled_capacity queue.now ≡ 256 }
+        requires pass { (pass.old.table_id ≡ N.queue) × (pass.old.me.1 ≡ []) }
+        requires share { 0 < share.old.parts }
+        requires commit { IsTidyCommit commit }
+        ensures pass { (pass.new.table_id ≡ N.queue) × (pass.new.me.1 ≡ []) }
+        ensures parts { share.new.parts ≡ share.old.parts }
+        ensures pushed { IfOk result (λ number. (between : List Commit)
+            × ((view pass.new).pushed ≡ ((view pass.old).pushed ++ between) ++ commit ∷ [])) }
+        ensures number { IfOk result (λ number. number ≡ length (view pass.new).pushed) }
+        ensures made { OnOk result (share.new.amount ≡ share.old.amount + 1) }
+        ensures sole { IfOk result (λ number. share.old.parts ≡ N.parts → share.new.amount ≡ number) }
+        ensures busy { IfErr result (λ busy. (busy.commit ≡ commit) × ((view pass.new).pushed ≡ (view pass.old).pushed)
+            × (share.new.amount ≡ share.old.amount) × WasBusy (view pass.old).pushed) }
+    {
+        let Desk {
+            reader: _,
+            pass: own,
+            pushed,
+            book,
+        } = self;
+        let known = queue.another::<Show>(pass);
+        queue.absorb::<Hear>(own, known);
+        queue.learn_as::<Heard>(own);
+        if *pushed >= 1 << 60 {
+            return Err(Busy { commit });
+        }
+        match queue.push_as::<Push, R>(rt, own, Item::Commit(commit)) {
+            Ok(()) => {}
+            Err(_) => return Err(Busy { commit }),
+        }
+        book.add(share, 1);
+        *pushed += 1;
+        book.audit(share);
+        *pass = queue.another::<Show>(own);
+        Ok(*pushed)
+    }
+
+    /// Pushes a quit. It is no commit, and has no number. Waits: for a place's last user in the queue. Memory: none.
+    pub(crate) fn quit<R: Wait>(&mut self, rt: &R, queue: &Queue) -> Result<(), QueueFull>
+        requires queue { queue.now.table.shared.table_id ≡ N.queue }
+        requires places { ruled_capacity queue.now ≡ 256 }
+        ensures pushed { (view self.new.pass).pushed ≡ (view self.old.pass).pushed }
+        ensures quits { MatchResult result
+            (λ _. (view self.new.pass).quits_pushed ≡ (view self.old.pass).quits_pushed + 1)
+            (λ _. (view self.new.pass).quits_pushed ≡ (view self.old.pass).quits_pushed) }
+        ensures full { IfErr result (λ _. WasFull (view self.old.pass).pushed) }
+    {
+        let Desk {
+            reader: _,
+            pass: own,
+            pushed: _,
+            book: _,
+        } = self;
+        match queue.push_as::<Push, R>(rt, own, Item::Quit) {
+            Ok(()) => Ok(()),
+            Err(_) => Err(QueueFull),
+        }
+    }
+}
