@@ -1,10 +1,10 @@
 //! What lies under the applications' lock.
-ghost use Rattle.std.specs.Prelude.{◌≡◌, ◌+◌, ◌<◌, List, [], ◌∷◌, ◌++◌, length, true, IfOk, IfErr, OnOk, MatchResult};
+ghost use Rattle.std.specs.Prelude.{◌≡◌, ◌+◌, ◌<◌, ◌≤◌, ◌^◌, List, [], ◌∷◌, ◌++◌, length, true, IfOk, IfErr, OnOk, OnErr, MatchResult};
 ghost use Rattle.crossbeam_queue.specs.Passes.{view, ruled_capacity};
 ghost use Rattle.audio_handoff.specs.Cell.{Pair, NumbersNeverFall};
 ghost use Rattle.client_state.specs.Commit.{IsTidyCommit};
 ghost use Rattle.client_state.specs.declared.commit.Commit.{Commit};
-ghost use Rattle.link_shared.specs.Desk.{NoneIsNewer};
+ghost use Rattle.link_shared.specs.Desk.{NoneIsNewer, RestsAsReader};
 
 use crate::capture::{Busy, QueueFull};
 use crate::name::LinkName;
@@ -12,6 +12,7 @@ use crate::queue::{Hear, Heard, Item, Push, Queue, QueuePass, Show};
 use audio_handoff::{Read, StateCell};
 use client_state::Commit;
 use std::alloc::{AllocError, Global};
+use std::mem;
 use std::sync::Wait;
 use std::sync::ledger::{Book, Share};
 
@@ -30,25 +31,30 @@ pub struct Desk<C: StateCell<9>, N: LinkName> {
     ghost pass_is: { (pass.table_id ≡ N.queue) × (pass.me.1 ≡ []) × ((view pass).pushes ≡ true) },
     ghost counted: { pushed ≡ length (view pass).pushed },
     ghost in_book: { book.total ≡ pushed },
+    ghost numbers_fit: { pushed ≤ 2 ^ 60 },
 }
 
 impl<C: StateCell<9>, N: LinkName> Desk<C, N> {
     ghost use Rattle.link_shared.specs.Passes.{WasFull, WasBusy};
 
-    /// Reads a state that is no older than any that the note's maker had read. Waits: by the way. Memory: a note.
+    /// Reads a state that is no older than any that the note's maker had read, and has the note replaced by one of it.
+    /// `known` is a copy of the note. Waits: by the way. Memory: a note; where it is refused, the note stays.
     pub(crate) fn read(
         &mut self,
         alloc: Global,
         way: &C::Way,
         cell: &C,
         known: C::Note,
-    ) -> Result<(C::Note, Read<9>), AllocError>
+        note: &mut C::Note,
+    ) -> Result<Read<9>, AllocError>
         requires cell { C.cell cell.now ≡ N.app_states }
         requires known { (C.noting known).cell ≡ N.app_states }
-        ensures note { IfOk result (λ t. (C.noting t.0).cell ≡ N.app_states) }
-        ensures seen { IfOk result (λ t. (between : List Pair)
-            × ((C.noting t.0).seen ≡ ((C.noting known).seen ++ between) ++ (t.1.number, t.1.row) ∷ [])) }
-        ensures never_falls { IfOk result (λ t. NumbersNeverFall (C.noting t.0).seen) }
+        requires note { (C.noting note.old).cell ≡ N.app_states }
+        ensures note { (C.noting note.new).cell ≡ N.app_states }
+        ensures seen { IfOk result (λ read. (between : List Pair)
+            × ((C.noting note.new).seen ≡ ((C.noting known).seen ++ between) ++ (read.number, read.row) ∷ [])) }
+        ensures never_falls { IfOk result (λ _. NumbersNeverFall (C.noting note.new).seen) }
+        ensures refused { OnErr result (C.noting note.new ≡ C.noting note.old) }
     {
         let Desk {
             reader,
@@ -56,10 +62,7 @@ impl<C: StateCell<9>, N: LinkName> Desk<C, N> {
             pushed: _,
             book: _,
         } = self;
-        cell.tell(way, reader, known);
-        let read = cell.read(way, reader);
-        let note = cell.note_of_reader(alloc, way, reader)?;
-        Ok((note, read))
+        read_anew::<C>(reader, alloc, way, cell, known, note)
     }
 
     /// Pushes the commit under the next number, and lets the pass know all commits pushed by then. Waits: for a place's
@@ -118,7 +121,9 @@ impl<C: StateCell<9>, N: LinkName> Desk<C, N> {
         ensures quits { MatchResult result
             (λ _. (view self.new.pass).quits_pushed ≡ (view self.old.pass).quits_pushed + 1)
             (λ _. (view self.new.pass).quits_pushed ≡ (view self.old.pass).quits_pushed) }
-        ensures full { IfErr result (λ _. WasFull (view self.old.pass).pushed) }
+        ensures full { OnErr result (WasFull (view self.old.pass).pushed) }
+        ensures others { (C.reading self.new.reader ≡ C.reading self.old.reader) × (self.new.pushed ≡ self.old.pushed)
+            × (self.new.book.total ≡ self.old.book.total) }
     {
         let Desk {
             reader: _,
@@ -131,4 +136,33 @@ impl<C: StateCell<9>, N: LinkName> Desk<C, N> {
             Err(_) => Err(QueueFull),
         }
     }
+}
+
+// Reads by a reader that has been told a copy of the note, and has the note replaced by one of what was read.
+fn read_anew<C: StateCell<9>>(
+    reader: &mut C::Reader,
+    alloc: Global,
+    way: &C::Way,
+    cell: &C,
+    known: C::Note,
+    note: &mut C::Note,
+) -> Result<Read<9>, AllocError>
+    requires reader { (C.reading reader.old).cell ≡ C.cell cell.now }
+    requires known { (C.noting known).cell ≡ C.cell cell.now }
+    requires note { (C.noting note.old).cell ≡ C.cell cell.now }
+    requires rests { RestsAsReader (C.reading reader.old) }
+    ensures reader { (C.reading reader.new).cell ≡ C.cell cell.now }
+    ensures note { (C.noting note.new).cell ≡ C.cell cell.now }
+    ensures rests { RestsAsReader (C.reading reader.new) }
+    ensures seen { IfOk result (λ read. (between : List Pair)
+        × ((C.noting note.new).seen ≡ ((C.noting known).seen ++ between) ++ (read.number, read.row) ∷ [])) }
+    ensures never_falls { IfOk result (λ _. NumbersNeverFall (C.noting note.new).seen) }
+    ensures refused { OnErr result (C.noting note.new ≡ C.noting note.old) }
+{
+    cell.tell(way, reader, known);
+    let read = cell.read(way, reader);
+    let new = cell.note_of_reader(alloc, way, reader)?;
+    let old = mem::replace(note, new);
+    cell.tell(way, reader, old);
+    Ok(read)
 }

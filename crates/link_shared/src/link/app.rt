@@ -108,10 +108,11 @@ impl<C: StateCell<9>, N: LinkName> Link<C, N> {
             own,
             room: _,
         } = pass;
-        let copy = self.app_states.copy_note(alloc, way, note)?;
-        let mut desk = self.desk.lock(rt);
-        let (new, read) = desk.read(alloc, way, &self.app_states, copy)?;
-        *note = new;
+        let known = self.app_states.copy_note(alloc, way, note)?;
+        let read = self
+            .desk
+            .lock(rt)
+            .read(alloc, way, &self.app_states, known, note)?;
         let state = State::from_row(&read.row);
         Ok(Capture {
             number: read.number,
