@@ -8,7 +8,7 @@ ghost use Rattle.link_shared.specs.Desk.{NoneIsNewer, RestsAsReader};
 
 use crate::capture::{Busy, QueueFull};
 use crate::name::LinkName;
-use crate::queue::{Hear, Heard, Item, Push, Queue, QueuePass, Show};
+use crate::queue::{Item, Push, Queue, QueuePass, Show, hear_pass};
 use audio_handoff::{Read, StateCell};
 use client_state::Commit;
 use std::alloc::{AllocError, Global};
@@ -97,8 +97,7 @@ impl<C: StateCell<9>, N: LinkName> Desk<C, N> {
             book,
         } = self;
         let known = queue.another::<Show>(pass);
-        queue.absorb::<Hear>(own, known);
-        queue.learn_as::<Heard>(own);
+        hear_pass(queue, own, known);
         if *pushed >= 1 << 60 {
             return Err(Busy { commit });
         }

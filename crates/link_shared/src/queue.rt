@@ -1,10 +1,16 @@
-//! The queue of the applications' commits: its items, and its rule.
-ghost use Rattle.link_shared.specs.Queue.{Pushed, Popped, SeesBacklog, SeesRest, SeesHeard, pushing_part, popping_part, shown_part, after_hearing, whole_of, knower};
+//! The queue of the applications' commits: its items, its rule, and the moves of its passes.
+ghost use Rattle.std.specs.Prelude.{◌≡◌, true, IfOk, MatchOption};
+ghost use Rattle.crossbeam_queue.specs.Fifo.{Held};
+ghost use Rattle.crossbeam_queue.specs.Passes.{view, IsSamePass, IsPassOf, ruled_capacity};
+ghost use Rattle.audio_handoff.specs.Cell.{Grows};
+ghost use Rattle.link_shared.specs.Queue.{Pushed, Popped, SeesBacklog, SeesRest, SeesHeard, pushing_part, popping_part, shown_part, after_hearing, whole_of, knower, opener};
 
 use client_state::Commit;
 use crossbeam_queue::protocol::{Join, Lesson, Outcome, Protocol, Split};
 use crossbeam_queue::{Pass, RuledArrayQueue};
+use std::alloc::{AllocError, Global};
 use std::collections::LinkedList;
+use std::sync::Wait;
 
 /// What the queue holds.
 #[derive(Clone, Copy, Debug, PartialEq, Eq)]
@@ -114,3 +120,50 @@ pub const PLACES: usize = 256;
 pub type Queue = RuledArrayQueue<Item, Hand, InOrder>;
 
 pub type QueuePass = Pass<Item, Hand>;
+
+/// An empty queue, with the pass that pushes and the pass that pops. Memory: the queue.
+pub(crate) fn open(alloc: Global) -> Result<(Queue, QueuePass, QueuePass), AllocError>
+    ensures places { IfOk result (λ t. ruled_capacity t.0 ≡ 256) }
+    ensures passes { IfOk result (λ t. IsPassOf t.0 t.1 × IsPassOf t.0 t.2) }
+    ensures ends { IfOk result (λ t. (view t.1 ≡ pushing_part opener) × (view t.2 ≡ popping_part opener)) }
+{
+    let (queue, mut pushing) = Queue::ruled(alloc, PLACES)?;
+    let popping = queue.another::<Part>(&mut pushing);
+    Ok((queue, pushing, popping))
+}
+
+/// Takes the oldest item. Where there is none, the queue was empty at a step of the call. Waits: for a place's last user.
+/// Memory: none.
+pub(crate) fn pop_item<R: Wait>(rt: &R, queue: &Queue, pass: &mut QueuePass) -> Option<Item>
+    requires queue { IsPassOf queue.now pass.old }
+    requires pops { (view pass.old).pops ≡ true }
+    ensures queue { IsSamePass pass.old pass.new }
+    ensures popped { MatchOption result
+        ((view pass.new ≡ view pass.old) × Held 0 (SeesRest (view pass.old)))
+        (λ item. Popped (view pass.old) item (view pass.new)) }
+{
+    queue.pop_as::<Pop, R>(rt, pass)
+}
+
+/// Lets the pass that pushes take in what another pass knows: a beginning of what it knows itself. Waits: no. Memory: none.
+pub(crate) fn hear_pass(queue: &Queue, own: &mut QueuePass, other: QueuePass)
+    requires queue { IsPassOf queue.now own.old × IsPassOf queue.now other }
+    requires pushes { (view own.old).pushes ≡ true }
+    ensures queue { IsSamePass own.old own.new }
+    ensures heard { view own.new ≡ after_hearing (view own.old) (view other) }
+    ensures known { Grows (view other).pushed (view own.old).pushed }
+{
+    queue.absorb::<Hear>(own, other);
+    queue.learn_as::<Heard>(own);
+}
+
+/// Lets the pass that pops take in the pass that pushes. Waits: no. Memory: none.
+pub(crate) fn join_ends(queue: &Queue, popping: &mut QueuePass, pushing: QueuePass)
+    requires queue { IsPassOf queue.now popping.old × IsPassOf queue.now pushing }
+    requires pops { (view popping.old).pops ≡ true }
+    requires pushes { (view pushing).pushes ≡ true }
+    ensures queue { IsSamePass popping.old popping.new }
+    ensures whole { view popping.new ≡ whole_of (view popping.old) (view pushing) }
+{
+    queue.absorb::<Whole>(popping, pushing);
+}
