@@ -8,7 +8,7 @@ ghost use Rattle.link_shared.specs.Desk.{NoneIsNewer, RestsAsReader};
 
 use crate::capture::{Busy, QueueFull};
 use crate::name::LinkName;
-use crate::queue::{Item, Push, Queue, QueuePass, Show, hear_pass};
+use crate::queue::{Item, Push, Queue, QueuePass, hear_pass, show_pass};
 use audio_handoff::{Read, StateCell};
 use client_state::Commit;
 use std::alloc::{AllocError, Global};
@@ -96,7 +96,7 @@ impl<C: StateCell<9>, N: LinkName> Desk<C, N> {
             pushed,
             book,
         } = self;
-        let known = queue.another::<Show>(pass);
+        let known = show_pass(queue, pass);
         hear_pass(queue, own, known);
         if *pushed >= 1 << 60 {
             return Err(Busy { commit });
@@ -108,7 +108,7 @@ impl<C: StateCell<9>, N: LinkName> Desk<C, N> {
         book.add(share, 1);
         *pushed += 1;
         book.audit(share);
-        *pass = queue.another::<Show>(own);
+        *pass = show_pass(queue, own);
         Ok(*pushed)
     }
 

@@ -9,6 +9,8 @@ mod desk;
 mod link;
 mod name;
 mod queue;
+#[cfg(test)]
+mod tests;
 
 pub use capture::{Busy, Capture, QueueFull};
 pub use link::{AppPass, Link};

@@ -132,6 +132,16 @@ pub(crate) fn open(alloc: Global) -> Result<(Queue, QueuePass, QueuePass), Alloc
     Ok((queue, pushing, popping))
 }
 
+/// A further pass, with what this one knows of the commits pushed. Waits: no. Memory: none.
+pub(crate) fn show_pass(queue: &Queue, pass: &mut QueuePass) -> QueuePass
+    requires queue { IsPassOf queue.now pass.old }
+    ensures queue { IsSamePass pass.old pass.new × IsPassOf queue.now result }
+    ensures same { view pass.new ≡ view pass.old }
+    ensures shown { view result ≡ shown_part (view pass.old) }
+{
+    queue.another::<Show>(pass)
+}
+
 /// Takes the oldest item. Where there is none, the queue was empty at a step of the call. Waits: for a place's last user.
 /// Memory: none.
 pub(crate) fn pop_item<R: Wait>(rt: &R, queue: &Queue, pass: &mut QueuePass) -> Option<Item>

@@ -8,7 +8,7 @@ ghost use Rattle.link_shared.specs.Passes.{AppView, further_of, after_passing, H
 use super::Link;
 use crate::capture::{Busy, Capture, QueueFull};
 use crate::name::LinkName;
-use crate::queue::{QueuePass, Show};
+use crate::queue::{QueuePass, show_pass};
 use audio_handoff::StateCell;
 use client_state::{Commit, Own, State, shown};
 use std::alloc::{AllocError, Global};
@@ -81,7 +81,7 @@ impl<C: StateCell<9>, N: LinkName> Link<C, N> {
         *room -= 1;
         Ok(AppPass {
             note: copy,
-            pass: self.queue.another::<Show>(known),
+            pass: show_pass(&self.queue, known),
             share: none,
             own: Own { last: None },
             room: 0,
