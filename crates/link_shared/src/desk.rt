@@ -38,7 +38,8 @@ impl<C: StateCell<9>, N: LinkName> Desk<C, N> {
     ghost use Rattle.link_shared.specs.Passes.{WasFull, WasBusy};
 
     /// Reads a state that is no older than any that the note's maker had read, and has the note replaced by one of it.
-    /// `known` is a copy of the note. Waits: by the way. Memory: a note; where it is refused, the note stays.
+    /// `known` is a copy of the note. Without memory the note stays.
+    /// Waits: by the way. Memory: a note.
     pub(crate) fn read(
         &mut self,
         alloc: Global,
@@ -56,17 +57,12 @@ impl<C: StateCell<9>, N: LinkName> Desk<C, N> {
         ensures never_falls { IfOk result (λ _. NumbersNeverFall (C.noting note.new).seen) }
         ensures refused { OnErr result (C.noting note.new ≡ C.noting note.old) }
     {
-        let Desk {
-            reader,
-            pass: _,
-            pushed: _,
-            book: _,
-        } = self;
+        let Desk { reader, .. } = self;
         read_anew::<C>(reader, alloc, way, cell, known, note)
     }
 
-    /// Pushes the commit under the next number, and lets the pass know all commits pushed by then. Waits: for a place's
-    /// last user in the queue. Memory: none.
+    /// Pushes the commit under the next number, and lets the pass know all commits pushed by then.
+    /// Waits: for a place's last user in the queue. Memory: none.
     pub(crate) fn commit<R: Wait>(
         &mut self,
         rt: &R,
@@ -91,10 +87,10 @@ impl<C: StateCell<9>, N: LinkName> Desk<C, N> {
             × (share.new.amount ≡ share.old.amount) × WasBusy (view pass.old).pushed) }
     {
         let Desk {
-            reader: _,
             pass: own,
             pushed,
             book,
+            ..
         } = self;
         let known = show_pass(queue, pass);
         hear_pass(queue, own, known);
@@ -112,7 +108,8 @@ impl<C: StateCell<9>, N: LinkName> Desk<C, N> {
         Ok(*pushed)
     }
 
-    /// Pushes a quit. It is no commit, and has no number. Waits: for a place's last user in the queue. Memory: none.
+    /// Pushes a quit. It is no commit, and has no number.
+    /// Waits: for a place's last user in the queue. Memory: none.
     pub(crate) fn quit<R: Wait>(&mut self, rt: &R, queue: &Queue) -> Result<(), QueueFull>
         requires queue { queue.now.table.shared.table_id ≡ N.queue }
         requires places { ruled_capacity queue.now ≡ 256 }
@@ -124,12 +121,7 @@ impl<C: StateCell<9>, N: LinkName> Desk<C, N> {
         ensures others { (C.reading self.new.reader ≡ C.reading self.old.reader) × (self.new.pushed ≡ self.old.pushed)
             × (self.new.book.total ≡ self.old.book.total) }
     {
-        let Desk {
-            reader: _,
-            pass: own,
-            pushed: _,
-            book: _,
-        } = self;
+        let Desk { pass: own, .. } = self;
         match queue.push_as::<Push, R>(rt, own, Item::Quit) {
             Ok(()) => Ok(()),
             Err(_) => Err(QueueFull),

@@ -121,7 +121,8 @@ pub type Queue = RuledArrayQueue<Item, Hand, InOrder>;
 
 pub type QueuePass = Pass<Item, Hand>;
 
-/// An empty queue, with the pass that pushes and the pass that pops. Memory: the queue.
+/// An empty queue, with the pass that pushes and the pass that pops.
+/// Waits: no. Memory: the queue.
 pub(crate) fn open(alloc: Global) -> Result<(Queue, QueuePass, QueuePass), AllocError>
     ensures places { IfOk result (λ t. ruled_capacity t.0 ≡ 256) }
     ensures passes { IfOk result (λ t. IsPassOf t.0 t.1 × IsPassOf t.0 t.2) }
@@ -132,7 +133,8 @@ pub(crate) fn open(alloc: Global) -> Result<(Queue, QueuePass, QueuePass), Alloc
     Ok((queue, pushing, popping))
 }
 
-/// A further pass, with what this one knows of the commits pushed. Waits: no. Memory: none.
+/// A further pass, with what this one knows of the commits pushed.
+/// Waits: no. Memory: none.
 pub(crate) fn show_pass(queue: &Queue, pass: &mut QueuePass) -> QueuePass
     requires queue { IsPassOf queue.now pass.old }
     ensures queue { IsSamePass pass.old pass.new × IsPassOf queue.now result }
@@ -142,8 +144,8 @@ pub(crate) fn show_pass(queue: &Queue, pass: &mut QueuePass) -> QueuePass
     queue.another::<Show>(pass)
 }
 
-/// Takes the oldest item. Where there is none, the queue was empty at a step of the call. Waits: for a place's last user.
-/// Memory: none.
+/// Takes the oldest item. Where there is none, the queue was empty at a step of the call.
+/// Waits: for a place's last user. Memory: none.
 pub(crate) fn pop_item<R: Wait>(rt: &R, queue: &Queue, pass: &mut QueuePass) -> Option<Item>
     requires queue { IsPassOf queue.now pass.old }
     requires pops { (view pass.old).pops ≡ true }
@@ -155,7 +157,8 @@ pub(crate) fn pop_item<R: Wait>(rt: &R, queue: &Queue, pass: &mut QueuePass) -> 
     queue.pop_as::<Pop, R>(rt, pass)
 }
 
-/// Lets the pass that pushes take in what another pass knows: a beginning of what it knows itself. Waits: no. Memory: none.
+/// Lets the pass that pushes take in what another pass knows: a beginning of what it knows itself.
+/// Waits: no. Memory: none.
 pub(crate) fn hear_pass(queue: &Queue, own: &mut QueuePass, other: QueuePass)
     requires queue { IsPassOf queue.now own.old × IsPassOf queue.now other }
     requires pushes { (view own.old).pushes ≡ true }
@@ -167,7 +170,8 @@ pub(crate) fn hear_pass(queue: &Queue, own: &mut QueuePass, other: QueuePass)
     queue.learn_as::<Heard>(own);
 }
 
-/// Lets the pass that pops take in the pass that pushes. Waits: no. Memory: none.
+/// Lets the pass that pops take in the pass that pushes.
+/// Waits: no. Memory: none.
 pub(crate) fn join_ends(queue: &Queue, popping: &mut QueuePass, pushing: QueuePass)
     requires queue { IsPassOf queue.now popping.old × IsPassOf queue.now pushing }
     requires pops { (view popping.old).pops ≡ true }

@@ -45,7 +45,8 @@ impl<C: StateCell<9>, N: LinkName> Model for AppPass<C, N> {
 }
 
 impl<C: StateCell<9>, N: LinkName> AppPass<C, N> {
-    /// How many further passes can be made from this one, 65,535 at the first pass of a link. Waits: no. Memory: none.
+    /// How many further passes can be made from this one, 65,535 at the first pass of a link.
+    /// Waits: no. Memory: none.
     pub fn room(&self) -> u64
         ensures { result ≡ self.now.room }
     {
@@ -54,8 +55,9 @@ impl<C: StateCell<9>, N: LinkName> AppPass<C, N> {
 }
 
 impl<C: StateCell<9>, N: LinkName> Link<C, N> {
-    /// A further pass, for another thread. It has captured what the given pass has, and has committed nothing. Waits: by
-    /// the way. Memory: a note.
+    /// A further pass, for another thread. It has captured what the given pass has, and has committed nothing. Without
+    /// memory the given pass stays as it was.
+    /// Waits: by the way. Memory: a note.
     pub fn app_pass<R: Wait>(
         &self,
         _rt: &R,
@@ -72,8 +74,8 @@ impl<C: StateCell<9>, N: LinkName> Link<C, N> {
             note,
             pass: known,
             share,
-            own: _,
             room,
+            ..
         } = pass;
         let copy = self.app_states.copy_note(alloc, way, note)?;
         let mut none = share.empty();
@@ -89,6 +91,7 @@ impl<C: StateCell<9>, N: LinkName> Link<C, N> {
     }
 
     /// A state that was published, and what this pass is shown. It is no older than any that this pass has captured.
+    /// Without memory the pass stays as it was.
     /// Waits: for the desk, and by the way. Memory: two notes.
     pub fn capture<R: Wait>(
         &self,
@@ -101,13 +104,7 @@ impl<C: StateCell<9>, N: LinkName> Link<C, N> {
         ensures tidy { IfOk result (λ c. IsTidyState c.state × IsTidyState c.shown) }
         ensures refused { OnErr result (pass.new ≡ pass.old) }
     {
-        let AppPass {
-            note,
-            pass: _,
-            share: _,
-            own,
-            room: _,
-        } = pass;
+        let AppPass { note, own, .. } = pass;
         let known = self.app_states.copy_note(alloc, way, note)?;
         let read = self
             .desk
@@ -123,7 +120,8 @@ impl<C: StateCell<9>, N: LinkName> Link<C, N> {
 
     /// Hands a tidy commit to the session, and answers its number: how many commits were pushed then, of all passes.
     /// It comes back, and nothing changes, only where the queue was full at a step of this call, or 2^60 commits were
-    /// pushed before. Waits: for the desk. Memory: none.
+    /// pushed before.
+    /// Waits: for the desk, and for a place's last user in the queue. Memory: none.
     pub fn commit<R: Wait>(
         &self,
         rt: &R,
@@ -135,11 +133,10 @@ impl<C: StateCell<9>, N: LinkName> Link<C, N> {
         ensures busy { IfErr result (λ busy. (busy.commit ≡ commit) × (pass.new ≡ pass.old) × WasBusy pass.old.pushed) }
     {
         let AppPass {
-            note: _,
             pass: known,
             share,
             own,
-            room: _,
+            ..
         } = pass;
         let mut desk = self.desk.lock(rt);
         let number = desk.commit(rt, &self.queue, known, share, commit)?;
@@ -147,8 +144,9 @@ impl<C: StateCell<9>, N: LinkName> Link<C, N> {
         Ok(number)
     }
 
-    /// Asks the network thread to end, after all commits that were pushed before. `QueueFull` only where the queue was full
-    /// at a step of this call. Waits: for the desk. Memory: none.
+    /// Asks the network thread to end, after all commits that were pushed before. `QueueFull` only where the queue was
+    /// full at a step of this call.
+    /// Waits: for the desk, and for a place's last user in the queue. Memory: none.
     pub fn quit<R: Wait>(&self, rt: &R) -> Result<(), QueueFull>
         ensures full { OnErr result (WasFull []) }
     {
