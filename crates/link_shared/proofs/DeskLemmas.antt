@@ -1,16 +1,9 @@
 -- What the desk's reader keeps through its calls.
-use Rattle.std.proofs.Common.{◌≡◌, ℕ, ◌^◌, ◌≤◌, true, length, inl, inr, List, [], ◌∷◌, ◌++◌, sym, ap, ◌∙◌, subst, arith}
+use Rattle.std.proofs.Common.{◌≡◌, ℕ, ◌≤◌, List, [], ◌∷◌, ◌++◌, sym, subst, arith}
 use mathlib.Core.Option.{some}
 use lib.ListN.{get_elem?}
-use Rattle.crossbeam_queue.specs.Fifo.{Held}
-use Rattle.audio_handoff.specs.Cell.{Pair, ReaderView, Grows, NumbersNeverFall, IsOneRead}
+use Rattle.audio_handoff.specs.Cell.{Pair, ReaderView, NumbersNeverFall, IsOneRead}
 use Rattle.audio_handoff.proofs.CellLists.{newest_pair, never_fall_more}
-use Rattle.client_state.specs.declared.commit.Commit.{Commit}
-use Rattle.link_shared.specs.declared.queue.Hand.{Hand}
-use Rattle.link_shared.specs.declared.queue.Item.{Item}
-use Rattle.link_shared.specs.declared.queue.Item.TheVariants as item
-use Rattle.link_shared.specs.Passes.{WasBusy}
-use Rattle.link_shared.specs.Queue.{shown_part, after_hearing, after_push, SeesHeard, SeesBacklog}
 use Rattle.link_shared.specs.Desk.{NoneIsNewer, RestsAsReader}
 
 pub rests_after_read : (before after : ReaderView) (number : ℕ) (row : List ℕ) → RestsAsReader before → IsOneRead before after number row → after.number ≡ number → before.number ≤ number → RestsAsReader after

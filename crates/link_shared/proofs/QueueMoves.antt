@@ -1,5 +1,5 @@
 -- Each move of a pass keeps the queue's rule.
-use Rattle.std.proofs.Common.{◌≡◌, ◌≢◌, ◌⊎◌, ℕ, zero, suc, ◌+◌, true, false, true≢false, List, [], ◌∷◌, ◌++◌, length, set, sym, refl, ap, ◌∙◌, subst, ⊎_elim, append_assoc, arith}
+use Rattle.std.proofs.Common.{◌≡◌, ◌≢◌, ℕ, zero, suc, ◌+◌, true, false, true≢false, List, [], ◌∷◌, ◌++◌, length, set, sym, refl, ap, ◌∙◌, subst, ⊎_elim, append_assoc, arith}
 use mathlib.Core.Option.{some, some-ne-none, some-injective}
 use lib.ListN.{get_elem?}
 use Rattle.crossbeam_queue.specs.Fifo.{Pushes, Pops, Forks, Merges, Learns}
@@ -10,7 +10,7 @@ use Rattle.client_state.specs.declared.commit.Commit.{Commit}
 use Rattle.link_shared.specs.declared.queue.Hand.{Hand}
 use Rattle.link_shared.specs.declared.queue.Item.{Item}
 use Rattle.link_shared.specs.declared.queue.Item.TheVariants as item
-use Rattle.link_shared.specs.Queue.{commits_in, quits_in, IsTidyItem, AreTidyItems, Flow, FitsFlow, IsKept, knower, opener, pushing_part, popping_part, shown_part, after_hearing, whole_of, after_push, after_pop, Pushed, Popped, IsBacklog, SeesBacklog, SeesRest, SeesHeard}
+use Rattle.link_shared.specs.Queue.{commits_in, quits_in, IsTidyItem, AreTidyItems, Flow, FitsFlow, IsKept, knower, opener, pushing_part, popping_part, shown_part, after_hearing, whole_of, after_push, after_pop, Pushed, Popped, SeesBacklog, SeesRest, SeesHeard}
 
 -- ---- items
 

@@ -1,4 +1,4 @@
-use Rattle.std.proofs.Common.{refl, rules}
+use Rattle.std.proofs.Common.{rules}
 use Rattle.link_shared.proofs.QueueMoves.{begins, parts}
 use Rattle.link_shared.proofs.queue.open.Goals as goal
 
