@@ -4,3 +4,4 @@ pub mod OneLemmas
 pub mod SentLemmas
 pub mod ShortPingLemmas
 pub mod ReadingLemmas
+pub mod LinkLemmas

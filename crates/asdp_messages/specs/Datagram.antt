@@ -134,3 +134,14 @@ IsReadAs bytes answer =
 abbrev pub AreAllRead : Type 0
 AreAllRead =
     (bytes : List ℕ) → AreBytes bytes → length bytes < 2 ^ 32 → (reading : Result MessageValue WireFault) × IsReadAs bytes reading
+
+-- it is read as no state of a peer
+abbrev pub TellsNoState : Result MessageValue WireFault → Type 0
+TellsNoState (Ok (Alive m)) = ⊥
+TellsNoState (Ok (Response m)) = ⊥
+TellsNoState (Ok (Bye from ttl group)) = Unit {0}
+TellsNoState (Ok (Ping payload)) = Unit {0}
+TellsNoState (Ok (Pong fields)) = Unit {0}
+TellsNoState (Ok (OtherDiscovery kind)) = Unit {0}
+TellsNoState (Ok (OtherLink kind)) = Unit {0}
+TellsNoState (Err fault) = Unit {0}

@@ -1,12 +1,15 @@
 //! Laws of the spelling, for proofs alone: to call one is to know it.
 
-ghost use Rattle.std.specs.Prelude.{◌≡◌, ◌<◌, ◌^◌, ℕ, List, Result, Ok, length};
+ghost use Rattle.std.specs.Prelude.{◌≡◌, ◌<◌, ◌^◌, ℕ, ℤ, List, Result, Ok, length};
 ghost use Rattle.link_payload.specs.Entries.{AreBytes};
 ghost use Rattle.asdp_messages.specs.declared.fault.WireFault.{WireFault};
 ghost use Rattle.asdp_messages.specs.declared.message.StateMsg.{StateMsg};
-ghost use Rattle.asdp_messages.specs.Datagram.{AreAllRead, HasShortPing, IsInRange, IsReadAs, MessageValue};
+ghost use Rattle.asdp_messages.specs.Datagram.{AreAllRead, HasShortPing, IsInRange, IsReadAs, MessageValue, TellsNoState};
 ghost use Rattle.asdp_messages.specs.Reading.{reading_of};
+ghost use Rattle.asdp_messages.specs.Spelling as written;
 ghost use Rattle.asdp_messages.specs.Spelling.{Written, spelled_of};
+ghost use Rattle.link_payload.specs.declared.fields.PingFields.{PingFields};
+ghost use Rattle.lk_base.specs.declared.ids.NodeId.{NodeId};
 ghost use Rattle.asdp_messages.specs.Written.{IsTidyWritten, Says};
 
 use link_payload::{
@@ -67,3 +70,10 @@ pub fn written_is_read()
     state_reads_back();
     pong_reads_back();
 }
+
+/// Pings and pongs are read as no state of a peer, whatever they carry.
+pub fn measurements_tell_no_state()
+    ensures ping { (ping : PingFields) → TellsNoState (reading_of (spelled_of (written.Ping ping))) }
+    ensures pong { (session : NodeId) (ghost_time : ℤ) (echo : List ℕ)
+        → TellsNoState (reading_of (spelled_of (written.Pong session ghost_time echo))) }
+{}

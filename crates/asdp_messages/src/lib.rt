@@ -15,7 +15,8 @@ mod write;
 
 pub use fault::WireFault;
 pub use laws::{
-    all_are_read, one_reading, one_reading_each, ping_payload_len, read_messages, written_is_read,
+    all_are_read, measurements_tell_no_state, one_reading, one_reading_each, ping_payload_len,
+    read_messages, written_is_read,
 };
 pub use message::{Message, StateMsg};
 pub use read::read_datagram;
