@@ -1,0 +1,19 @@
+//! The machine: one event after another in, datagrams to send and states to show out. A node is a pure function of its
+//! events; it knows no clock, no socket and no thread.
+//!
+//! In reading order: `config`, `event`, `sends`, `node`, and then a file a rule, in the order in which the rules of an event run:
+//! `node/arrival`, `node/taking`, `node/measuring`, `node/client`, `node/commits`, `node/tick`, `node/settling`,
+//! `node/telling`, `node/broadcast`, `node/publishing`, `node/due`; last `laws`.
+#![tactic(auto)]
+
+mod config;
+mod event;
+mod node;
+mod sends;
+#[cfg(test)]
+mod tests;
+
+pub use config::{Config, GateSetup};
+pub use event::{Change, Event};
+pub use node::Node;
+pub use sends::{Sending, Sends};
