@@ -4,3 +4,4 @@ pub mod DatagramLemmas
 pub mod OneLemmas
 pub mod SentLemmas
 pub mod ReadingLemmas
+pub mod FunctionLemmas

@@ -9,7 +9,7 @@ use Rattle.link_payload.specs.declared.fields.PeerFields.{PeerFields}
 use Rattle.link_payload.specs.declared.fields.PongFields.{PongFields}
 use Rattle.link_payload.specs.Entries.{EntryValue, AreBytes, AreEntriesIn}
 use Rattle.lk_base.specs.Endpoint.{IsEndpoint}
-use Rattle.link_payload.specs.Fields.{AreInRange, state_answer_of, pong_answer_of}
+use Rattle.link_payload.specs.Fields.{AreInRange, AreTimesInRange, state_answer_of, pong_answer_of}
 use Rattle.asdp_messages.specs.declared.fault.WireFault.{WireFault}
 use Rattle.asdp_messages.specs.declared.fault.WireFault.TheVariants.{Short, NotLink, TooLong, Payload}
 use Rattle.asdp_messages.specs.declared.message.Message.{Message}
@@ -36,6 +36,16 @@ pub data MessageValue : Type 0 where
   Pong : PongFields → MessageValue
   OtherDiscovery : (kind : ℕ) → MessageValue
   OtherLink : (kind : ℕ) → MessageValue
+
+-- the numbers of a state, or the times of a pong, are in the ranges that are taken off the wire
+abbrev pub IsInRange : MessageValue → Type 0
+IsInRange (Alive m) = AreInRange m.fields
+IsInRange (Response m) = AreInRange m.fields
+IsInRange (Bye from ttl group) = Unit {0}
+IsInRange (Ping payload) = Unit {0}
+IsInRange (Pong fields) = AreTimesInRange fields
+IsInRange (OtherDiscovery kind) = Unit {0}
+IsInRange (OtherLink kind) = Unit {0}
 
 -- what a message of code says
 abbrev pub message_value : Message → MessageValue

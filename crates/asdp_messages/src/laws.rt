@@ -1,14 +1,17 @@
 //! Laws of the spelling, for proofs alone: to call one is to know it.
 
-ghost use Rattle.std.specs.Prelude.{◌≡◌, ◌≤◌, ℕ, List, Result, Ok, length};
+ghost use Rattle.std.specs.Prelude.{◌≡◌, ◌≤◌, ◌<◌, ◌^◌, ℕ, List, Result, Ok, length};
+ghost use Rattle.link_payload.specs.Entries.{AreBytes};
 ghost use Rattle.asdp_messages.specs.declared.fault.WireFault.{WireFault};
 ghost use Rattle.asdp_messages.specs.declared.message.StateMsg.{StateMsg};
-ghost use Rattle.asdp_messages.specs.Datagram.{AreAllRead, IsPlainAlive, IsReadAs, MessageValue, Ping};
+ghost use Rattle.asdp_messages.specs.Datagram.{AreAllRead, IsInRange, IsPlainAlive, IsReadAs, MessageValue, Ping};
+ghost use Rattle.asdp_messages.specs.Reading.{reading_of};
 ghost use Rattle.asdp_messages.specs.Spelling.{Written, spelled_of, spelled_alive_of};
 ghost use Rattle.asdp_messages.specs.Written.{IsTidyWritten, Says};
 
 use link_payload::{
-    one_spelling, one_state, payload_lens, pong_reads_back, spelled_or_cut, state_reads_back,
+    answered_fields, one_spelling, one_state, payload_lens, pong_reads_back, spelled_or_cut,
+    state_reads_back,
 };
 
 /// A datagram is read in one way only.
@@ -18,6 +21,25 @@ pub fn one_reading()
 {
     one_spelling();
     spelled_or_cut();
+}
+
+/// The function gives a reading, and so the only one.
+pub fn one_reading_each()
+    ensures { (bytes : List ℕ) → AreBytes bytes → length bytes < 2 ^ 32
+        → IsReadAs bytes (reading_of bytes) }
+{
+    spelled_or_cut();
+}
+
+/// What is read as a message has its numbers in the ranges that are taken off the wire, and the
+/// function reads that message too. That a byte is below 256 is no premise.
+pub fn read_messages()
+    ensures ranges { (bytes : List ℕ) (m : MessageValue) → IsReadAs bytes (Ok m) → IsInRange m }
+    ensures value { (bytes : List ℕ) (m : MessageValue) → IsReadAs bytes (Ok m)
+        → reading_of bytes ≡ Ok m }
+{
+    spelled_or_cut();
+    answered_fields();
 }
 
 /// Every datagram of fewer than 2^32 bytes is read as a message or has a fault.
@@ -50,9 +72,12 @@ pub fn alive_len()
 /// Whatever is written, with any time to live and in any group, is read as that message: a state where it is tidy, a
 /// pong where it echoes a tidy ping, and a ping with its own payload.
 pub fn written_is_read()
-    ensures { (w : Written) (m : MessageValue) → IsTidyWritten w → Says w m
+    ensures read { (w : Written) (m : MessageValue) → IsTidyWritten w → Says w m
         → IsReadAs (spelled_of w) (Ok m) }
+    ensures value { (w : Written) (m : MessageValue) → IsTidyWritten w → Says w m
+        → reading_of (spelled_of w) ≡ Ok m }
 {
+    read_messages();
     payload_lens();
     state_reads_back();
     pong_reads_back();

@@ -15,7 +15,8 @@ mod write;
 
 pub use fault::WireFault;
 pub use laws::{
-    alive_len, all_are_read, one_alive, one_reading, ping_payload_len, written_is_read,
+    alive_len, all_are_read, one_alive, one_reading, one_reading_each, ping_payload_len,
+    read_messages, written_is_read,
 };
 pub use message::{Message, StateMsg};
 pub use read::{read_datagram, read_plain_alive};

@@ -1,9 +1,10 @@
 //! Reading datagrams. A plain alive is one whose entries stand in the order in which they are
 //! written.
 
-ghost use Rattle.std.specs.Prelude.{◌≡◌, ◌≤◌, ◌<◌, ◌+◌, ◌^◌, ◌++◌, ◌==◌, ◌||◌, ℕ, length, take, drop, IfSome, IfNone};
+ghost use Rattle.std.specs.Prelude.{◌≡◌, ◌≤◌, ◌<◌, ◌+◌, ◌^◌, ◌++◌, ◌==◌, ◌||◌, ℕ, length, take, drop, IfSome, IfNone, IfOk};
 ghost use Rattle.byteorder.specs.Endian.{big_bytes};
-ghost use Rattle.asdp_messages.specs.Datagram.{IsPlainAlive, IsReadAs, IsDiscoveryReadAs, IsLinkReadAs, answer_value};
+ghost use Rattle.asdp_messages.specs.Datagram.{IsInRange, IsPlainAlive, IsReadAs, IsDiscoveryReadAs, IsLinkReadAs, answer_value, message_value};
+ghost use Rattle.asdp_messages.specs.Reading.{reading_of};
 ghost use Rattle.asdp_messages.specs.Spelling.{spelled_header_of, spelled_alive_of};
 
 use crate::fault::WireFault;
@@ -11,7 +12,7 @@ use crate::header::{
     DISCOVERY_ALIVE, DISCOVERY_BYE, DISCOVERY_HEADER_LEN, DISCOVERY_PROTOCOL, DISCOVERY_RESPONSE,
     GREATEST_LEN, Header, LINK_HEADER_LEN, LINK_PING, LINK_PONG, LINK_PROTOCOL,
 };
-use crate::laws::alive_len;
+use crate::laws::{alive_len, one_reading, one_reading_each, read_messages};
 use crate::message::{Message, StateMsg};
 use byteorder::{BigEndian, ByteOrder};
 use link_payload::{read_plain_state, read_pong, read_state, spelled_or_cut};
@@ -22,6 +23,20 @@ use lk_base::{NodeId, u16_at, u64_at};
 /// payload of an alive, a response or a pong. The payload of a bye, a ping or another kind isn't
 /// read. Payloads are lent, and nothing is copied but the fields.
 pub fn read_datagram(bytes: &[u8]) -> Result<Message<'_>, WireFault>
+    requires { length bytes.now < 2 ^ 32 }
+    ensures reading { IsReadAs bytes.now (answer_value result) }
+    ensures value { answer_value result ≡ reading_of bytes.now }
+    ensures ranges { IfOk result (λ m. IsInRange (message_value m)) }
+{
+    // Laws, for the proof: the reading is one, and its numbers are in range.
+    one_reading();
+    one_reading_each();
+    read_messages();
+    message_in(bytes)
+}
+
+// The message by its protocol and its lengths.
+fn message_in(bytes: &[u8]) -> Result<Message<'_>, WireFault>
     requires { length bytes.now < 2 ^ 32 }
     ensures { IsReadAs bytes.now (answer_value result) }
 {

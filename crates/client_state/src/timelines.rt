@@ -1,6 +1,6 @@
 //! From a session's timeline to a client's and back.
 
-ghost use Rattle.std.specs.Prelude.{◌≡◌, pos, ◌^◌, ◌↔◌, ◌<ℤ◌, None, Some, Ok, IsErr, IfOk, IsTrue};
+ghost use Rattle.std.specs.Prelude.{◌≡◌, pos, ◌^◌, ◌↔◌, ◌⊎◌, ◌<ℤ◌, None, Some, Ok, IsErr, IfOk, IsTrue};
 ghost use Rattle.lk_base.specs.Ranges.{IsWithinLimit};
 ghost use Rattle.lk_base.specs.Timeline.{IsTidy};
 ghost use Rattle.client_state.specs.Timelines.{KeepsBeat, client_from_session_of, new_origin_of, renewed_of, session_from_client_of};
@@ -66,6 +66,7 @@ pub fn session_from_client(
     ensures renewed { ¬ (KeepsBeat session.now client.now xform.offset) → ¬ (session.now.beat ≡ pos (2 ^ 60))
         → result ≡ Ok (renewed_of session.now client.now at xform.offset) }
     ensures tidy { IfOk result IsTidy }
+    ensures later { IfOk result (λ tl. (tl ≡ session.now) ⊎ (session.now.beat <ℤ tl.beat)) }
     ensures value { IfOk result (λ tl. session_from_client_of session.now client.now at xform.offset ≡ Some tl) }
     ensures none { IsErr result ↔ (session_from_client_of session.now client.now at xform.offset ≡ None) }
 {
@@ -96,6 +97,7 @@ fn renewed(session: &Timeline, client: &Timeline, at: i64, xform: XForm) -> Time
     requires greater { session.now.beat <ℤ pos (2 ^ 60) }
     ensures value { result ≡ renewed_of session.now client.now at xform.offset }
     ensures tidy { IsTidy result }
+    ensures later { session.now.beat <ℤ result.beat }
 {
     let origin = new_origin(session, at, xform);
     let from_zero = Timeline {
@@ -117,6 +119,7 @@ fn new_origin(session: &Timeline, at: i64, xform: XForm) -> i64
     requires greater { session.now.beat <ℤ pos (2 ^ 60) }
     ensures value { result ≡ new_origin_of session.now at xform.offset }
     ensures within { IsWithinLimit result }
+    ensures later { session.now.beat <ℤ result }
 {
     ghost_beat(session, at, xform).max(session.beat + 1)
 }

@@ -114,7 +114,7 @@ walked_all keys values (e ∷ es) cut =
     ∙ by_test (has_other_size (key_sizes_of keys) e) e (find (has_other_size (key_sizes_of keys)) es) (cut_fault_of cut) (last_of keys values (e ∷ es)) _ (others ∙ same)
 
 all_items : (bytes : List ℕ) (es : List EntryValue) (cut : Option ℕ) → AreBytes bytes → AreEntriesIn bytes es cut → items_at 0 bytes ≡ map ok_item es ++ cut_item_of cut
-all_items bytes es None are_bytes entries = spelled_items bytes es are_bytes entries ∙ sym (append-nil (map ok_item es))
+all_items bytes es None are_bytes entries = spelled_items bytes es entries ∙ sym (append-nil (map ok_item es))
 all_items bytes es (Some n) are_bytes entries = cut_items bytes n es are_bytes entries
 
 from_none : (keys : Keys) (es : List EntryValue) → last_of keys no_bytes es ≡ last_bytes_in keys es

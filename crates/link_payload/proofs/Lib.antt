@@ -4,6 +4,7 @@ pub mod SpellingLemmas
 pub mod ReadingLemmas
 pub mod EntryLemmas
 pub mod WalkLemmas
+pub mod FoundLemmas
 pub mod PlainValuesLemmas
 pub mod StateLemmas
 pub mod RangeLemmas
@@ -11,4 +12,5 @@ pub mod FieldsLemmas
 pub mod LastLemmas
 pub mod ValueLemmas
 pub mod AnswerLemmas
+pub mod AnsweredLemmas
 pub mod BackLemmas

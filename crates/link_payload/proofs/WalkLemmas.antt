@@ -149,30 +149,37 @@ entries-length e es =
     let one = length-entry_rest e.key e.value (spelled_entries_of es ++ []) in
     omega (arith, parts, one, length-append (spelled_entries_of (e ∷ es)) [], length-append (spelled_entries_of es) [])
 
+-- no entry is found in what is left
+abbrev EndsSo : List ℕ → Type 0
+EndsSo rest = (fuel place : ℕ) → length rest ≤ fuel → items_from fuel place rest ≡ last_items place rest
+
+ends-nil : EndsSo []
+ends-nil fuel place len = items-nil fuel place
+
 -- the items of a walk are its entries, and then perhaps a cut
-walked_items : (fuel place : ℕ) (bytes : List ℕ) (es : List EntryValue) (rest : List ℕ) → length bytes ≤ fuel → AreBytes bytes
-    → AllByRecursion IsEntry es → IsStuck rest → bytes ≡ spelled_entries_of es ++ rest
+walked_items : (fuel place : ℕ) (bytes : List ℕ) (es : List EntryValue) (rest : List ℕ) → length bytes ≤ fuel
+    → AllByRecursion IsEntry es → EndsSo rest → bytes ≡ spelled_entries_of es ++ rest
     → items_from fuel place bytes ≡ map ok_item es ++ last_items (place + length (spelled_entries_of es)) rest
-walked_items fuel place bytes [] rest len are_bytes each stuck is =
+walked_items fuel place bytes [] rest len each ends is =
     let same : bytes ≡ rest = is ∙ nil_before rest in
     let here : place + length (spelled_entries_of []) ≡ place = omega (arith, ap length entries-nil) in
-    ap (items_from fuel place) same ∙ stuck_items fuel place rest (subst (λ (bs : List ℕ). length bs ≤ fuel) same len) (subst AreBytes same are_bytes) stuck
+    ap (items_from fuel place) same ∙ ends fuel place (subst (λ (bs : List ℕ). length bs ≤ fuel) same len)
     ∙ ap (λ (p : ℕ). last_items p rest) (sym here)
-walked_items zero place bytes (e ∷ es) rest len are_bytes each stuck is =
+walked_items zero place bytes (e ∷ es) rest len each ends is =
     absurd (omega (arith, len, ap length (is ∙ entries-cons e es rest), length-entry_rest e.key e.value (spelled_entries_of es ++ rest)))
-walked_items (suc fuel) place bytes (e ∷ es) rest len are_bytes each stuck is =
+walked_items (suc fuel) place bytes (e ∷ es) rest len each ends is =
     let after = spelled_entries_of es ++ rest in
     let front_is = is ∙ entries-cons e es rest in
     let some = ap entry_at_front front_is ∙ entry_read e after each.0 in
     let fewer = front-length bytes (e, after) some in
-    let others = walked_items fuel (place + 8 + length e.value) after es rest (omega (arith, fewer, len)) (AreBytes-after bytes _ after are_bytes front_is) each.1 stuck refl in
+    let others = walked_items fuel (place + 8 + length e.value) after es rest (omega (arith, fewer, len)) each.1 ends refl in
     let there : place + 8 + length e.value + length (spelled_entries_of es) ≡ place + length (spelled_entries_of (e ∷ es)) = omega (arith, entries-length e es) in
     items_more fuel place bytes (e, after) len some
     ∙ ap (λ (xs : List Item). ok_item e ∷ xs) (others ∙ ap (λ (p : ℕ). map ok_item es ++ last_items p rest) there)
 
-pub spelled_items : (bytes : List ℕ) (es : List EntryValue) → AreBytes bytes → Spells bytes es → items_from (length bytes) 0 bytes ≡ map ok_item es
-spelled_items bytes es are_bytes s =
-    walked_items (length bytes) 0 bytes es [] (omega arith) are_bytes s.each stuck-nil (s.spelled ∙ sym (append-nil (spelled_entries_of es))) ∙ append-nil (map ok_item es)
+pub spelled_items : (bytes : List ℕ) (es : List EntryValue) → Spells bytes es → items_from (length bytes) 0 bytes ≡ map ok_item es
+spelled_items bytes es s =
+    walked_items (length bytes) 0 bytes es [] (omega arith) s.each ends-nil (s.spelled ∙ sym (append-nil (spelled_entries_of es))) ∙ append-nil (map ok_item es)
 
 some_last : (place n : ℕ) (rest : List ℕ) → rest ≢ [] → n ≡ place → last_items place rest ≡ Err (Cut n) ∷ []
 some_last place n [] some is = absurd (some refl)
@@ -180,7 +187,8 @@ some_last place n (b ∷ rest) some is = ap (λ (p : ℕ). last_items p (b ∷ r
 
 pub cut_items : (bytes : List ℕ) (n : ℕ) (es : List EntryValue) → AreBytes bytes → IsCutAt bytes n es → items_from (length bytes) 0 bytes ≡ map ok_item es ++ Err (Cut n) ∷ []
 cut_items bytes n es are_bytes c =
-    walked_items (length bytes) 0 bytes es c.rest (omega arith) are_bytes c.each c.no_entry c.split
+    let rest_bytes = AreBytes-after bytes (spelled_entries_of es) c.rest are_bytes c.split in
+    walked_items (length bytes) 0 bytes es c.rest (omega arith) c.each (λ fuel place len. stuck_items fuel place c.rest len rest_bytes c.no_entry) c.split
     ∙ ap (λ (xs : List Item). map ok_item es ++ xs) (some_last (0 + length (spelled_entries_of es)) n c.rest c.some (omega (arith, c.place)))
 
 abbrev Agree : ℕ → ℕ → Type 0

@@ -26,6 +26,12 @@ pub record AreInRange (f : PeerFields) : Type 0 where
   pub beats : IsWithinLimit f.start.beats
   pub stamp : IsWithinLimit f.start.stamp
 
+-- the times of a pong are in the range that is taken off the wire
+pub record AreTimesInRange (f : PongFields) : Type 0 where
+  pub ghost_time : IsWithinLimit f.ghost_time
+  pub host : IsWithinLimit f.host
+  pub previous : IsWithinLimit f.previous
+
 -- Fields with an endpoint, and with numbers in range. The first two facts hold of all fields in code.
 pub record IsPlainState (f : PeerFields) : Type 0 where
   pub session : length f.session.0 ≡ 8

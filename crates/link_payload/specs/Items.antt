@@ -1,11 +1,11 @@
--- Only for proofs: the items of a walk over bytes. What they are for bytes that spell entries, and for bytes that are
--- cut, is said by the clauses of `entries`.
+-- The items of a walk over bytes from entry to entry, and the entries and the cut that it finds. What they are for bytes
+-- that spell entries, and for bytes that are cut, is said by the clauses of `entries` and of the law `spelled_or_cut`.
 use Rattle.std.specs.Prelude.{◌+◌, ℕ, zero, suc, List, [], ◌∷◌, length, take, drop, nat_lt, if◌then◌else◌, Option, Some, None, option_map, unwrap_or, Result, Ok, Err}
 use Rattle.byteorder.specs.Endian.{big_number}
 use Rattle.link_payload.specs.declared.entry.Entry.{Entry}
 use Rattle.link_payload.specs.declared.entry.EntryIter.{EntryIter}
 use Rattle.link_payload.specs.declared.fault.PayloadFault.{PayloadFault}
-use Rattle.link_payload.specs.declared.fault.PayloadFault.TheVariants.{Cut}
+use Rattle.link_payload.specs.declared.fault.PayloadFault.TheVariants.{Cut, WrongSize, Missing, OutOfRange}
 use Rattle.link_payload.specs.Entries.{EntryValue}
 
 -- an entry, or the fault that ends the walk
@@ -44,6 +44,33 @@ items_from (suc fuel) place (b ∷ bytes) =
 -- the items of bytes that begin at a place
 abbrev pub items_at : ℕ → List ℕ → List Item
 items_at place bytes = items_from (length bytes) place bytes
+
+-- the complete entries among items
+abbrev pub entries_among : List Item → List EntryValue
+entries_among [] = []
+entries_among (Ok e ∷ items) = e ∷ entries_among items
+entries_among (Err fault ∷ items) = entries_among items
+
+-- the place of a cut
+abbrev pub cut_place_of : PayloadFault → Option ℕ
+cut_place_of (Cut place) = Some place
+cut_place_of (WrongSize key size) = None
+cut_place_of (Missing key) = None
+cut_place_of (OutOfRange key value) = None
+
+-- where items are cut
+abbrev pub cut_among : List Item → Option ℕ
+cut_among [] = None
+cut_among (Ok e ∷ items) = cut_among items
+cut_among (Err fault ∷ items) = cut_place_of fault
+
+-- the complete entries of a payload, in order
+unfoldable pub entries_of : List ℕ → List EntryValue
+entries_of payload = entries_among (items_at 0 payload)
+
+-- the place of the entry that passes the end of a payload, if there is one
+unfoldable pub cut_of : List ℕ → Option ℕ
+cut_of payload = cut_among (items_at 0 payload)
 
 -- the items that an iterator has left
 abbrev pub items_left_of : EntryIter → List Item

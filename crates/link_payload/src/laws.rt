@@ -1,13 +1,15 @@
 //! Laws of the spelling, for the callers' proofs: to call one is to know it.
 
-ghost use Rattle.std.specs.Prelude.{◌≡◌, ◌<◌, ◌+◌, ◌^◌, ◌⊎◌, ℕ, ℤ, List, length, is_some, if◌then◌else◌, Ok, None};
+ghost use Rattle.std.specs.Prelude.{◌≡◌, ◌<◌, ◌+◌, ◌^◌, ◌⊎◌, ℕ, ℤ, List, length, is_some, if◌then◌else◌, Option, Ok, None};
 ghost use Rattle.lk_base.specs.Ranges.{IsWithinLimit};
 ghost use Rattle.lk_base.specs.declared.ids.NodeId.{NodeId};
 ghost use Rattle.link_payload.specs.declared.fields.PeerFields.{PeerFields};
 ghost use Rattle.link_payload.specs.declared.fields.PingFields.{PingFields};
-ghost use Rattle.link_payload.specs.Entries.{EntryValue, Spells, IsCutAt, AreBytes};
+ghost use Rattle.link_payload.specs.declared.fields.PongFields.{PongFields};
+ghost use Rattle.link_payload.specs.Entries.{EntryValue, Spells, IsCutAt, AreEntriesIn, AreBytes};
 ghost use Rattle.lk_base.specs.Endpoint.{IsEndpoint};
-ghost use Rattle.link_payload.specs.Fields.{IsPlainState, IsStored, IsTidyFields, IsTidyPing, state_answer_of, pong_answer_of, echoing};
+ghost use Rattle.link_payload.specs.Fields.{AreInRange, AreTimesInRange, IsPlainState, IsStored, IsTidyFields, IsTidyPing, state_answer_of, pong_answer_of, echoing};
+ghost use Rattle.link_payload.specs.Items.{entries_of, cut_of};
 ghost use Rattle.link_payload.specs.Spelling.{spelled_state_of, spelled_ping_of, spelled_pong_of};
 
 use crate::fields::PeerFields;
@@ -19,7 +21,8 @@ pub fn one_spelling()
 {}
 
 /// Bytes spell a list of entries or are cut, never both, and are cut at one place only, after one
-/// list.
+/// list. The walk over a payload finds those entries and that cut. For entries that are spelled it
+/// is no premise that a byte is below 256.
 pub fn spelled_or_cut()
     ensures either { (bytes : List ℕ) → AreBytes bytes → length bytes < 2 ^ 32
         → ((es : List EntryValue) × Spells bytes es)
@@ -28,6 +31,18 @@ pub fn spelled_or_cut()
         → Spells bytes es → IsCutAt bytes n fs → ⊥ }
     ensures one_cut { (bytes : List ℕ) (m n : ℕ) (es fs : List EntryValue)
         → IsCutAt bytes m es → IsCutAt bytes n fs → (m ≡ n) × (es ≡ fs) }
+    ensures walked { (payload : List ℕ) → AreBytes payload → length payload < 2 ^ 32
+        → AreEntriesIn payload (entries_of payload) (cut_of payload) }
+    ensures spelled { (payload : List ℕ) (es : List EntryValue) → Spells payload es
+        → (entries_of payload ≡ es) × (cut_of payload ≡ None) }
+{}
+
+/// Entries that are answered as fields have their numbers in range, and aren't cut.
+pub fn answered_fields()
+    ensures state { (es : List EntryValue) (cut : Option ℕ) (f : PeerFields)
+        → state_answer_of es cut ≡ Ok f → AreInRange f × (cut ≡ None) }
+    ensures pong { (es : List EntryValue) (cut : Option ℕ) (f : PongFields)
+        → pong_answer_of es cut ≡ Ok f → AreTimesInRange f × (cut ≡ None) }
 {}
 
 /// What the types say of fields.

@@ -20,8 +20,8 @@ pub use entry::{Entry, EntryIter, entries};
 pub use fault::PayloadFault;
 pub use fields::{PeerFields, PingFields, PongFields};
 pub use laws::{
-    fields_are_stored, one_spelling, one_state, payload_lens, pong_reads_back, spelled_or_cut,
-    state_reads_back,
+    answered_fields, fields_are_stored, one_spelling, one_state, payload_lens, pong_reads_back,
+    spelled_or_cut, state_reads_back,
 };
 pub use read::{read_plain_state, read_pong, read_state};
 pub use write::{write_ping, write_pong, write_state};

@@ -19,4 +19,4 @@ returns-clause-reads_back c = λ tidy.
     } in
     as_spelled (written.Alive sent_message) (message.Alive sent_message)
     (joined _ _ _ _ _ c.write_state.ensures.items c.put_header.ensures.items c.new-out.ensures)
-    (c.written_is_read.ensures (written.Alive sent_message) (message.Alive sent_message) is_tidy refl)
+    (c.written_is_read.ensures.read (written.Alive sent_message) (message.Alive sent_message) is_tidy refl)

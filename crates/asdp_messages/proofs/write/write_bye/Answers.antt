@@ -10,4 +10,4 @@ unfolding spelled_of
 returns-clause-reads_back c =
     as_spelled (written.Bye c.args.from 0 c.args.group) (message.Bye c.args.from 0 c.args.group)
     (c.put_header.ensures.items ∙ ap (λ (bs : List ℕ). bs ++ spelled_header_of 3 0 c.args.group c.args.from) c.new-out.ensures)
-    (c.written_is_read.ensures (written.Bye c.args.from 0 c.args.group) (message.Bye c.args.from 0 c.args.group) (lit< tt, omega arith, search rules) refl)
+    (c.written_is_read.ensures.read (written.Bye c.args.from 0 c.args.group) (message.Bye c.args.from 0 c.args.group) (lit< tt, omega arith, search rules) refl)

@@ -11,4 +11,4 @@ unfolding spelled_of
 returns-clause-reads_back c =
     as_spelled (written.Ping c.args.ping.now) (message.Ping (spelled_ping_of c.args.ping.now))
     (joined _ _ _ _ _ c.write_ping.ensures.items c.put_link_header.ensures.items c.new-out.ensures)
-    (c.written_is_read.ensures (written.Ping c.args.ping.now) (message.Ping (spelled_ping_of c.args.ping.now)) tt refl)
+    (c.written_is_read.ensures.read (written.Ping c.args.ping.now) (message.Ping (spelled_ping_of c.args.ping.now)) tt refl)

@@ -19,4 +19,4 @@ returns-clause-reads_back c = λ tidy.
     } in
     as_spelled (written.Response sent_message) (message.Response sent_message)
     (joined _ _ _ _ _ c.write_state.ensures.items c.put_header.ensures.items c.new-out.ensures)
-    (c.written_is_read.ensures (written.Response sent_message) (message.Response sent_message) is_tidy refl)
+    (c.written_is_read.ensures.read (written.Response sent_message) (message.Response sent_message) is_tidy refl)
