@@ -1,5 +1,5 @@
 -- Where timelines come from, and what state messages tell.
-use Rattle.std.specs.Prelude.{◌≡◌, ◌⊎◌, ◌×◌, List, [], ◌∷◌, ◌++◌, if◌then◌else◌, Option, Some, None, Result, Ok, Err}
+use Rattle.std.specs.Prelude.{◌≡◌, ◌⊎◌, List, [], ◌∷◌, ◌++◌, if◌then◌else◌, Option, Some, None, Result, Ok, Err}
 use Rattle.lk_base.specs.declared.ids.NodeId.{NodeId}
 use Rattle.lk_base.specs.declared.timeline.Timeline.{Timeline}
 use Rattle.link_payload.specs.declared.fields.PeerFields.{PeerFields}

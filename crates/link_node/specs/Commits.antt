@@ -1,5 +1,5 @@
 -- Taking a commit.
-use Rattle.std.specs.Prelude.{ℕ, int_lt, Bool, ◌+◌, ◌&&◌, List, [], ◌∷◌, ◌++◌, if◌then◌else◌, Option, Some, None}
+use Rattle.std.specs.Prelude.{ℕ, int_lt, Bool, ◌+◌, ◌&&◌, List, [], ◌∷◌, ◌++◌, if◌then◌else◌, is_some, Option, Some, None}
 use Rattle.ghost_xform.specs.GhostTime.{ghost_of}
 use Rattle.lk_base.specs.declared.start.ClientStart.{ClientStart}
 use Rattle.lk_base.specs.declared.timeline.Timeline.{Timeline}
@@ -36,9 +36,13 @@ abbrev pub with_client_timeline : Timeline → Timeline → Machine → Machine
 with_client_timeline client session m = renewed (record m { client = client; sessions = committed session m.sessions })
 
 -- where the session's beat origin can't grow, nothing of the commit is taken
+abbrev pub client_taken : Option Timeline → Timeline → Machine → Machine
+client_taken None client m = m
+client_taken (Some session) client m = with_client_timeline client session m
+
 abbrev pub committed_by : Option Timeline → Timeline → Option ClientStart → Machine → Machine
-committed_by None client start m = m
-committed_by (Some session) client start m = start_committed start (with_client_timeline client session m)
+committed_by session client start m =
+    if is_some session then start_committed start (client_taken session client m) else m
 
 abbrev pub timeline_committed : Option Timeline → Commit → Machine → Machine
 timeline_committed None commit m = start_committed commit.start m

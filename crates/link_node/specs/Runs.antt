@@ -1,5 +1,5 @@
 -- Whole runs: one event after the other.
-use Rattle.std.specs.Prelude.{ℕ, ℤ, ◌×◌, List, [], ◌∷◌, ◌++◌}
+use Rattle.std.specs.Prelude.{ℕ, ℤ, List, [], ◌∷◌, ◌++◌}
 use Rattle.client_state.specs.declared.state.State.{State}
 use Rattle.link_node.specs.Config.{ConfigValue}
 use Rattle.link_node.specs.Event.{EventValue, SendingValue, Fits, app_after, audio_after}

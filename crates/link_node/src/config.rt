@@ -1,14 +1,13 @@
 //! What a node is opened with.
 
-ghost use Rattle.std.specs.Prelude.{◌≡◌, IfOk};
-ghost use Rattle.link_node.specs.Config.{config_value};
+ghost use Rattle.std.specs.Prelude.{◌≡◌, map};
+ghost use Rattle.link_node.specs.Config.{config_value, gate_value};
 
 use arrayvec::ArrayVec;
 use lk_base::{Endpoint, NodeId};
-use std::alloc::AllocError;
 
 /// A gate: one of a node's own sockets.
-#[derive(Debug, Drop)]
+#[derive(Debug, Default, Drop)]
 pub struct GateSetup {
     /// Where peers reach it.
     pub local: Endpoint,
@@ -32,8 +31,35 @@ pub struct Config {
 }
 
 // The same config once more.
-pub(crate) fn copied(config: &Config) -> Result<Config, AllocError>
-    ensures { IfOk result (λ copy. config_value copy ≡ config_value config.now) }
+pub(crate) fn copied(config: &Config) -> Config
+    ensures { config_value result ≡ config_value config.now }
 {
-    todo!()
+    Config {
+        id: config.id,
+        seed: config.seed,
+        mpb: config.mpb,
+        sync: config.sync,
+        gates: copied_gates(&config.gates),
+    }
+}
+
+fn copied_gates(gates: &ArrayVec<GateSetup, 4>) -> ArrayVec<GateSetup, 4>
+    ensures { map gate_value result.items ≡ map gate_value gates.now.items }
+{
+    let mut copies = ArrayVec::new();
+    for gate in gates.as_slice() {
+        copies.push(copied_gate(gate));
+    }
+    copies
+}
+
+fn copied_gate(gate: &GateSetup) -> GateSetup
+    ensures { gate_value result ≡ gate_value gate.now }
+{
+    let mut peers = ArrayVec::new();
+    let _copied = peers.try_extend_from_slice(&gate.peers);
+    GateSetup {
+        local: gate.local,
+        peers,
+    }
 }

@@ -1,6 +1,7 @@
 //! A node: its opening, its step, and what it tells of itself.
 
-ghost use Rattle.std.specs.Prelude.{◌≡◌, ◌≤◌, IfSome, length};
+ghost use Rattle.std.specs.Prelude.{◌≡◌, ◌≤◌, ◌^◌, IfSome, length};
+ghost use Rattle.std.proofs.Props.{props};
 ghost use Rattle.lk_base.specs.Ranges.{IsMoment, IsWithin, IsWithinLimit};
 ghost use Rattle.lk_base.specs.Timeline.{IsTidy};
 ghost use Rattle.session_choice.specs.Table.{HasTidyTimelines};
@@ -66,10 +67,10 @@ pub struct Node {
     published: State,
     ghost in_time: { IsMoment moment },
     ghost gates: { (1 ≤ length config.gates.items) × (length config.gates.items ≤ 4) × (peers.gates ≡ length config.gates.items) },
-    ghost timelines: { HasTidyTimelines sessions },
+    ghost timelines: { HasTidyTimelines sessions } by { Prim.hlevel props },
     ghost start: { IsWithinLimit session_start.beats × IsWithinLimit session_start.stamp },
-    ghost later: { IfSome remeasure_at (IsWithin (2 ^ 56)) },
-    ghost broadcast: { IfSome last_broadcast IsMoment },
+    ghost later: { IfSome remeasure_at (IsWithin (2 ^ 56)) } by { Prim.hlevel props },
+    ghost broadcast: { IfSome last_broadcast IsMoment } by { Prim.hlevel props },
     ghost client_timeline: { IsTidy client },
     ghost client_playing: { IsTidyStart client_start },
     ghost shown: { IsTidyState published },
@@ -115,7 +116,7 @@ impl Node {
             stamp: 0,
         };
         Ok(Node {
-            config: copied(config)?,
+            config: copied(config),
             moment: now,
             ids: IdSource::new(config.seed, 0),
             id: config.id,
@@ -172,7 +173,7 @@ impl Node {
 
     /// The state that was published last.
     pub fn state(&self) -> State
-        ensures { (m : Machine) → StandsFor self.now m → result ≡ m.published }
+        ensures value { (m : Machine) → StandsFor self.now m → result ≡ m.published }
         ensures counts { (m : Machine) → StandsFor self.now m → (result.app ≡ app_of self.now) × (result.audio ≡ audio_of self.now) }
         ensures tidy { IsTidyState result }
     {
@@ -181,7 +182,7 @@ impl Node {
 
     /// The greatest moment so far, in microseconds.
     pub fn moment(&self) -> i64
-        ensures { (m : Machine) → StandsFor self.now m → result ≡ m.moment }
+        ensures value { (m : Machine) → StandsFor self.now m → result ≡ m.moment }
         ensures range { IsMoment result }
     {
         self.moment
@@ -203,7 +204,7 @@ impl Node {
 
     /// The timeline of that session, in its ghost time.
     pub fn session_timeline(&self) -> Timeline
-        ensures { (m : Machine) → StandsFor self.now m → result ≡ timeline_in m }
+        ensures value { (m : Machine) → StandsFor self.now m → result ≡ timeline_in m }
         ensures tidy { IsTidy result }
     {
         self.sessions.current().timeline

@@ -19,7 +19,7 @@ impl Gate {
 }
 
 /// An IPv4 address and a UDP port; the address's first part is its most significant byte.
-#[derive(Clone, Copy, Debug, PartialEq, Eq, PartialOrd, Ord)]
+#[derive(Clone, Copy, Debug, Default, PartialEq, Eq, PartialOrd, Ord)]
 pub struct Endpoint {
     pub addr: u32,
     pub port: u16,

@@ -5,7 +5,7 @@ use rand_pcg::Lcg64Xsh32;
 use std::marker::Model;
 
 /// The id of a node, ordered by its bytes. A session goes by the id of the node that founded it.
-#[derive(Clone, Copy, Debug, PartialEq, Eq, PartialOrd, Ord)]
+#[derive(Clone, Copy, Debug, Default, PartialEq, Eq, PartialOrd, Ord)]
 pub struct NodeId(pub [u8; 8]);
 
 impl NodeId {

@@ -4,10 +4,10 @@ use crate::node::Node;
 use crate::sends::Sends;
 
 /// How long after the last broadcast the next one is due, in microseconds.
-const PERIOD: i64 = 250_000;
+pub(super) const PERIOD: i64 = 250_000;
 
 /// And how long where there is something new to tell.
-const SHORT_PERIOD: i64 = 50_000;
+pub(super) const SHORT_PERIOD: i64 = 50_000;
 
 impl Node {
     ghost use Rattle.std.specs.Prelude.{◌≡◌, ◌≤◌, ◌+◌, ◌++◌, length};

@@ -5,12 +5,12 @@ use client_state::{Commit, session_from_client, start_to_session};
 use lk_base::{ClientStart, Timeline};
 
 impl Node {
-    ghost use Rattle.std.specs.Prelude.{◌≡◌, ◌<◌, ◌+◌, ◌^◌};
+    ghost use Rattle.std.specs.Prelude.{◌≡◌, ◌<◌, ◌+◌, ◌^◌, is_some};
     ghost use Rattle.lk_base.specs.Ranges.{IsWithinLimit};
     ghost use Rattle.lk_base.specs.Timeline.{IsTidy};
     ghost use Rattle.client_state.specs.Commit.{IsTidyCommit, IsTidyStart};
     ghost use Rattle.client_state.specs.Timelines.{session_from_client_of};
-    ghost use Rattle.link_node.specs.Commits.{app_taken, audio_taken, commit_taken, start_committed, with_client_timeline, committed_by};
+    ghost use Rattle.link_node.specs.Commits.{app_taken, audio_taken, commit_taken, start_committed, client_taken};
     ghost use Rattle.link_node.specs.Machine.{Machine, timeline_in, offset_in};
     ghost use Rattle.link_node.specs.Standing.{HasParts, app_of, audio_of};
 
@@ -55,8 +55,10 @@ impl Node {
     fn take_client_timeline(&mut self, client: Timeline, at: i64) -> bool
         requires client { IsTidy client }
         requires at { IsWithinLimit at }
+        ensures answer { (m : Machine) → HasParts self.old m
+            → result ≡ is_some (session_from_client_of (timeline_in m) client at (offset_in m)) }
         ensures stands { (m : Machine) → HasParts self.old m
-            → (start : Option ClientStart) → IsTakenBy self.new result (session_from_client_of (timeline_in m) client at (offset_in m)) client m }
+            → HasParts self.new (client_taken (session_from_client_of (timeline_in m) client at (offset_in m)) client m) }
     {
         let current = self.sessions.current();
         let Ok(session) = session_from_client(&current.timeline, &client, at, current.xform) else {

@@ -1,5 +1,10 @@
 //! What follows from a measurement's answers.
 
+ghost use Rattle.std.specs.Prelude.{◌≡◌, ◌<◌, ◌++◌, length};
+ghost use Rattle.link_node.specs.Event.{sending_value};
+ghost use Rattle.link_node.specs.Measuring.{pings_of};
+ghost use Rattle.link_node.specs.Measuring as spec;
+
 use crate::node::Node;
 use crate::node::settling::STILL;
 use crate::sends::{Sending, Sends};

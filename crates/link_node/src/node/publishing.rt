@@ -1,5 +1,8 @@
 //! The state that clients are shown.
 
+ghost use Rattle.std.specs.Prelude.{◌≡◌};
+ghost use Rattle.link_node.specs.Publishing.{alike};
+
 use crate::event::Change;
 use crate::node::Node;
 use client_state::State;

@@ -1,10 +1,14 @@
 //! What a node tells its peers of itself.
 
+ghost use Rattle.std.specs.Prelude.{◌≤◌, ◌+◌, length};
+
+use crate::config::Config;
 use crate::node::Node;
 use crate::sends::{Sending, Sends};
+use arrayvec::ArrayVec;
 use asdp_messages::{write_alive, write_bye, write_response};
 use link_payload::PeerFields;
-use lk_base::{Endpoint, Gate};
+use lk_base::{Endpoint, Gate, Wire, append};
 
 /// The group of every message.
 const GROUP: u16 = 0;
@@ -35,7 +39,9 @@ impl Node {
         ensures sends { (m : Machine) → HasParts self.now m → sends.new ≡ sends.old ++ response_to gate to m ∷ [] }
         ensures len { length sends.new ≡ length sends.old + 1 }
     {
-        todo!()
+        let fields = self.fields(local_of(&self.config, gate));
+        let bytes = write_response(self.id, GROUP, &fields);
+        sends.push(Sending { gate, to, bytes });
     }
 
     // An alive from each gate to each of its destinations, in order.
@@ -44,7 +50,11 @@ impl Node {
         ensures sends { (m : Machine) → HasParts self.now m → sends.new ≡ sends.old ++ alives_in m }
         ensures len { length sends.new ≤ length sends.old + 128 }
     {
-        todo!()
+        for k in 0..self.config.gates.len() {
+            let gate = &self.config.gates[k];
+            let alive = write_alive(self.id, GROUP, &self.fields(Some(gate.local)));
+            send_to_each(Gate(k as u8), &gate.peers, &alive, sends);
+        }
     }
 
     // A bye from each gate to each of its destinations, in order.
@@ -53,6 +63,32 @@ impl Node {
         ensures sends { (m : Machine) → HasParts self.now m → sends.new ≡ sends.old ++ byes_in m }
         ensures len { length sends.new ≤ length sends.old + 128 }
     {
-        todo!()
+        let bye = write_bye(self.id, GROUP);
+        for k in 0..self.config.gates.len() {
+            send_to_each(Gate(k as u8), &self.config.gates[k].peers, &bye, sends);
+        }
+    }
+}
+
+// The local endpoint of a gate.
+fn local_of(config: &Config, gate: Gate) -> Option<Endpoint> {
+    match config.gates.get(usize::from(gate.0)) {
+        Some(setup) => Some(setup.local),
+        None => None,
+    }
+}
+
+// The bytes from a gate to each destination, in order.
+fn send_to_each(gate: Gate, peers: &ArrayVec<Endpoint, 32>, bytes: &Wire, sends: &mut Sends)
+    requires { length sends.old + 32 ≤ 160 }
+{
+    for to in peers.as_slice() {
+        let mut copy = Wire::new();
+        append(&mut copy, bytes);
+        sends.push(Sending {
+            gate,
+            to: *to,
+            bytes: copy,
+        });
     }
 }
