@@ -2,13 +2,15 @@
 use Rattle.std.proofs.Common.{◌≡◌, ℕ, List, ◌++◌, length, take, drop, sym, ap, ap₂, ◌∙◌, length-append, take-append-drop, arith}
 use Rattle.std.proofs.lemmas.List.{take_at, drop_at}
 use Rattle.lk_base.specs.declared.ids.NodeId.{NodeId}
+use Rattle.lk_base.proofs.ByteLemmas.{parts_of}
 use Rattle.link_payload.specs.declared.fields.PeerFields.{PeerFields}
 use Rattle.link_payload.specs.Fields.{IsPlainState}
 use Rattle.link_payload.specs.Spelling.{spelled_state_of}
 use Rattle.asdp_messages.specs.declared.message.StateMsg.{StateMsg}
 use Rattle.asdp_messages.specs.Datagram.{IsPlainAlive}
 use Rattle.asdp_messages.specs.Spelling.{spelled_of, spelled_header_of, spelled_alive_of}
-use Rattle.asdp_messages.proofs.HeaderLemmas.{parts_of, one_header, length-header}
+use Rattle.asdp_messages.proofs.HeaderLemmas.{one_header, length-header}
+use Rattle.asdp_messages.proofs.DatagramLemmas.{message_with}
 
 -- the state of a plain alive is plain
 pub plain_state : {m : StateMsg} → IsPlainAlive m → IsPlainState m.fields
@@ -45,9 +47,6 @@ unfolding spelled_alive_of spelled_of
 alive_as_read bytes front payload kind m front_is payload_is kind_is header_is state_is =
     sym (take-append-drop 20 bytes) ∙ ap₂ (λ (a b : List ℕ). a ++ b) (sym front_is ∙ header_is) (sym payload_is ∙ state_is)
     ∙ ap (λ (k : ℕ). spelled_header_of k m.ttl m.group m.from ++ spelled_state_of m.fields) kind_is
-
-abbrev message_with : NodeId → ℕ → ℕ → PeerFields → StateMsg
-message_with from ttl group fields = record { from = from; ttl = ttl; group = group; fields = fields }
 
 pub one_plain : OneState → (m n : StateMsg) → IsPlainAlive m → IsPlainAlive n → spelled_alive_of m ≡ spelled_alive_of n → m ≡ n
 unfolding spelled_alive_of spelled_of

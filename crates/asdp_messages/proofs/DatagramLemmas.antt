@@ -1,17 +1,17 @@
 -- Datagrams by their parts, as they are read.
-use Rattle.std.proofs.Common.{◌≡◌, ◌≢◌, ℕ, ◌+◌, ◌<◌, ◌≤◌, Bool, true, false, eqb, ltb, ◌||◌, List, length, drop, Option, Some, None, Result, Ok, Err, refl, sym, ap, subst, ◌∙◌, ◌⊎◌, inl, inr, arith}
+use Rattle.std.proofs.Common.{◌≡◌, ◌≢◌, ℕ, ◌<◌, ◌≤◌, Bool, true, false, eqb, ltb, ◌||◌, List, length, drop, Option, Some, None, Result, Ok, Err, refl, sym, ap, subst, ◌∙◌, inl, inr, arith}
 use Rattle.std.specs.Bool.{MatchBool}
 use Rattle.std.specs.Result.{result_map_both}
 use Rattle.std.proofs.lemmas.Bool.{le-ltb, eq-eqb}
 use Rattle.std.proofs.lemmas.Bool.Decides.{nat_tests}
-use Rattle.std.proofs.lemmas.List.{get_or-drop}
 use Rattle.byteorder.specs.Endian.{big_number}
 use Rattle.lk_base.specs.declared.ids.NodeId.{NodeId}
 use Rattle.link_payload.specs.declared.fault.PayloadFault.{PayloadFault}
 use Rattle.link_payload.specs.declared.fields.PeerFields.{PeerFields}
 use Rattle.link_payload.specs.declared.fields.PongFields.{PongFields}
-use Rattle.link_payload.specs.Entries.{EntryValue, Spells, IsCutAt, AreBytes}
+use Rattle.link_payload.specs.Entries.{EntryValue, Spells, IsCutAt}
 use Rattle.link_payload.specs.Fields.{state_answer_of, pong_answer_of}
+use Rattle.link_payload.proofs.WalkLemmas.{SpelledOrCut}
 use Rattle.asdp_messages.specs.declared.fault.WireFault.{WireFault}
 use Rattle.asdp_messages.specs.declared.fault.WireFault.TheVariants.{Short, NotLink, TooLong, Payload}
 use Rattle.asdp_messages.specs.declared.message.StateMsg.{StateMsg}
@@ -22,17 +22,11 @@ Answer = Result MessageValue WireFault
 
 -- ---- the answer of a payload
 
-abbrev pub SpelledOrCut : List ℕ → Type 0
-SpelledOrCut payload = ((es : List EntryValue) × Spells payload es) ⊎ ((n : ℕ) × (es : List EntryValue) × IsCutAt payload n es)
-
 pub answer_from : {A : Type 0} (f : List EntryValue → Option ℕ → Result A PayloadFault) (payload : List ℕ) (r : Result A PayloadFault) → SpelledOrCut payload
     → ((es : List EntryValue) → Spells payload es → r ≡ f es None) → ((n : ℕ) (es : List EntryValue) → IsCutAt payload n es → r ≡ f es (Some n))
     → IsAnswer f payload r
 answer_from f payload r (inl found) spelled cut = (found.0, None, found.1, spelled found.0 found.1)
 answer_from f payload r (inr found) spelled cut = (found.1, Some found.0, found.2, cut found.0 found.1 found.2)
-
-pub AreBytes-drop : (n : ℕ) (bs : List ℕ) → AreBytes bs → AreBytes (drop n bs)
-AreBytes-drop n bs bytes i = rw get_or-drop (bytes (n + i))
 
 -- ---- a discovery datagram
 
@@ -47,7 +41,7 @@ pub record IsHead (bytes : List ℕ) (kind ttl group : ℕ) (from : NodeId) (pay
 abbrev pub message_with : NodeId → ℕ → ℕ → PeerFields → StateMsg
 message_with from ttl group fields = record { from = from; ttl = ttl; group = group; fields = fields }
 
-abbrev ok : MessageValue → Answer
+abbrev pub ok : MessageValue → Answer
 ok m = Ok m
 
 state_message : (make : StateMsg → MessageValue) (bytes : List ℕ) (kind ttl group : ℕ) (from : NodeId) (payload : List ℕ) (fields : PeerFields)
@@ -197,6 +191,3 @@ not_link_is bytes protocol is other =
 -- of two kinds the second, where it isn't the first
 pub second_of : (kind : ℕ) → (eqb kind 1 || eqb kind 2) ≡ true → kind ≢ 1 → kind ≡ 2
 second_of kind known first = grind (arith, nat_tests)
-
-abbrev pub id_with : List ℕ → NodeId
-id_with bytes = record { 0 = bytes }

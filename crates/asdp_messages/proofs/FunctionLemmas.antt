@@ -9,15 +9,13 @@ use Rattle.link_payload.specs.declared.fields.PongFields.{PongFields}
 use Rattle.link_payload.specs.Entries.{EntryValue, Spells, AreEntriesIn, AreBytes}
 use Rattle.link_payload.specs.Items.{entries_of, cut_of}
 use Rattle.link_payload.specs.Fields.{AreInRange, AreTimesInRange, state_answer_of, pong_answer_of}
+use Rattle.link_payload.proofs.EntryLemmas.{AreBytes-drop}
 use Rattle.asdp_messages.specs.declared.fault.WireFault.{WireFault}
 use Rattle.asdp_messages.specs.declared.fault.WireFault.TheVariants.{Short, NotLink, TooLong, Payload}
 use Rattle.asdp_messages.specs.declared.message.Message.{Message}
 use Rattle.asdp_messages.specs.Datagram.{MessageValue, Alive, Response, Bye, Ping, Pong, OtherDiscovery, OtherLink, IsInRange, IsReadAs, IsLinkReadAs, IsDiscoveryReadAs, IsMessage, is_discovery, is_link, kind_in, state_message_in, sender_in, ttl_in, group_in, message_value, answer_value}
 use Rattle.asdp_messages.specs.Reading.{payload_reading_of, link_reading_of, discovery_reading_of, reading_of}
-use Rattle.asdp_messages.proofs.DatagramLemmas.{Answer, AreBytes-drop}
-
-abbrev ok : MessageValue → Answer
-ok m = Ok m
+use Rattle.asdp_messages.proofs.DatagramLemmas.{Answer, ok}
 
 -- ---- the function's reading is one
 
@@ -81,17 +79,17 @@ pub record PayloadLaws : Type 0 where
   pub pong : (es : List EntryValue) (cut : Option ℕ) (f : PongFields) → pong_answer_of es cut ≡ Ok f → AreTimesInRange f × (cut ≡ None)
 
 -- the function reads it, and its numbers are in range
-abbrev pub IsReadSo : MessageValue → Answer → Type 0
-IsReadSo m x = (x ≡ Ok m) × IsInRange m
+abbrev pub GivesInRange : MessageValue → Answer → Type 0
+GivesInRange m x = (x ≡ Ok m) × IsInRange m
 
-by_case : (b : Bool) (P Q : Type 0) (x y : Answer) (m : MessageValue) → (P → IsReadSo m x) → (Q → IsReadSo m y) → MatchBool b P Q → IsReadSo m (if b then x else y)
+by_case : (b : Bool) (P Q : Type 0) (x y : Answer) (m : MessageValue) → (P → GivesInRange m x) → (Q → GivesInRange m y) → MatchBool b P Q → GivesInRange m (if b then x else y)
 by_case true P Q x y m p q h = p h
 by_case false P Q x y m p q h = q h
 
-no_fault : (m : MessageValue) (fault : WireFault) → ok m ≡ Err fault → IsReadSo m (Err fault)
+no_fault : (m : MessageValue) (fault : WireFault) → ok m ≡ Err fault → GivesInRange m (Err fault)
 no_fault m fault e = absurd cc
 
-said : (m n : MessageValue) → IsInRange n → ok m ≡ ok n → IsReadSo m (ok n)
+said : (m n : MessageValue) → IsInRange n → ok m ≡ ok n → GivesInRange m (ok n)
 said m n range e =
     let one : n ≡ m = cc in (sym e, subst IsInRange one range)
 
@@ -110,13 +108,13 @@ message_case : {A : Type 0} (f : List EntryValue → Option ℕ → Result A Pay
     → ((es : List EntryValue) (cut : Option ℕ) (a : A) → f es cut ≡ Ok a → Range a × (cut ≡ None))
     → ((a : A) → Range a → IsInRange (message_of a))
     → (read : Result A PayloadFault) (es : List EntryValue) (cut : Option ℕ) → AreEntriesIn payload es cut → read ≡ f es cut
-    → ok m ≡ result_map_both message_of (λ fault. Payload fault) read → IsReadSo m (payload_reading_of f message_of payload)
+    → ok m ≡ result_map_both message_of (λ fault. Payload fault) read → GivesInRange m (payload_reading_of f message_of payload)
 message_case f message_of Range payload m spelled answered each (Ok a) es cut entries read_is e =
     let facts = answered es cut a (sym read_is) in
-    subst (IsReadSo m) (sym (fields_case f message_of payload m a es cut entries facts.1 (sym read_is) spelled)) (said m (message_of a) (each a facts.0) e)
+    subst (GivesInRange m) (sym (fields_case f message_of payload m a es cut entries facts.1 (sym read_is) spelled)) (said m (message_of a) (each a facts.0) e)
 message_case f message_of Range payload m spelled answered each (Err fault) es cut entries read_is e = absurd cc
 
-link_case : PayloadLaws → (bytes : List ℕ) (m : MessageValue) → IsLinkReadAs bytes (Ok m) → IsReadSo m (link_reading_of bytes)
+link_case : PayloadLaws → (bytes : List ℕ) (m : MessageValue) → IsLinkReadAs bytes (Ok m) → GivesInRange m (link_reading_of bytes)
 unfolding IsLinkReadAs link_reading_of
 link_case laws bytes m h =
     by_case (kind_in bytes == 1) _ _ _ _ m (said m (Ping (drop 9 bytes)) tt)
@@ -125,7 +123,7 @@ link_case laws bytes m h =
     (said m (OtherLink (kind_in bytes)) tt))
     h
 
-discovery_case : PayloadLaws → (bytes : List ℕ) (m : MessageValue) → IsDiscoveryReadAs bytes (Ok m) → IsReadSo m (discovery_reading_of bytes)
+discovery_case : PayloadLaws → (bytes : List ℕ) (m : MessageValue) → IsDiscoveryReadAs bytes (Ok m) → GivesInRange m (discovery_reading_of bytes)
 unfolding IsDiscoveryReadAs discovery_reading_of
 discovery_case laws bytes m h =
     by_case (kind_in bytes == 1) _ _ _ _ m
@@ -135,7 +133,7 @@ discovery_case laws bytes m h =
     (by_case (kind_in bytes == 3) _ _ _ _ m (said m (Bye (sender_in bytes) (ttl_in bytes) (group_in bytes)) tt) (said m (OtherDiscovery (kind_in bytes)) tt)))
     h
 
-pub message_is_read_so : PayloadLaws → (bytes : List ℕ) (m : MessageValue) → IsReadAs bytes (Ok m) → IsReadSo m (reading_of bytes)
+pub message_is_read_so : PayloadLaws → (bytes : List ℕ) (m : MessageValue) → IsReadAs bytes (Ok m) → GivesInRange m (reading_of bytes)
 unfolding IsReadAs reading_of
 message_is_read_so laws bytes m h =
     by_case (nat_lt (length bytes) 9) _ _ _ _ m (no_fault m (Short (length bytes)))

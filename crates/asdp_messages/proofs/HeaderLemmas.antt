@@ -1,23 +1,10 @@
 -- Headers, part by part.
 use Rattle.std.proofs.Common.{◌≡◌, ℕ, ◌^◌, ◌<◌, ◌≤◌, List, [], ◌∷◌, ◌++◌, length, get_or, take, drop, refl, sym, ap, ◌∙◌, append_assoc, lit<, arith}
-use Rattle.std.proofs.lemmas.List.{take_at, drop_at}
-use Rattle.byteorder.specs.Endian.{big_bytes, big_from}
-use Rattle.byteorder.specs.Numbers.{big_number-reads_back}
+use Rattle.byteorder.specs.Endian.{big_bytes}
 use Rattle.lk_base.specs.declared.ids.NodeId.{NodeId}
+use Rattle.lk_base.proofs.ByteLemmas.{parts_of, one_natural, id_with}
 use Rattle.asdp_messages.specs.declared.header.TheConstants.{DISCOVERY_PROTOCOL}
 use Rattle.asdp_messages.specs.Spelling.{spelled_header_of}
-
--- parts of equal length of one list are equal
-pub parts_of : (a b x y : List ℕ) → length a ≡ length b → a ++ x ≡ b ++ y → (a ≡ b) × (x ≡ y)
-parts_of a b x y len e = (
-  sym (take_at a x (length b) len) ∙ ap (take (length b)) e ∙ take_at b y (length b) refl,
-  sym (drop_at a x (length b) len) ∙ ap (drop (length b)) e ∙ drop_at b y (length b) refl,
-)
-
--- bytes are those of one number
-one_natural : (n x y : ℕ) → x < 256 ^ n → y < 256 ^ n → big_bytes n x ≡ big_bytes n y → x ≡ y
-one_natural n x y x_fits y_fits e =
-    sym (big_number-reads_back n x [] x_fits) ∙ ap (λ (bs : List ℕ). big_from 0 n (bs ++ [])) e ∙ big_number-reads_back n y [] y_fits
 
 -- the first eight bytes, and the others
 header_parted : (kind ttl group : ℕ) (from : NodeId)
@@ -68,9 +55,6 @@ pub record AreOne (kind ttl group : ℕ) (from : NodeId) (kind' ttl' group' : �
   pub ttl_is : ttl ≡ ttl'
   pub group_is : group ≡ group'
   pub from_is : from ≡ from'
-
-abbrev id_with : List ℕ → NodeId
-id_with bytes = record { 0 = bytes }
 
 pub one_header : (kind ttl group : ℕ) (from : NodeId) (kind' ttl' group' : ℕ) (from' : NodeId) → group < 2 ^ 16 → group' < 2 ^ 16
     → spelled_header_of kind ttl group from ≡ spelled_header_of kind' ttl' group' from'

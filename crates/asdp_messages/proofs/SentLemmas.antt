@@ -9,13 +9,14 @@ use Rattle.link_payload.specs.Entries.{EntryValue, Spells}
 use Rattle.lk_base.specs.Ranges.{IsWithinLimit}
 use Rattle.link_payload.specs.Fields.{IsStored, IsTidyFields, IsTidyPing, state_answer_of, pong_answer_of, echoing}
 use Rattle.link_payload.specs.Spelling.{spelled_state_of, spelled_ping_of, spelled_pong_of}
+use Rattle.lk_base.proofs.ByteLemmas.{id_with}
 use Rattle.asdp_messages.specs.Datagram.{MessageValue, Alive, Response, Bye, Ping, Pong, is_discovery, is_link, kind_in, IsAnswer, IsDiscoveryReadAs, IsLinkReadAs, IsReadAs}
 use Rattle.asdp_messages.specs.declared.message.StateMsg.{StateMsg}
 use Rattle.asdp_messages.specs.Spelling.{Written, spelled_of, spelled_header_of, spelled_link_header_of}
 use Rattle.asdp_messages.specs.Spelling as written
 use Rattle.asdp_messages.specs.Written.{IsTidyMessage, IsTidyWritten, Says}
 use Rattle.asdp_messages.proofs.HeaderLemmas.{length-header}
-use Rattle.asdp_messages.proofs.DatagramLemmas.{Answer, IsHead, alive_read, response_read, bye_read, ping_read, pong_read, link_read, discovery_read, id_with}
+use Rattle.asdp_messages.proofs.DatagramLemmas.{Answer, IsHead, alive_read, response_read, bye_read, ping_read, pong_read, link_read, discovery_read}
 
 -- ---- discovery messages
 

@@ -1,5 +1,5 @@
 -- Which datagrams are read, as which messages.
-use Rattle.std.specs.Prelude.{◌≡◌, ◌^◌, ◌<◌, ◌==◌, ◌||◌, ℕ, nat_lt, not, Bool, List, length, take, drop, slice_index, Option, IsSome, IfSome, Result, Ok, Err}
+use Rattle.std.specs.Prelude.{◌≡◌, ◌^◌, ◌<◌, ◌≤◌, ◌==◌, ◌||◌, ℕ, nat_lt, not, Bool, List, length, take, drop, slice_index, Option, IsSome, IfSome, Result, Ok, Err}
 use Rattle.std.specs.Bool.{MatchBool}
 use Rattle.std.specs.Result.{result_map_both}
 use Rattle.byteorder.specs.Endian.{big_number}
@@ -46,6 +46,21 @@ IsInRange (Ping payload) = Unit {0}
 IsInRange (Pong fields) = AreTimesInRange fields
 IsInRange (OtherDiscovery kind) = Unit {0}
 IsInRange (OtherLink kind) = Unit {0}
+
+-- a ping's payload has at most 503 bytes, as that of a datagram of at most 512 has
+abbrev pub IsShortMessage : MessageValue → Type 0
+IsShortMessage (Alive m) = Unit {0}
+IsShortMessage (Response m) = Unit {0}
+IsShortMessage (Bye from ttl group) = Unit {0}
+IsShortMessage (Ping payload) = length payload ≤ 503
+IsShortMessage (Pong fields) = Unit {0}
+IsShortMessage (OtherDiscovery kind) = Unit {0}
+IsShortMessage (OtherLink kind) = Unit {0}
+
+-- no ping, or a short one
+abbrev pub HasShortPing : Result MessageValue WireFault → Type 0
+HasShortPing (Ok m) = IsShortMessage m
+HasShortPing (Err fault) = Unit {0}
 
 -- what a message of code says
 abbrev pub message_value : Message → MessageValue

@@ -1,10 +1,10 @@
 //! Laws of the spelling, for proofs alone: to call one is to know it.
 
-ghost use Rattle.std.specs.Prelude.{◌≡◌, ◌≤◌, ◌<◌, ◌^◌, ℕ, List, Result, Ok, length};
+ghost use Rattle.std.specs.Prelude.{◌≡◌, ◌<◌, ◌^◌, ℕ, List, Result, Ok, length};
 ghost use Rattle.link_payload.specs.Entries.{AreBytes};
 ghost use Rattle.asdp_messages.specs.declared.fault.WireFault.{WireFault};
 ghost use Rattle.asdp_messages.specs.declared.message.StateMsg.{StateMsg};
-ghost use Rattle.asdp_messages.specs.Datagram.{AreAllRead, IsInRange, IsPlainAlive, IsReadAs, MessageValue, Ping};
+ghost use Rattle.asdp_messages.specs.Datagram.{AreAllRead, HasShortPing, IsInRange, IsPlainAlive, IsReadAs, MessageValue};
 ghost use Rattle.asdp_messages.specs.Reading.{reading_of};
 ghost use Rattle.asdp_messages.specs.Spelling.{Written, spelled_of, spelled_alive_of};
 ghost use Rattle.asdp_messages.specs.Written.{IsTidyWritten, Says};
@@ -51,7 +51,8 @@ pub fn all_are_read()
 
 /// A ping that is read has a payload of at most 503 bytes, since a datagram has at most 512.
 pub fn ping_payload_len()
-    ensures { (bytes payload : List ℕ) → IsReadAs bytes (Ok (Ping payload)) → length payload ≤ 503 }
+    ensures { (bytes : List ℕ) (reading : Result MessageValue WireFault)
+        → IsReadAs bytes reading → HasShortPing reading }
 {}
 
 /// Bytes spell one plain alive at most.

@@ -10,28 +10,28 @@ use Rattle.lk_base.specs.declared.timeline.Timeline.{Timeline}
 use Rattle.timeline_math.specs.Tidying.{clamped_of}
 use Rattle.client_state.specs.Commit.{IsTidyCommit, IsTidyStart}
 use Rattle.client_state.specs.State.{IsTidyState}
-use Rattle.client_state.specs.Words.{word_of, number_in, clipped_in, timeline_in, flag_of, flag_in, state_flags_of, timeline_flag_of, start_flags_of, start_in, word_if, words_of_state, state_of_words, words_of_commit, commit_of_words}
+use Rattle.client_state.specs.Words.{word_of, number_of_word, clipped_of_word, timeline_of_words, flag_of, flag_in, state_flags_of, timeline_flag_of, start_flags_of, start_of_words, word_if, words_of_state, state_of_words, words_of_commit, commit_of_words}
 use Rattle.client_state.specs.declared.commit.Commit.{Commit}
 use Rattle.client_state.specs.declared.state.State.{State}
 use Rattle.client_state.proofs.CommitLemmas.{one_timeline}
 
-number-back : (z : ℤ) → IsWithinLimit z → number_in (word_of z) ≡ z
+number-back : (z : ℤ) → IsWithinLimit z → number_of_word (word_of z) ≡ z
 number-back z within =
     let fits : FitsSigned w64 z = omega (arith, ints) in
     to_z-of_z w64 z fits
 
-clipped-back : (z : ℤ) → IsWithinLimit z → clipped_in (word_of z) ≡ z
+clipped-back : (z : ℤ) → IsWithinLimit z → clipped_of_word (word_of z) ≡ z
 clipped-back z within =
     let back = number-back z within in
     omega (arith, ints, clamps)
 
-timeline-back : (tl : Timeline) → IsTidy tl → timeline_in (word_of tl.mpb) (word_of tl.beat) (word_of tl.time) ≡ tl
+timeline-back : (tl : Timeline) → IsTidy tl → timeline_of_words (word_of tl.mpb) (word_of tl.beat) (word_of tl.time) ≡ tl
 timeline-back tl tidy =
     let slowest = tidy.slowest in
     let fastest = tidy.fastest in
     let back = number-back tl.mpb (omega (arith, ints)) in
-    let mpb : clamped_of (number_in (word_of tl.mpb)) ≡ tl.mpb = omega (arith, ints, clamps) in
-    one_timeline (timeline_in (word_of tl.mpb) (word_of tl.beat) (word_of tl.time)) tl mpb (clipped-back tl.beat tidy.beat) (clipped-back tl.time tidy.time)
+    let mpb : clamped_of (number_of_word (word_of tl.mpb)) ≡ tl.mpb = omega (arith, ints, clamps) in
+    one_timeline (timeline_of_words (word_of tl.mpb) (word_of tl.beat) (word_of tl.time)) tl mpb (clipped-back tl.beat tidy.beat) (clipped-back tl.time tidy.time)
 
 -- ---- flags
 flag-set : (word weight : ℕ) → word / weight % 2 ≡ 1 → flag_in word weight ≡ true
@@ -70,7 +70,7 @@ pub state-back : (s : State) → IsTidyState s → s.peers < 2 ^ 32 → state_of
 unfolding state_of_words words_of_state
 state-back s tidy few =
     let flags = state_flags_of s in
-    state-equal s (timeline_in (word_of s.timeline.mpb) (word_of s.timeline.beat) (word_of s.timeline.time)) (flag_in flags 1) (clipped_in (word_of s.start.time)) (clipped_in (word_of s.start.stamp)) (flag_in flags 2) (flags / 4 % 2 ^ 32) (clipped_in (word_of s.moment))
+    state-equal s (timeline_of_words (word_of s.timeline.mpb) (word_of s.timeline.beat) (word_of s.timeline.time)) (flag_in flags 1) (clipped_of_word (word_of s.start.time)) (clipped_of_word (word_of s.start.stamp)) (flag_in flags 2) (flags / 4 % 2 ^ 32) (clipped_of_word (word_of s.moment))
     (timeline-back s.timeline tidy.timeline)
     (playing-flag s.start.playing s.sync s.peers)
     (clipped-back s.start.time tidy.start)
@@ -80,7 +80,7 @@ state-back s tidy few =
     (clipped-back s.moment tidy.moment)
 
 -- ---- a commit
-start-back : (flags : ℕ) (start : ClientStart) → IsTidyStart start → flag_in flags 4 ≡ start.playing → start_in flags (word_of start.time) (word_of start.stamp) ≡ start
+start-back : (flags : ℕ) (start : ClientStart) → IsTidyStart start → flag_in flags 4 ≡ start.playing → start_of_words flags (word_of start.time) (word_of start.stamp) ≡ start
 start-back flags start tidy playing =
     rw playing (rw (clipped-back start.time tidy.time) (rw (clipped-back start.stamp tidy.stamp) refl))
 
@@ -112,19 +112,19 @@ timeline_flag-le None = omega arith
 timeline_flag-le (Some tl) = omega arith
 
 -- the timeline and the start of a commit, read from its words
-timeline_if-back : (timeline : Option Timeline) (start : Option ClientStart) → ForSome timeline IsTidy → (if flag_in (timeline_flag_of timeline + start_flags_of start) 1 then Some (timeline_in (word_if (λ tl. tl.mpb) timeline) (word_if (λ tl. tl.beat) timeline) (word_if (λ tl. tl.time) timeline)) else None) ≡ timeline
+timeline_if-back : (timeline : Option Timeline) (start : Option ClientStart) → ForSome timeline IsTidy → (if flag_in (timeline_flag_of timeline + start_flags_of start) 1 then Some (timeline_of_words (word_if (λ tl. tl.mpb) timeline) (word_if (λ tl. tl.beat) timeline) (word_if (λ tl. tl.time) timeline)) else None) ≡ timeline
 timeline_if-back None start tidy =
-    ap (λ b. if b then Some (timeline_in 0 0 0) else None) (timeline-flag None start)
+    ap (λ b. if b then Some (timeline_of_words 0 0 0) else None) (timeline-flag None start)
 timeline_if-back (Some tl) start tidy =
-    ap (λ b. if b then Some (timeline_in (word_of tl.mpb) (word_of tl.beat) (word_of tl.time)) else None) (timeline-flag (Some tl) start)
+    ap (λ b. if b then Some (timeline_of_words (word_of tl.mpb) (word_of tl.beat) (word_of tl.time)) else None) (timeline-flag (Some tl) start)
     ∙ ap (λ z. Some z) (timeline-back tl (tidy tl refl))
 
-start_if-back : (flag : ℕ) (start : Option ClientStart) → flag ≤ 1 → ForSome start IsTidyStart → (if flag_in (flag + start_flags_of start) 2 then Some (start_in (flag + start_flags_of start) (word_if (λ some. some.time) start) (word_if (λ some. some.stamp) start)) else None) ≡ start
+start_if-back : (flag : ℕ) (start : Option ClientStart) → flag ≤ 1 → ForSome start IsTidyStart → (if flag_in (flag + start_flags_of start) 2 then Some (start_of_words (flag + start_flags_of start) (word_if (λ some. some.time) start) (word_if (λ some. some.stamp) start)) else None) ≡ start
 start_if-back flag None le tidy =
-    ap (λ b. if b then Some (start_in (flag + 0) 0 0) else None) (flag-clear (flag + 0) 2 (omega arith))
+    ap (λ b. if b then Some (start_of_words (flag + 0) 0 0) else None) (flag-clear (flag + 0) 2 (omega arith))
 start_if-back flag (Some start) le tidy =
     let flags = flag + (2 + flag_of start.playing 4) in
-    ap (λ b. if b then Some (start_in flags (word_of start.time) (word_of start.stamp)) else None) (start-set flag start.playing le)
+    ap (λ b. if b then Some (start_of_words flags (word_of start.time) (word_of start.stamp)) else None) (start-set flag start.playing le)
     ∙ ap (λ z. Some z) (start-back flags start (tidy start refl) (playing-set flag start.playing le))
 
 commit-equal : (commit : Commit) (timeline : Option Timeline) (start : Option ClientStart) (at : ℤ) → timeline ≡ commit.timeline → start ≡ commit.start → at ≡ commit.at → record commit { timeline = timeline; start = start; at = at } ≡ commit

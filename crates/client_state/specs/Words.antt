@@ -15,14 +15,14 @@ abbrev pub word_of : ℤ → ℕ
 word_of z = cast_unsigned w64 z
 
 -- the number in a word, and the same within the limit
-abbrev pub number_in : ℕ → ℤ
-number_in word = cast_signed w64 word
+abbrev pub number_of_word : ℕ → ℤ
+number_of_word word = cast_signed w64 word
 
-abbrev pub clipped_in : ℕ → ℤ
-clipped_in word = clipped_of (number_in word)
+abbrev pub clipped_of_word : ℕ → ℤ
+clipped_of_word word = clipped_of (number_of_word word)
 
-abbrev pub timeline_in : ℕ → ℕ → ℕ → Timeline
-timeline_in mpb beat time = tidy_of (record { mpb = number_in mpb; beat = number_in beat; time = number_in time })
+abbrev pub timeline_of_words : ℕ → ℕ → ℕ → Timeline
+timeline_of_words mpb beat time = tidy_of (record { mpb = number_of_word mpb; beat = number_of_word beat; time = number_of_word time })
 
 -- a flag as a number, and the flag of this weight in a word
 abbrev pub flag_of : Bool → ℕ → ℕ
@@ -52,15 +52,15 @@ words_of_state state =
 
 unfoldable pub state_of_words : List ℕ → State
 state_of_words words = record {
-  timeline = timeline_in (slice_index words 0) (slice_index words 1) (slice_index words 2);
+  timeline = timeline_of_words (slice_index words 0) (slice_index words 1) (slice_index words 2);
   start = record {
     playing = flag_in (slice_index words 5) 1;
-    time = clipped_in (slice_index words 3);
-    stamp = clipped_in (slice_index words 4);
+    time = clipped_of_word (slice_index words 3);
+    stamp = clipped_of_word (slice_index words 4);
   };
   sync = flag_in (slice_index words 5) 2;
   peers = slice_index words 5 / 4 % 2 ^ 32;
-  moment = clipped_in (slice_index words 6);
+  moment = clipped_of_word (slice_index words 6);
   app = slice_index words 7;
   audio = slice_index words 8;
 }
@@ -94,18 +94,18 @@ words_of_commit commit =
     ∷ 0
     ∷ []
 
-abbrev pub start_in : ℕ → ℕ → ℕ → ClientStart
-start_in flags time stamp = record { playing = flag_in flags 4; time = clipped_in time; stamp = clipped_in stamp }
+abbrev pub start_of_words : ℕ → ℕ → ℕ → ClientStart
+start_of_words flags time stamp = record { playing = flag_in flags 4; time = clipped_of_word time; stamp = clipped_of_word stamp }
 
 unfoldable pub commit_of_words : List ℕ → Commit
 commit_of_words words = record {
   timeline =
       if flag_in (slice_index words 0) 1
-      then Some (timeline_in (slice_index words 1) (slice_index words 2) (slice_index words 3))
+      then Some (timeline_of_words (slice_index words 1) (slice_index words 2) (slice_index words 3))
       else None;
   start =
       if flag_in (slice_index words 0) 2
-      then Some (start_in (slice_index words 0) (slice_index words 4) (slice_index words 5))
+      then Some (start_of_words (slice_index words 0) (slice_index words 4) (slice_index words 5))
       else None;
-  at = clipped_in (slice_index words 6);
+  at = clipped_of_word (slice_index words 6);
 }

@@ -8,7 +8,7 @@ ghost use Rattle.lk_base.specs.Ranges.{IsWithinLimit};
 ghost use Rattle.lk_base.specs.Timeline.{IsTidy};
 
 use crate::state::State;
-use lk_base::{ClientStart, LIMIT, Timeline};
+use lk_base::{ClientStart, Timeline, is_within_limit};
 use timeline_math::tidy;
 
 mod row;
@@ -118,10 +118,4 @@ fn is_tidy_start(start: &Option<ClientStart>) -> bool
         Some(start) => is_within_limit(start.time) && is_within_limit(start.stamp),
         None => true,
     }
-}
-
-fn is_within_limit(n: i64) -> bool
-    ensures { IsTrue result ↔ IsWithinLimit n }
-{
-    -LIMIT <= n && n <= LIMIT
 }

@@ -9,16 +9,16 @@ use lk_base::{Timeline, clip};
 use timeline_math::tidy;
 
 // The number in a word, clipped.
-pub(crate) fn clipped_in(word: u64) -> i64
-    ensures value { result ≡ spec.clipped_in word }
+pub(crate) fn clipped_of_word(word: u64) -> i64
+    ensures value { result ≡ spec.clipped_of_word word }
     ensures within { IsWithinLimit result }
 {
     clip(word.cast_signed() as i128)
 }
 
 // The timeline in three words, tidied.
-pub(crate) fn timeline_in(mpb: u64, beat: u64, time: u64) -> Timeline
-    ensures value { result ≡ spec.timeline_in mpb beat time }
+pub(crate) fn timeline_of_words(mpb: u64, beat: u64, time: u64) -> Timeline
+    ensures value { result ≡ spec.timeline_of_words mpb beat time }
     ensures tidy { IsTidy result }
 {
     tidy(&Timeline {

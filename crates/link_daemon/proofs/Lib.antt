@@ -9,7 +9,6 @@ mod OutletLemmas
 mod ReplayLemmas
 mod CommandLemmas
 mod HexLineLemmas
-mod ReadingLemmas
 mod DecodeLemmas
 mod StatusLemmas
 mod FaultLineLemmas

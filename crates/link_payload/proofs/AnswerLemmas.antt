@@ -7,6 +7,7 @@ use Rattle.lk_base.specs.declared.endpoint.Endpoint.{Endpoint}
 use Rattle.lk_base.specs.declared.ids.NodeId.{NodeId}
 use Rattle.lk_base.specs.declared.start.SessionStart.{SessionStart}
 use Rattle.lk_base.specs.declared.timeline.Timeline.{Timeline}
+use Rattle.lk_base.proofs.ByteLemmas.{id_with}
 use Rattle.link_payload.specs.declared.fault.PayloadFault.{PayloadFault}
 use Rattle.link_payload.specs.declared.fault.PayloadFault.TheVariants.{Missing}
 use Rattle.link_payload.specs.declared.fields.PeerFields.{PeerFields}
@@ -16,9 +17,6 @@ use Rattle.link_payload.specs.Entries.{EntryValue}
 use Rattle.link_payload.specs.Fields.{number_in, timeline_in, start_in, endpoint_in, no_start, answer_of, size_fault_of, cut_fault_of, state_keys, pong_keys, state_of, pong_of, state_range_faults_of, pong_range_faults_of, state_answer_of, pong_answer_of}
 use Rattle.link_payload.specs.Last.{LastBytes, last_bytes_in, last_answer_of, state_by_values, pong_by_values}
 use Rattle.link_payload.proofs.StateLemmas.{stored}
-
-abbrev id_with : List ℕ → NodeId
-id_with bytes = record { 0 = bytes }
 
 abbrev pub missing : {A : Type 0} → ℕ → Result A PayloadFault
 missing key = Err (Missing key)

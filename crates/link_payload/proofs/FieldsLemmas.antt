@@ -17,6 +17,8 @@ use Rattle.link_payload.proofs.NumberLemmas.{fits-within}
 use Rattle.link_payload.proofs.SpellingLemmas.{length-timeline, length-start, length-endpoint}
 use Rattle.link_payload.proofs.ValueLemmas.{number_length}
 use Rattle.link_payload.proofs.StateLemmas.{one_timeline, one_start, one_endpoint}
+use Rattle.lk_base.proofs.ByteLemmas.{id_with}
+use Rattle.link_payload.proofs.AnswerLemmas.{fields_with}
 use Rattle.link_payload.proofs.PlainValuesLemmas.{one_reading}
 
 -- what the types of code say of fields with an endpoint
@@ -87,12 +89,6 @@ pub state_as_read : {payload timeline session start endpoint : List ℕ} → Are
     → payload ≡ spelled_state_of f
 state_as_read {timeline = timeline} {session = session} {start = start} {endpoint = endpoint} v f e is timeline_is session_is start_is endpoint_is =
     v.spelled ∙ rw (timeline_is, session_is, start_is, endpoint_is) refl ∙ sym (state_parted f e is)
-
-abbrev fields_with : Timeline → NodeId → SessionStart → Option Endpoint → PeerFields
-fields_with timeline session start endpoint = record { timeline = timeline; session = session; start = start; endpoint = endpoint }
-
-abbrev id_with : List ℕ → NodeId
-id_with bytes = record { 0 = bytes }
 
 -- bytes spell one state with an endpoint
 pub one_fields : {f g : PeerFields} {d e : Endpoint} → FitsFields f d → FitsFields g e → spelled_state_of f ≡ spelled_state_of g → f ≡ g

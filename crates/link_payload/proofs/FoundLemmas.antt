@@ -41,5 +41,5 @@ walked_by : (payload : List ℕ) → AreBytes payload → SpelledOrCut payload �
 walked_by payload are_bytes (inl found) = found_so payload found.0 None (spelled_found payload found.0 found.1) found.1
 walked_by payload are_bytes (inr found) = found_so payload found.1 (Some found.0) (cut_found payload found.0 found.1 are_bytes found.2) found.2
 
-pub walked : (payload : List ℕ) → AreBytes payload → AreEntriesIn payload (entries_of payload) (cut_of payload)
-walked payload are_bytes = walked_by payload are_bytes (spelled_or_cut_by payload (walk_of payload are_bytes))
+pub walk_finds : (payload : List ℕ) → AreBytes payload → AreEntriesIn payload (entries_of payload) (cut_of payload)
+walk_finds payload are_bytes = walked_by payload are_bytes (spelled_or_cut_by payload (walk_of payload are_bytes))

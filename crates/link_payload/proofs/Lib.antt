@@ -1,4 +1,3 @@
-pub mod Lists
 pub mod NumberLemmas
 pub mod SpellingLemmas
 pub mod ReadingLemmas

@@ -5,9 +5,10 @@ use Rattle.std.specs.Int.RustNames.{FitsSigned}
 use Rattle.std.proofs.lemmas.Int.{ints, to_z-of_z, of_z-to_z}
 use Rattle.std.proofs.lemmas.List.{length-take-le}
 use Rattle.std.proofs.lemmas.Nat.{be_bytes_8}
-use Rattle.byteorder.specs.Endian.{big_bytes, big_number, big_from}
-use Rattle.byteorder.specs.Numbers.{big_number-reads_back, big_from-lt}
+use Rattle.byteorder.specs.Endian.{big_bytes, big_number}
+use Rattle.byteorder.specs.Numbers.{big_from-lt}
 use Rattle.lk_base.specs.Ranges.{IsWithinLimit}
+use Rattle.lk_base.proofs.ByteLemmas.{one_natural}
 use Rattle.link_payload.specs.Entries.{spelled_number_of}
 
 abbrev pub AreBytes : List ℕ → Type 0
@@ -40,11 +41,6 @@ number_before bytes number rest z len are_bytes number_is rest_is z_is fits =
     let spelled : spelled_number_of (cast_signed w64 (cast_unsigned w64 z)) ≡ take 8 bytes =
     ap spelled_number_of (to_z-of_z w64 z fits ∙ read) ∙ first in
     sym (take-append-drop 8 bytes) ∙ rw (spelled, rest_is) refl
-
--- bytes are those of one number
-pub one_natural : (n x y : ℕ) → x < 256 ^ n → y < 256 ^ n → big_bytes n x ≡ big_bytes n y → x ≡ y
-one_natural n x y x_fits y_fits e =
-    sym (big_number-reads_back n x [] x_fits) ∙ ap (λ (bs : List ℕ). big_from 0 n (bs ++ [])) e ∙ big_number-reads_back n y [] y_fits
 
 -- the bits of a number that fits are below 2 ^ 64
 pub bits-lt : (z : ℤ) → FitsSigned w64 z → cast_unsigned w64 z < 2 ^ 64

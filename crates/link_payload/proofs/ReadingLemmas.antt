@@ -2,8 +2,7 @@
 use Rattle.std.proofs.Common.{◌≡◌, ℕ, ◌^◌, ◌<◌, ◌+◌, List, ◌++◌, length, refl, sym, ap, ◌∙◌, append_assoc, length-append, arith}
 use Rattle.byteorder.specs.Endian.{big_bytes}
 use Rattle.link_payload.specs.Entries.{spelled_entry_of}
-use Rattle.link_payload.proofs.Lists.{parts_of}
-use Rattle.link_payload.proofs.NumberLemmas.{one_natural}
+use Rattle.lk_base.proofs.ByteLemmas.{parts_of, one_natural}
 
 -- an entry, its parts one after the other
 pub entry_parted : (key : ℕ) (value rest : List ℕ) → spelled_entry_of key value ++ rest ≡ big_bytes 4 key ++ (big_bytes 4 (length value) ++ (value ++ rest))

@@ -11,8 +11,8 @@ use Rattle.lk_base.specs.declared.timeline.Timeline.{Timeline}
 use Rattle.link_payload.specs.Entries.{spelled_number_of}
 use Rattle.lk_base.specs.Endpoint.{IsEndpoint}
 use Rattle.link_payload.specs.Spelling.{spelled_timeline_of, spelled_start_of, spelled_endpoint_of}
-use Rattle.link_payload.proofs.Lists.{parts_of}
-use Rattle.link_payload.proofs.NumberLemmas.{one_natural, one_number}
+use Rattle.lk_base.proofs.ByteLemmas.{parts_of, one_natural}
+use Rattle.link_payload.proofs.NumberLemmas.{one_number}
 
 same_length : (y z : ℤ) → length (spelled_number_of y) ≡ length (spelled_number_of z)
 unfolding spelled_number_of
@@ -82,13 +82,13 @@ unfolding spelled_endpoint_of
 endpoint_as_read value after_addr after_port addr port e f len =
     e ∙ ap (λ (r : List ℕ). big_bytes 4 addr ++ r) (ends after_addr (big_bytes 2 port) after_port f len)
 
-abbrev timeline_with : ℤ → ℤ → ℤ → Timeline
+abbrev pub timeline_with : ℤ → ℤ → ℤ → Timeline
 timeline_with mpb beat time = record { mpb = mpb; beat = beat; time = time }
 
-abbrev start_with : Bool → ℤ → ℤ → SessionStart
+abbrev pub start_with : Bool → ℤ → ℤ → SessionStart
 start_with playing beats stamp = record { playing = playing; beats = beats; stamp = stamp }
 
-abbrev endpoint_with : ℕ → ℕ → Endpoint
+abbrev pub endpoint_with : ℕ → ℕ → Endpoint
 endpoint_with addr port = record { addr = addr; port = port }
 
 -- bytes spell one timeline

@@ -14,7 +14,7 @@ use Rattle.lk_base.specs.Endpoint.{IsEndpoint}
 use Rattle.link_payload.specs.Fields.{number_in, timeline_in, start_in, endpoint_in}
 use Rattle.link_payload.specs.Spelling.{spelled_timeline_of, spelled_start_of, spelled_endpoint_of}
 use Rattle.link_payload.proofs.NumberLemmas.{bits-lt}
-use Rattle.link_payload.proofs.StateLemmas.{stored}
+use Rattle.link_payload.proofs.StateLemmas.{stored, timeline_with, start_with, endpoint_with}
 
 pub number_length : (z : ℤ) → length (spelled_number_of z) ≡ 8
 unfolding spelled_number_of
@@ -32,9 +32,6 @@ number_first bytes rest z fits is = ap number_in is ∙ number_again z rest fits
 
 pub after_number : (bytes rest : List ℕ) (z : ℤ) → bytes ≡ spelled_number_of z ++ rest → drop 8 bytes ≡ rest
 after_number bytes rest z is = ap (drop 8) is ∙ drop_at (spelled_number_of z) rest 8 (number_length z)
-
-abbrev pub timeline_with : ℤ → ℤ → ℤ → Timeline
-timeline_with mpb beat time = record { mpb = mpb; beat = beat; time = time }
 
 timeline_parts : (mpb beat time mpb' beat' time' : ℤ) → mpb ≡ mpb' → beat ≡ beat' → time ≡ time' → timeline_with mpb beat time ≡ timeline_with mpb' beat' time'
 timeline_parts mpb beat time mpb' beat' time' e f g = rw (e, f, g) refl
@@ -60,9 +57,6 @@ timeline_again t mpb_fits beat_fits time_fits =
     sym (timeline_is (spelled_timeline_of t) _ _ [] t.mpb t.beat t.time
     (append_assoc (spelled_number_of t.mpb) (spelled_number_of t.beat) (spelled_number_of t.time)) refl (sym (append-nil (spelled_number_of t.time)))
     mpb_fits beat_fits time_fits)
-
-abbrev pub start_with : Bool → ℤ → ℤ → SessionStart
-start_with playing beats stamp = record { playing = playing; beats = beats; stamp = stamp }
 
 start_parts : (playing playing' : Bool) (beats stamp beats' stamp' : ℤ) → playing ≡ playing' → beats ≡ beats' → stamp ≡ stamp' → start_with playing beats stamp ≡ start_with playing' beats' stamp'
 start_parts playing playing' beats stamp beats' stamp' e f g = rw (e, f, g) refl
@@ -92,9 +86,6 @@ start_again s beats_fits stamp_fits =
     let spelled = spelled_number_of s.beats ++ spelled_number_of s.stamp in
     sym (start_is (spelled_start_of s) (take 1 (spelled_start_of s)) spelled (spelled_number_of s.stamp) [] s.beats s.stamp refl refl refl (sym (append-nil (spelled_number_of s.stamp))) beats_fits stamp_fits)
     ∙ start_parts _ _ _ _ _ _ (playing_byte_again s.playing) refl refl
-
-abbrev pub endpoint_with : ℕ → ℕ → Endpoint
-endpoint_with addr port = record { addr = addr; port = port }
 
 pub endpoint_is : (value after_addr after_port : List ℕ) (addr port : ℕ) → value ≡ big_bytes 4 addr ++ after_addr → after_addr ≡ big_bytes 2 port ++ after_port
     → addr < 2 ^ 32 → port < 2 ^ 16 → record { addr = addr; port = port } ≡ endpoint_in value

@@ -1,13 +1,12 @@
 //! The ranges of the numbers that are taken off the wire.
 
 ghost use Rattle.std.specs.Prelude.{◌≡◌, ◌&&◌, pos, int_le, nat_le, unsigned_abs, ◌≤ℤ◌, ◌^◌, ◌↔◌, IsTrue, Some, None};
-ghost use Rattle.lk_base.specs.Ranges.{IsWithinLimit};
 ghost use Rattle.link_payload.specs.Fields.{AreInRange, answer_of, mpb_fault_of, limit_fault_of, state_range_faults_of, pong_range_faults_of};
 
 use crate::fault::PayloadFault;
 use crate::fields::{PeerFields, PongFields};
 use crate::key::{GHOST_TIME, HOST_TIME, PREVIOUS_GHOST_TIME, START, TIMELINE};
-use lk_base::LIMIT;
+use lk_base::is_within_limit;
 
 // The greatest tempo that is taken, in microseconds per beat: 2^31.
 const GREATEST_MPB: i64 = 2_147_483_648;
@@ -82,10 +81,4 @@ fn is_mpb(mpb: i64) -> bool
     ensures { IsTrue result ↔ ((pos 1 ≤ℤ mpb) × (mpb ≤ℤ pos (2 ^ 31))) }
 {
     1 <= mpb && mpb <= GREATEST_MPB
-}
-
-fn is_within_limit(number: i64) -> bool
-    ensures { IsTrue result ↔ IsWithinLimit number }
-{
-    -LIMIT <= number && number <= LIMIT
 }

@@ -3,10 +3,10 @@
 ghost use Rattle.std.specs.Prelude.{◌≡◌, ◌≤◌, ◌+◌, ◌*◌, ◌++◌, ◌∷◌, [], length, codes};
 ghost use Rattle.std.specs.Fmt.{decimal, signed_decimal};
 ghost use Rattle.arrayvec.specs.ArrayVec.{array_vec_len};
-ghost use Rattle.asdp_messages.specs.Datagram.{answer_value, message_value};
+ghost use Rattle.asdp_messages.specs.Datagram.{HasShortPing, IsShortMessage, answer_value, message_value};
 ghost use Rattle.link_text.specs.Words.{truth_text_of};
 ghost use Rattle.link_text.specs.Line.{line_of};
-ghost use Rattle.link_text.specs.ReadingLine.{IsShortMessage, IsShortReading, fault_words_of, id_text_of, key_text_of, maybe_endpoint_text_of, message_words_of, payload_fault_words_of, payload_text_of, reading_line_of, state_words_of};
+ghost use Rattle.link_text.specs.ReadingLine.{fault_words_of, id_text_of, key_text_of, maybe_endpoint_text_of, message_words_of, payload_fault_words_of, payload_text_of, reading_line_of, state_words_of};
 
 use crate::line::{
     LineBuf, put, put_decimal, put_endpoint, put_hex, put_short_hex, put_signed, put_truth,
@@ -21,7 +21,7 @@ use lk_base::{Endpoint, NodeId, SessionStart, Timeline};
 /// Waits: no. Memory: none.
 #[tactic(auto, unfolding(crate::specs::ReadingLine::reading_line_of))]
 pub fn write_reading(line: &mut LineBuf, reading: &Result<Message<'_>, WireFault>)
-    requires { IsShortReading (answer_value reading.now) }
+    requires { HasShortPing (answer_value reading.now) }
     ensures { line.new.items ≡ reading_line_of (answer_value reading.now) }
 {
     line.clear();

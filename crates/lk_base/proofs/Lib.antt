@@ -1,2 +1,3 @@
 pub mod RoundingLemmas
+pub mod ByteLemmas
 mod OrderLemmas

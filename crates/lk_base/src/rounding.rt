@@ -1,7 +1,7 @@
 //! Whole numbers nearest to a quotient, and numbers kept within the limit.
 
-ghost use Rattle.std.specs.Prelude.{◌≡◌, ℕ, ℤ, pos, ◌^◌, ◌<◌, ◌≤◌, ◌≤ℤ◌, unsigned_abs};
-ghost use Rattle.lk_base.specs.Ranges.{IsWithin};
+ghost use Rattle.std.specs.Prelude.{◌≡◌, ℕ, ℤ, pos, ◌^◌, ◌<◌, ◌≤◌, ◌+ℤ◌, ◌≤ℤ◌, unsigned_abs};
+ghost use Rattle.lk_base.specs.Ranges.{IsWithin, IsWithinLimit};
 ghost use Rattle.lk_base.specs.Rounding.{IsNearest, clipped_of, nearest_of, rounded_of, signed_of};
 
 use crate::limits::LIMIT;
@@ -13,6 +13,16 @@ pub fn clip(n: i128) -> i64
     ensures same { IsWithin (2 ^ 60) n → result ≡ n }
 {
     n.clamp(-(LIMIT as i128), LIMIT as i128) as i64
+}
+
+/// An origin that is moved on by so much, kept within the limit.
+pub fn moved(origin: i64, by: i128) -> i64
+    requires origin { IsWithinLimit origin }
+    requires by { IsWithin (2 ^ 120) by }
+    ensures value { result ≡ clipped_of (origin +ℤ by) }
+    ensures within { IsWithinLimit result }
+{
+    clip(origin as i128 + by)
 }
 
 /// `n / d` rounded to the nearest whole number, halves away from 0.

@@ -1,6 +1,6 @@
 //! Cases worked out apart from the code: quotients by exact fractions, ids by the reference generator of PCG.
 
-use crate::{IdSource, NodeId, clip, near};
+use crate::{IdSource, NodeId, clip, is_within_limit, moved, near};
 
 // 2^120, the greatest number that is rounded.
 const GREATEST: i128 = 1_329_227_995_784_915_872_903_807_060_280_344_576;
@@ -95,6 +95,31 @@ fn numbers_are_kept_within_the_limit(rt: HostRuntime) {
         ),
     ] {
         assert_eq!(rt; clip(n), want, "at {n}");
+    }
+}
+
+#[test]
+fn the_limit_itself_is_within_it(rt: HostRuntime) {
+    for (n, want) in [
+        (0, true),
+        (1_152_921_504_606_846_976, true),
+        (1_152_921_504_606_846_977, false),
+        (-1_152_921_504_606_846_976, true),
+        (-1_152_921_504_606_846_977, false),
+    ] {
+        assert_eq!(rt; is_within_limit(n), want, "at {n}");
+    }
+}
+
+#[test]
+fn an_origin_is_moved_no_farther_than_the_limit(rt: HostRuntime) {
+    for (origin, by, want) in [
+        (5, 7, 12),
+        (5, -7, -2),
+        (1_152_921_504_606_846_970, 7, 1_152_921_504_606_846_976),
+        (-1_152_921_504_606_846_970, -7, -1_152_921_504_606_846_976),
+    ] {
+        assert_eq!(rt; moved(origin, by), want, "from {origin} by {by}");
     }
 }
 

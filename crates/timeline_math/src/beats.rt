@@ -1,12 +1,11 @@
 //! The beat at a time, and the time of a beat.
 
-ghost use Rattle.std.specs.Prelude.{◌≡◌, pos, ◌+◌, ◌^◌, ◌≤◌, ◌+ℤ◌, ◌-ℤ◌, ◌*ℤ◌, unsigned_abs};
+ghost use Rattle.std.specs.Prelude.{◌≡◌, pos, ◌+◌, ◌^◌, ◌≤◌, ◌-ℤ◌, ◌*ℤ◌, unsigned_abs};
 ghost use Rattle.lk_base.specs.Ranges.{IsWithin, IsWithinLimit};
-ghost use Rattle.lk_base.specs.Rounding.{clipped_of};
 ghost use Rattle.lk_base.specs.Timeline.{IsTidy};
 ghost use Rattle.timeline_math.specs.Beats as spec;
 
-use lk_base::{Timeline, clip, near};
+use lk_base::{Timeline, moved, near};
 
 /// The microbeats of a beat.
 pub(crate) const BEAT: i64 = 1_000_000;
@@ -67,13 +66,4 @@ fn scaled(n: i128, by: i64) -> i128
     ensures within { IsWithin (2 ^ 84) result }
 {
     n * by as i128
-}
-
-fn moved(origin: i64, by: i128) -> i64
-    requires origin { IsWithinLimit origin }
-    requires by { IsWithin (2 ^ 84) by }
-    ensures value { result ≡ clipped_of (origin +ℤ by) }
-    ensures within { IsWithinLimit result }
-{
-    clip(origin as i128 + by)
 }

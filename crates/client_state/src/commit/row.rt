@@ -4,10 +4,10 @@ ghost use Rattle.std.specs.Prelude.{◌≡◌, ◌≤◌, Some, None, if◌then�
 ghost use Rattle.std.specs.Option.{ForSome};
 ghost use Rattle.lk_base.specs.Timeline.{IsTidy};
 ghost use Rattle.client_state.specs.Commit.{IsTidyStart};
-ghost use Rattle.client_state.specs.Words.{timeline_flag_of, start_flags_of, word_if, flag_in, start_in, timeline_in};
+ghost use Rattle.client_state.specs.Words.{timeline_flag_of, start_flags_of, word_if, flag_in, start_of_words, timeline_of_words};
 
 use crate::commit::Commit;
-use crate::words::{clipped_in, flag, flag_in, timeline_in};
+use crate::words::{clipped_of_word, flag, flag_in, timeline_of_words};
 use lk_base::{ClientStart, Timeline};
 
 impl Commit {
@@ -44,7 +44,7 @@ impl Commit {
         Commit {
             timeline: timeline_if(row[0], row[1], row[2], row[3]),
             start: start_if(row[0], row[4], row[5]),
-            at: clipped_in(row[6]),
+            at: clipped_of_word(row[6]),
         }
     }
 }
@@ -87,11 +87,11 @@ fn start_words(start: &Option<ClientStart>) -> (u64, u64, u64)
 
 // The timeline in three words, where its flag is set.
 fn timeline_if(flags: u64, mpb: u64, beat: u64, time: u64) -> Option<Timeline>
-    ensures value { result ≡ (if flag_in flags 1 then Some (timeline_in mpb beat time) else None) }
+    ensures value { result ≡ (if flag_in flags 1 then Some (timeline_of_words mpb beat time) else None) }
     ensures tidy { ForSome result IsTidy }
 {
     if flag_in(flags, 1) {
-        Some(timeline_in(mpb, beat, time))
+        Some(timeline_of_words(mpb, beat, time))
     } else {
         None
     }
@@ -99,14 +99,14 @@ fn timeline_if(flags: u64, mpb: u64, beat: u64, time: u64) -> Option<Timeline>
 
 // The start in two words, where its flag is set.
 fn start_if(flags: u64, time: u64, stamp: u64) -> Option<ClientStart>
-    ensures value { result ≡ (if flag_in flags 2 then Some (start_in flags time stamp) else None) }
+    ensures value { result ≡ (if flag_in flags 2 then Some (start_of_words flags time stamp) else None) }
     ensures tidy { ForSome result IsTidyStart }
 {
     if flag_in(flags, 2) {
         Some(ClientStart {
             playing: flag_in(flags, 4),
-            time: clipped_in(time),
-            stamp: clipped_in(stamp),
+            time: clipped_of_word(time),
+            stamp: clipped_of_word(stamp),
         })
     } else {
         None

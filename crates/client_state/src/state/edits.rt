@@ -1,6 +1,6 @@
 //! Edits of a state. None of them takes memory or waits, and each gives a tidy timeline.
 
-ghost use Rattle.std.specs.Prelude.{◌≡◌, pos, ◌^◌, ◌+ℤ◌, ◌-ℤ◌, ◌≤ℤ◌};
+ghost use Rattle.std.specs.Prelude.{◌≡◌, pos, ◌^◌, ◌-ℤ◌, ◌≤ℤ◌};
 ghost use Rattle.lk_base.specs.Ranges.{IsQuantum, IsWithin, IsWithinLimit};
 ghost use Rattle.lk_base.specs.Rounding.{clipped_of};
 ghost use Rattle.lk_base.specs.Timeline.{IsTidy};
@@ -8,7 +8,7 @@ ghost use Rattle.timeline_math.specs.Tidying.{clamped_of};
 ghost use Rattle.client_state.specs.Edits.{advance_of, forced_of, next_time_of, requested_of, tempo_set_of};
 
 use crate::state::State;
-use lk_base::{Timeline, clip};
+use lk_base::{Timeline, clip, moved};
 use timeline_math::{
     beat_at, closest_match, encoded_beat, encoded_time, next_match, tidy, time_at,
 };
@@ -149,16 +149,6 @@ fn apart(from: i64, to: i64) -> i128
     ensures within { IsWithin (2 ^ 63) result }
 {
     to as i128 - from as i128
-}
-
-// A beat origin moved on, clipped.
-fn moved(origin: i64, by: i128) -> i64
-    requires origin { IsWithinLimit origin }
-    requires by { IsWithin (2 ^ 63) by }
-    ensures value { result ≡ clipped_of (origin +ℤ by) }
-    ensures within { IsWithinLimit result }
-{
-    clip(origin as i128 + by)
 }
 
 // A time origin moved back, clipped.

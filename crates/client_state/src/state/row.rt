@@ -4,7 +4,7 @@ ghost use Rattle.std.specs.Prelude.{◌≡◌, ◌+◌, ◌*◌, ◌/◌, ◌%�
 ghost use Rattle.client_state.specs.Words.{flag_of};
 
 use crate::state::State;
-use crate::words::{clipped_in, flag, flag_in, timeline_in};
+use crate::words::{clipped_of_word, flag, flag_in, timeline_of_words};
 use lk_base::ClientStart;
 
 impl State {
@@ -38,15 +38,15 @@ impl State {
         ensures tidy { IsTidyState result }
     {
         State {
-            timeline: timeline_in(row[0], row[1], row[2]),
+            timeline: timeline_of_words(row[0], row[1], row[2]),
             start: ClientStart {
                 playing: flag_in(row[5], 1),
-                time: clipped_in(row[3]),
-                stamp: clipped_in(row[4]),
+                time: clipped_of_word(row[3]),
+                stamp: clipped_of_word(row[4]),
             },
             sync: flag_in(row[5], 2),
             peers: peers_in(row[5]),
-            moment: clipped_in(row[6]),
+            moment: clipped_of_word(row[6]),
             app: row[7],
             audio: row[8],
         }

@@ -1,5 +1,5 @@
-use Rattle.asdp_messages.proofs.ReadingLemmas.{ping_fits}
+use Rattle.asdp_messages.proofs.ReadingLemmas.{short_reading}
 use Rattle.asdp_messages.proofs.laws.ping_payload_len.Goals as goal
 
 pub returns : goal.returns
-returns c = ping_fits
+returns c = short_reading

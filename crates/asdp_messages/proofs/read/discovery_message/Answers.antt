@@ -1,11 +1,13 @@
 use Rattle.std.proofs.Common.{◌≡◌, Result, rules, Ok, Err, refl, sym, subst, ap, ◌∙◌, arith}
 use Rattle.link_payload.specs.Entries.{AreBytes}
 use Rattle.link_payload.specs.Fields.{state_answer_of}
+use Rattle.lk_base.proofs.ByteLemmas.{id_with}
+use Rattle.link_payload.proofs.EntryLemmas.{AreBytes-drop}
 use Rattle.asdp_messages.specs.declared.fault.WireFault.{WireFault}
 use Rattle.asdp_messages.specs.declared.fault.WireFault.TheVariants.{Payload}
 use Rattle.asdp_messages.specs.declared.message.Message.{Message}
 use Rattle.asdp_messages.specs.Datagram.{IsDiscoveryReadAs, answer_value}
-use Rattle.asdp_messages.proofs.DatagramLemmas.{AreBytes-drop, answer_from, alive_read, response_read, bye_read, other_read, state_fault_read, second_of, id_with}
+use Rattle.asdp_messages.proofs.DatagramLemmas.{answer_from, alive_read, response_read, bye_read, other_read, state_fault_read, second_of}
 use Rattle.asdp_messages.proofs.read.discovery_message.Goals as goal
 
 pub returns-then-kind-eq-DISCOVERY_BYE : goal.returns-then-kind-eq-DISCOVERY_BYE

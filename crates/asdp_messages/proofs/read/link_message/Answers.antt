@@ -1,11 +1,12 @@
 use Rattle.std.proofs.Common.{◌≡◌, Result, rules, Ok, Err, sym, subst, arith}
 use Rattle.link_payload.specs.Entries.{AreBytes}
 use Rattle.link_payload.specs.Fields.{pong_answer_of}
+use Rattle.link_payload.proofs.EntryLemmas.{AreBytes-drop}
 use Rattle.asdp_messages.specs.declared.fault.WireFault.{WireFault}
 use Rattle.asdp_messages.specs.declared.fault.WireFault.TheVariants.{Payload}
 use Rattle.asdp_messages.specs.declared.message.Message.{Message}
 use Rattle.asdp_messages.specs.Datagram.{IsLinkReadAs, answer_value}
-use Rattle.asdp_messages.proofs.DatagramLemmas.{AreBytes-drop, answer_from, ping_read, pong_read, other_link_read}
+use Rattle.asdp_messages.proofs.DatagramLemmas.{answer_from, ping_read, pong_read, other_link_read}
 use Rattle.asdp_messages.proofs.read.link_message.Goals as goal
 
 pub returns-then-kind-eq-LINK_PING : goal.returns-then-kind-eq-LINK_PING
