@@ -1,5 +1,5 @@
 -- What always holds of a node.
-use Rattle.std.specs.Prelude.{◌≡◌, ◌≤◌, Bool, true, false, List, [], ◌∷◌, map, IsSome, IfSome, IsTrue, ◌||◌, is_some, ℕ}
+use Rattle.std.specs.Prelude.{◌≡◌, ◌≤◌, Bool, true, false, List, [], ◌∷◌, length, map, IsSome, IfSome, IsTrue, ◌||◌, is_some, ℕ}
 use Rattle.std.specs.List.{AllByRecursion}
 use Rattle.lk_base.specs.IdOrder.{same_id}
 use Rattle.lk_base.specs.Ranges.{IsWithinLimit, IsMoment}
@@ -48,6 +48,8 @@ pub record IsMachine (m : Machine) : Type 0 where
   -- no session is known twice, and each timeline taken is tidy
   pub distinct : AreDistinct (session_in m ∷ map session_of m.sessions.others)
   pub timelines : AllByRecursion AreTidyTimelines (m.sessions.current ∷ m.sessions.others)
+  -- at most 64 others
+  pub few : length m.sessions.others ≤ 64
   pub starts : AllByRecursion IsInLimits m.starts
   pub queue : IsQueue m
   -- the peers that are told were counted

@@ -15,9 +15,14 @@ pub enum Event {
         now: i64,
     },
     /// Time alone.
-    Tick { now: i64 },
+    Tick {
+        now: i64,
+    },
     /// A commit of an application.
-    App { commit: Commit, now: i64 },
+    App {
+        commit: Commit,
+        now: i64,
+    },
     /// A commit of the audio thread, by its number from 1. One that was overwritten is left out, so numbers rise by one or more.
     Audio {
         number: u64,
@@ -25,7 +30,9 @@ pub enum Event {
         now: i64,
     },
     /// The node says goodbye.
-    End { now: i64 },
+    End {
+        now: i64,
+    },
 }
 
 /// Whether a step published a state.

@@ -36,7 +36,13 @@ impl Node {
                     self.take_state(gate, &msg);
                 }
             }
-            Ok(Message::Bye { from: id, group, .. }) => {
+            Ok(
+                Message::Bye {
+                    from: id,
+                    group,
+                    ..
+                },
+            ) => {
                 if self.is_heard(&id, group) {
                     let _had_row = self.peers.bye(gate, id);
                 }

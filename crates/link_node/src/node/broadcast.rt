@@ -35,8 +35,7 @@ impl Node {
     {
         match self.last_broadcast {
             Some(last) => {
-                last + PERIOD <= self.moment
-                    || (self.changed && last + SHORT_PERIOD <= self.moment)
+                last + PERIOD <= self.moment || (self.changed && last + SHORT_PERIOD <= self.moment)
             }
             None => true,
         }

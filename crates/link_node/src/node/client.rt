@@ -13,7 +13,11 @@ impl Node {
         ensures stands { (m : Machine) → HasParts self.old m → HasParts self.new (renewed m) }
     {
         let current = self.sessions.current();
-        self.client =
-            client_from_session(&self.client, &current.timeline, self.moment, current.xform);
+        self.client = client_from_session(
+            &self.client,
+            &current.timeline,
+            self.moment,
+            current.xform,
+        );
     }
 }
