@@ -31,27 +31,26 @@ IsInLimits start = IsWithinLimit start.beats × IsWithinLimit start.stamp
 abbrev pub is_known : Machine → NodeId → Bool
 is_known m session = is_some (known_in session m.sessions)
 
--- A session waits once, and not while it is measured. The current one doesn't wait where it is to be measured anew later, and isn't
--- measured then.
-pub record IsQueue (m : Machine) : Type 0 where
+-- No session is known twice, and at most 64 others are. A session waits once, is known then, and isn't measured; one that is measured is
+-- known, and its measurement goes on. Where the current one is to be measured anew later, it neither waits nor is measured.
+pub record AreSessions (m : Machine) : Type 0 where
+  pub distinct : AreDistinct (session_in m ∷ map session_of m.sessions.others)
+  pub few : length m.sessions.others ≤ 64
   pub waiting_known : AllByRecursion (λ session. IsTrue (is_known m session)) m.waiting
   pub waiting_distinct : AreDistinct m.waiting
   pub measured_known : IfSome m.measuring (λ life. IsTrue (is_known m life.session))
   pub measured_alone : IfSome m.measuring (λ life. is_waiting life.session m.waiting ≡ false)
+  pub going_on : IfSome m.measuring (λ life. is_over life ≡ false)
   pub current_waits : IsSome m.remeasure_at → is_waiting (session_in m) m.waiting ≡ false
   pub current_measured : IsSome m.remeasure_at → IfSome m.measuring (λ life. same_id life.session (session_in m) ≡ false)
-  pub going_on : IfSome m.measuring (λ life. is_over life ≡ false)
 
 pub record IsMachine (m : Machine) : Type 0 where
   pub config : IsConfig m.config
   pub moment : IsMoment m.moment
-  -- no session is known twice, and each timeline taken is tidy
-  pub distinct : AreDistinct (session_in m ∷ map session_of m.sessions.others)
+  pub sessions : AreSessions m
+  -- each timeline taken is tidy
   pub timelines : AllByRecursion AreTidyTimelines (m.sessions.current ∷ m.sessions.others)
-  -- at most 64 others
-  pub few : length m.sessions.others ≤ 64
   pub starts : AllByRecursion IsInLimits m.starts
-  pub queue : IsQueue m
   -- the peers that are told were counted
   pub peers : m.peers ≡ peers_in (session_in m) m.life
   pub client : IsTidy m.client

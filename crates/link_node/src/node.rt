@@ -88,7 +88,7 @@ impl Node {
     ghost use Rattle.link_node.specs.Opening.{opened};
     ghost use Rattle.link_node.specs.Standing.{StandsFor, HasParts, gates_of, app_of, audio_of};
     ghost use Rattle.link_node.specs.Step.{step_of, sends_of, change_of, taken, answers, at_moment};
-    ghost use Rattle.link_node.specs.WellFormed.{IsMachine};
+    ghost use Rattle.link_node.specs.WellFormed.{AreSessions};
 
     /// Opens a node at a moment, alone in a session of its own that begins then with beat 0. Memory: room for the tables
     /// of its peers and sessions.
@@ -214,7 +214,7 @@ impl Node {
     fn take(&mut self, event: &Event, sends: &mut Sends)
         requires event { Fits (gates_of self.old) (app_of self.old) (audio_of self.old) (event_value event.now) }
         requires room { length sends.old + 129 ≤ 160 }
-        ensures stands { (m : Machine) → IsMachine m → HasParts self.old m
+        ensures stands { (m : Machine) → AreSessions m → HasParts self.old m
             → HasParts self.new (taken (event_value event.now) (at_moment (moment_of (event_value event.now)) m)) }
         ensures sends { (m : Machine) → HasParts self.old m
             → sends.new ≡ sends.old ++ answers (event_value event.now) (at_moment (moment_of (event_value event.now)) m) }

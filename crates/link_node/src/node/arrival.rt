@@ -12,13 +12,13 @@ impl Node {
     ghost use Rattle.link_node.specs.Arrival.{arrived, answers_to, is_heard, pongs_to};
     ghost use Rattle.link_node.specs.Machine.{Machine};
     ghost use Rattle.link_node.specs.Standing.{HasParts, gates_of};
-    ghost use Rattle.link_node.specs.WellFormed.{IsMachine};
+    ghost use Rattle.link_node.specs.WellFormed.{AreSessions};
 
     // By the message in it. What isn't read does nothing.
     pub(super) fn arrive(&mut self, gate: Gate, from: Endpoint, bytes: &Wire, sends: &mut Sends)
         requires gate { gate.0 < gates_of self.old }
         requires room { length sends.old < 160 }
-        ensures stands { (m : Machine) → IsMachine m → HasParts self.old m
+        ensures stands { (m : Machine) → AreSessions m → HasParts self.old m
             → HasParts self.new (arrived gate from (reading_of bytes.now.items) m) }
         ensures sends { (m : Machine) → HasParts self.old m
             → sends.new ≡ sends.old ++ answers_to gate from (reading_of bytes.now.items) m }

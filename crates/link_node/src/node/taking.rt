@@ -16,13 +16,13 @@ impl Node {
     ghost use Rattle.link_node.specs.Machine.{Machine};
     ghost use Rattle.link_node.specs.Standing.{HasParts, gates_of};
     ghost use Rattle.link_node.specs.Taking.{sighted, state_taken, timeline_taken, followed, start_taken};
-    ghost use Rattle.link_node.specs.WellFormed.{IsMachine};
+    ghost use Rattle.link_node.specs.WellFormed.{AreSessions};
 
     // The peer's row, its timeline and its start; nothing where there is no room for the row.
     pub(super) fn take_state(&mut self, gate: Gate, msg: &StateMsg)
         requires gate { gate.0 < gates_of self.old }
         requires range { AreInRange msg.now.fields }
-        ensures stands { (m : Machine) → IsMachine m → HasParts self.old m → HasParts self.new (state_taken gate msg.now m) }
+        ensures stands { (m : Machine) → AreSessions m → HasParts self.old m → HasParts self.new (state_taken gate msg.now m) }
     {
         match self.sight(gate, msg) {
             Seen::TableFull => {}
@@ -51,7 +51,7 @@ impl Node {
 
     // The timeline is taken tidied. There is room for a session that waits: each waits once, and is known.
     fn take_timeline(&mut self, fields: &PeerFields)
-        ensures stands { (m : Machine) → length m.waiting < 65 → HasParts self.old m → HasParts self.new (timeline_taken fields.now m) }
+        ensures stands { (m : Machine) → AreSessions m → HasParts self.old m → HasParts self.new (timeline_taken fields.now m) }
     {
         let saw = self.sessions.saw(fields.session, tidy(&fields.timeline));
         self.follow(saw, fields.session);
@@ -59,7 +59,7 @@ impl Node {
 
     // A new session waits to be measured, and a later timeline of the current one renews the client's.
     fn follow(&mut self, saw: Saw, session: NodeId)
-        ensures stands { (m : Machine) → length m.waiting < 65 → HasParts self.old m → HasParts self.new (followed saw session m) }
+        ensures stands { (m : Machine) → AreSessions m → HasParts self.old m → HasParts self.new (followed saw session m) }
     {
         match saw {
             Saw::New => {

@@ -11,13 +11,13 @@ impl Node {
     ghost use Rattle.link_node.specs.Machine.{Machine};
     ghost use Rattle.link_node.specs.Standing.{HasParts};
     ghost use Rattle.link_node.specs.Tick.{pruned, idle_forgotten, remeasure_queued, begun, pings_begun, ticked, pings_of_tick};
-    ghost use Rattle.link_node.specs.WellFormed.{IsMachine};
+    ghost use Rattle.link_node.specs.WellFormed.{AreSessions};
 
     // In this order.
     pub(super) fn tick(&mut self, sends: &mut Sends)
         requires room { length sends.old < 160 }
-        ensures stands { (m : Machine) → IsMachine m → HasParts self.old m → HasParts self.new (ticked m) }
-        ensures sends { (m : Machine) → IsMachine m → HasParts self.old m → sends.new ≡ sends.old ++ pings_of_tick m }
+        ensures stands { (m : Machine) → AreSessions m → HasParts self.old m → HasParts self.new (ticked m) }
+        ensures sends { (m : Machine) → AreSessions m → HasParts self.old m → sends.new ≡ sends.old ++ pings_of_tick m }
         ensures len { length sends.new ≤ length sends.old + 1 }
     {
         self.prune();
@@ -65,7 +65,7 @@ impl Node {
     // Where the current session is to be measured anew, it waits, unless it does already. There is room: each session waits
     // once, and is known.
     fn queue_remeasuring(&mut self)
-        ensures stands { (m : Machine) → length m.waiting < 65 → HasParts self.old m → HasParts self.new (remeasure_queued m) }
+        ensures stands { (m : Machine) → AreSessions m → HasParts self.old m → HasParts self.new (remeasure_queued m) }
     {
         let Some(at) = self.remeasure_at else {
             return;
