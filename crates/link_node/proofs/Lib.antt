@@ -1,2 +1,3 @@
 pub mod IdLemmas
 pub mod SessionsLemmas
+pub mod RuleLemmas

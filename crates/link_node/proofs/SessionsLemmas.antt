@@ -343,7 +343,7 @@ GoesOn (Again ping) life = is_over life ≡ false
 GoesOn (Done xform) life = Unit {0}
 GoesOn (Failed fault) life = Unit {0}
 
-running-parts : (current : NodeId) (others waiting : List NodeId) (later : Option ℤ) (life : Life) → AreFree current others waiting later life.session → is_over life ≡ false
+pub running-parts : (current : NodeId) (others waiting : List NodeId) (later : Option ℤ) (life : Life) → AreFree current others waiting later life.session → is_over life ≡ false
     → AreParts current others waiting later (Some life)
 running-parts current others waiting later life free on = record {
   distinct = free.parts.distinct;
@@ -370,7 +370,7 @@ free-from current others waiting later life h = record {
   alone = h.measured;
 }
 
-judged_parts : (outcome : Outcome) (life : Life) (m : Machine) → IsFree m life.session → GoesOn outcome life
+pub judged_parts : (outcome : Outcome) (life : Life) (m : Machine) → IsFree m life.session → GoesOn outcome life
     → HasParts (judged outcome life.session (record m { measuring = Some life }))
 judged_parts Idle life m free on = running-parts (session_in m) (ids_in m) m.waiting m.remeasure_at life free on
 judged_parts (Again ping) life m free on = running-parts (session_in m) (ids_in m) m.waiting m.remeasure_at life free on
