@@ -1,3 +1,4 @@
 pub mod IdLemmas
 pub mod SessionsLemmas
 pub mod RuleLemmas
+pub mod TidyLemmas

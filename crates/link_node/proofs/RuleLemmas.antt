@@ -52,13 +52,13 @@ use Rattle.link_node.specs.Step.{taken}
 use Rattle.link_node.specs.Taking.{followed, is_current, listened, sighted, start_taken, state_taken, timeline_taken, with_start}
 use Rattle.link_node.specs.Tick.{begun, begun_at, begun_from, begun_one, cleared, is_remeasured, is_waiting, pruned, remeasure_queued, ticked, waiting_with}
 use Rattle.link_node.proofs.IdLemmas.{differ-other, distinct-last, equal-same, found-has, has-found, ids-updated, waits-has, waits-none}
-use Rattle.link_node.proofs.SessionsLemmas.{AreFree, AreParts, GoesOn, HasParts, IsAlone, IsFree, forgotten_parts, free-from, ids_in, judged_parts, running-parts, ticked_parts, unmeasured_parts}
+use Rattle.link_node.proofs.SessionsLemmas.{AreFree, AreIds, GoesOn, HasIds, IsAlone, IsFree, forgotten_parts, free-from, ids_in, judged_parts, running-parts, ticked_parts, unmeasured_parts}
 
 -- ---- a timeline that was told
 
 -- a new session is known last and waits last
 pushed-parts : (current new : NodeId) (others waiting : List NodeId) (later : Option ℤ) (measuring : Option Life) → (Has (current ∷ others) new → ⊥) → length others < 64
-    → AreParts current others waiting later measuring → AreParts current (others ++ new ∷ []) (waiting ++ new ∷ []) later measuring
+    → AreIds current others waiting later measuring → AreIds current (others ++ new ∷ []) (waiting ++ new ∷ []) later measuring
 pushed-parts current new others waiting later measuring unknown room h = record {
   distinct = distinct-last (current ∷ others) new h.distinct unknown;
   few = omega (arith, length-append others (new ∷ []));
@@ -88,20 +88,20 @@ pushed-parts current new others waiting later measuring unknown room h = record 
     }
 
 -- the answer to a known session isn't that it is new
-followed-known : (taking : Taking) (timeline : Timeline) (session : NodeId) (m : Machine) → HasParts m → HasParts (followed (saw_known taking timeline) session m)
+followed-known : (taking : Taking) (timeline : Timeline) (session : NodeId) (m : Machine) → HasIds m → HasIds (followed (saw_known taking timeline) session m)
 unfolding renewed
 followed-known taking timeline session m h =
-    by_test (λ b. HasParts (followed (if b then Taken else Kept) session m)) (int_lt (best_in taking).beat timeline.beat)
-    (λ _. by_test (λ b. HasParts (if b then renewed m else m)) (is_current session m) (λ _. h) (λ _. h)) (λ _. h)
+    by_test (λ b. HasIds (followed (if b then Taken else Kept) session m)) (int_lt (best_in taking).beat timeline.beat)
+    (λ _. by_test (λ b. HasIds (if b then renewed m else m)) (is_current session m) (λ _. h) (λ _. h)) (λ _. h)
 
-seen-other-parts : (session : NodeId) (timeline : Timeline) (m : Machine) (o : Option Taking) → other_in session m.sessions ≡ o → same_id (session_in m) session ≡ false → HasParts m
-    → HasParts (followed (saw_by o m.sessions timeline) session (record m { sessions = taken_by o m.sessions session timeline }))
+seen-other-parts : (session : NodeId) (timeline : Timeline) (m : Machine) (o : Option Taking) → other_in session m.sessions ≡ o → same_id (session_in m) session ≡ false → HasIds m
+    → HasIds (followed (saw_by o m.sessions timeline) session (record m { sessions = taken_by o m.sessions session timeline }))
 seen-other-parts session timeline m None found other h =
     by_test (λ b. nat_lt (length m.sessions.others) 64 ≡ b
-    → HasParts (followed (if b then New else Full) session (record m { sessions = if b then record m.sessions { others = m.sessions.others ++ begun_with session timeline ∷ [] } else m.sessions })))
+    → HasIds (followed (if b then New else Full) session (record m { sessions = if b then record m.sessions { others = m.sessions.others ++ begun_with session timeline ∷ [] } else m.sessions })))
     (nat_lt (length m.sessions.others) 64)
     (λ _ room.
-    subst (λ (ids : List NodeId). AreParts (session_in m) ids (m.waiting ++ session ∷ []) m.remeasure_at m.measuring)
+    subst (λ (ids : List NodeId). AreIds (session_in m) ids (m.waiting ++ session ∷ []) m.remeasure_at m.measuring)
     (sym (map-append session_of m.sessions.others (begun_with session timeline ∷ [])))
     (pushed-parts (session_in m) session (ids_in m) m.waiting m.remeasure_at m.measuring
     (λ k. elim k as (λ _. ⊥) [
@@ -116,16 +116,16 @@ seen-other-parts session timeline m None found other h =
     less n k room e = grind (arith, nat_tests)
 seen-other-parts session timeline m (Some taking) found other h =
     followed-known taking timeline session (record m { sessions = record m.sessions { others = updated_by session_of session (with_taken timeline) m.sessions.others } })
-    (subst (λ (ids : List NodeId). AreParts (session_in m) ids m.waiting m.remeasure_at m.measuring)
+    (subst (λ (ids : List NodeId). AreIds (session_in m) ids m.waiting m.remeasure_at m.measuring)
     (sym (ids-updated session_of session (with_taken timeline) (λ row. refl) m.sessions.others)) h)
 
-pub timeline_parts : (fields : PeerFields) (m : Machine) → HasParts m → HasParts (timeline_taken fields m)
+pub timeline_parts : (fields : PeerFields) (m : Machine) → HasIds m → HasIds (timeline_taken fields m)
 unfolding timeline_taken saw_of saw_after
 timeline_parts fields m h =
     let session = fields.session in
     let timeline = tidy_of fields.timeline in
     by_test (λ b. same_id (session_in m) session ≡ b
-    → HasParts (followed (saw_by (if b then Some m.sessions.current else other_in session m.sessions) m.sessions timeline) session
+    → HasIds (followed (saw_by (if b then Some m.sessions.current else other_in session m.sessions) m.sessions timeline) session
     (record m { sessions = if b then record m.sessions { current = with_taken timeline m.sessions.current } else taken_by (other_in session m.sessions) m.sessions session timeline })))
     (same_id (session_in m) session)
     (λ _ _. followed-known m.sessions.current timeline session (record m { sessions = record m.sessions { current = with_taken timeline m.sessions.current } }) h)
@@ -134,16 +134,16 @@ timeline_parts fields m h =
 
 -- ---- a state that was told
 
-start_parts : (fields : PeerFields) (m : Machine) → HasParts m → HasParts (start_taken fields m)
+start_parts : (fields : PeerFields) (m : Machine) → HasIds m → HasIds (start_taken fields m)
 unfolding start_taken
-start_parts fields m h = by_test (λ b. HasParts (if b then with_start fields.start m else m)) (is_current fields.session m) (λ _. h) (λ _. h)
+start_parts fields m h = by_test (λ b. HasIds (if b then with_start fields.start m else m)) (is_current fields.session m) (λ _. h) (λ _. h)
 
-listened-parts : (answer : Seen) (fields : PeerFields) (m : Machine) → HasParts m → HasParts (listened answer fields m)
+listened-parts : (answer : Seen) (fields : PeerFields) (m : Machine) → HasIds m → HasIds (listened answer fields m)
 listened-parts seen.TableFull fields m h = h
 listened-parts seen.New fields m h = start_parts fields (timeline_taken fields m) (timeline_parts fields m h)
 listened-parts seen.Known fields m h = start_parts fields (timeline_taken fields m) (timeline_parts fields m h)
 
-pub state_parts : (gate : Gate) (msg : StateMsg) (m : Machine) → HasParts m → HasParts (state_taken gate msg m)
+pub state_parts : (gate : Gate) (msg : StateMsg) (m : Machine) → HasIds m → HasIds (state_taken gate msg m)
 unfolding state_taken sighted
 state_parts gate msg m h = listened-parts (seen_of gate msg.from m.life) msg.fields (sighted gate msg m) h
 
@@ -186,31 +186,31 @@ pong-session life gate from pong now =
     (λ _. refl)
     (λ _. by_test (λ b. (if b then life else with life (counted pong now)).session ≡ life.session) none (λ _. refl) (λ _. refl)))
 
-pong_by_parts : (o : Option Life) (gate : Gate) (from : Endpoint) (pong : PongFields) (m : Machine) → AreParts (session_in m) (ids_in m) m.waiting m.remeasure_at o
-    → m.measuring ≡ o → HasParts (pong_by o gate from pong m)
-pong_by_parts None gate from pong m h is = subst (λ (o : Option Life). AreParts (session_in m) (ids_in m) m.waiting m.remeasure_at o) (sym is) h
+pong_by_parts : (o : Option Life) (gate : Gate) (from : Endpoint) (pong : PongFields) (m : Machine) → AreIds (session_in m) (ids_in m) m.waiting m.remeasure_at o
+    → m.measuring ≡ o → HasIds (pong_by o gate from pong m)
+pong_by_parts None gate from pong m h is = subst (λ (o : Option Life). AreIds (session_in m) (ids_in m) m.waiting m.remeasure_at o) (sym is) h
 pong_by_parts (Some life) gate from pong m h is =
     let next = pong_after life gate from pong m.moment in
     let same = pong-session life gate from pong m.moment in
     let free : IsFree m next.session =
     subst (λ (z : NodeId). IsFree m z) (sym same) (free-from (session_in m) (ids_in m) m.waiting m.remeasure_at life h) in
-    subst (λ (z : NodeId). HasParts (judged (pong_outcome life gate from pong m.moment) z (record m { measuring = Some next }))) same
+    subst (λ (z : NodeId). HasIds (judged (pong_outcome life gate from pong m.moment) z (record m { measuring = Some next }))) same
     (judged_parts (pong_outcome life gate from pong m.moment) next m free (pong-goes life gate from pong m.moment h.going_on))
 
-pub pong_parts : (gate : Gate) (from : Endpoint) (pong : PongFields) (m : Machine) → HasParts m → HasParts (pong_heard gate from pong m)
+pub pong_parts : (gate : Gate) (from : Endpoint) (pong : PongFields) (m : Machine) → HasIds m → HasIds (pong_heard gate from pong m)
 unfolding pong_heard
 pong_parts gate from pong m h = pong_by_parts m.measuring gate from pong m h refl
 
 -- ---- a datagram
 
-heard-parts : (b : Bool) (m n : Machine) → HasParts n → HasParts m → HasParts (if b then n else m)
+heard-parts : (b : Bool) (m n : Machine) → HasIds n → HasIds m → HasIds (if b then n else m)
 heard-parts true m n heard not_heard = heard
 heard-parts false m n heard not_heard = not_heard
 
-arrived_parts : (gate : Gate) (from : Endpoint) (read : Result MessageValue WireFault) (m : Machine) → HasParts m → HasParts (arrived gate from read m)
+arrived_parts : (gate : Gate) (from : Endpoint) (read : Result MessageValue WireFault) (m : Machine) → HasIds m → HasIds (arrived gate from read m)
 arrived_parts gate from (Ok (message.Alive msg)) m h = heard-parts (is_heard msg.from msg.group m) m (state_taken gate msg m) (state_parts gate msg m h) h
 arrived_parts gate from (Ok (message.Response msg)) m h = heard-parts (is_heard msg.from msg.group m) m (state_taken gate msg m) (state_parts gate msg m h) h
-arrived_parts gate from (Ok (message.Bye id ttl group)) m h = by_test (λ b. HasParts (if b then record m { life = said_goodbye gate id m.life } else m)) (is_heard id group m) (λ _. h) (λ _. h)
+arrived_parts gate from (Ok (message.Bye id ttl group)) m h = by_test (λ b. HasIds (if b then record m { life = said_goodbye gate id m.life } else m)) (is_heard id group m) (λ _. h) (λ _. h)
 arrived_parts gate from (Ok (message.Ping payload)) m h = h
 arrived_parts gate from (Ok (message.Pong pong)) m h = pong_parts gate from pong m h
 arrived_parts gate from (Ok (message.OtherDiscovery kind)) m h = h
@@ -220,10 +220,10 @@ arrived_parts gate from (Err fault) m h = h
 -- ---- a tick
 
 -- the current session, where it was to be measured later, waits now
-queued-parts : (current : NodeId) (others waiting : List NodeId) (later : Option ℤ) (measuring : Option Life) → IsSome later → AreParts current others waiting later measuring
-    → AreParts current others (waiting_with current waiting) None measuring
+queued-parts : (current : NodeId) (others waiting : List NodeId) (later : Option ℤ) (measuring : Option Life) → IsSome later → AreIds current others waiting later measuring
+    → AreIds current others (waiting_with current waiting) None measuring
 queued-parts current others waiting later measuring is h =
-    by_test (λ b. is_waiting current waiting ≡ b → AreParts current others (if b then waiting else waiting ++ current ∷ []) None measuring) (is_waiting current waiting)
+    by_test (λ b. is_waiting current waiting ≡ b → AreIds current others (if b then waiting else waiting ++ current ∷ []) None measuring) (is_waiting current waiting)
     (λ _ waits. absurd (h.current_waits is (waits-has current waiting waits)))
     (λ _ free. record {
       distinct = h.distinct;
@@ -251,15 +251,15 @@ is-some : (o : Option ℤ) (now : ℤ) → is_remeasured o now ≡ true → IsSo
 is-some None now t = t
 is-some (Some at) now t = refl
 
-queue_parts : (m : Machine) → HasParts m → HasParts (remeasure_queued m)
+queue_parts : (m : Machine) → HasIds m → HasIds (remeasure_queued m)
 unfolding remeasure_queued
 queue_parts m h =
-    by_test (λ b. is_remeasured m.remeasure_at m.moment ≡ b → HasParts (if b then record m { remeasure_at = None; waiting = waiting_with (session_in m) m.waiting } else m))
+    by_test (λ b. is_remeasured m.remeasure_at m.moment ≡ b → HasIds (if b then record m { remeasure_at = None; waiting = waiting_with (session_in m) m.waiting } else m))
     (is_remeasured m.remeasure_at m.moment)
     (λ _ due. queued-parts (session_in m) (ids_in m) m.waiting m.remeasure_at m.measuring (is-some m.remeasure_at m.moment due) h) (λ _ _. h) refl
 
 -- the first of those that wait is taken from the list
-first-free : (current session : NodeId) (others rest : List NodeId) (later : Option ℤ) → AreParts current others (session ∷ rest) later None → AreFree current others rest later session
+first-free : (current session : NodeId) (others rest : List NodeId) (later : Option ℤ) → AreIds current others (session ∷ rest) later None → AreFree current others rest later session
 first-free current session others rest later h = record {
   parts = record {
     distinct = h.distinct;
@@ -273,7 +273,7 @@ first-free current session others rest later h = record {
   alone = record { known = h.known session (inl refl); alone = h.once.0; other = λ is e. h.current_waits is (inl e) };
 }
 
-begun_at_parts : (target : Option Target) (session : NodeId) (m : Machine) → m.measuring ≡ None → IsFree m session → HasParts (begun_at target session m)
+begun_at_parts : (target : Option Target) (session : NodeId) (m : Machine) → m.measuring ≡ None → IsFree m session → HasIds (begun_at target session m)
 begun_at_parts (Some target) session m none free =
     running-parts (session_in m) (ids_in m) m.waiting m.remeasure_at (opening target session m.moment) free (over-opening (opening target session m.moment) refl)
 begun_at_parts None session m none free = unmeasured_parts session m none free
@@ -295,15 +295,15 @@ pub none-there : {A : Type 0} (o : Option A) → is_some o ≡ false → o ≡ N
 none-there None f = refl
 none-there (Some x) f = absurd (false≢true (sym f))
 
-one_parts : (session : NodeId) (m : Machine) → m.measuring ≡ None → IsFree m session → HasParts (begun_one session m)
+one_parts : (session : NodeId) (m : Machine) → m.measuring ≡ None → IsFree m session → HasIds (begun_one session m)
 unfolding begun_one
 one_parts session m none free = begun_at_parts (target_of session m.life) session m none free
 
-begun_from_parts : (waiting : List NodeId) (m : Machine) → m.waiting ≡ waiting → HasParts m → HasParts (begun_from waiting m)
+begun_from_parts : (waiting : List NodeId) (m : Machine) → m.waiting ≡ waiting → HasIds m → HasIds (begun_from waiting m)
 unfolding begun_from
 begun_from_parts [] m is h = h
 begun_from_parts (session ∷ rest) m is h =
-    by_test (λ b. is_some m.measuring ≡ b → HasParts (if b then m else begun_from rest (begun_one session (record m { waiting = rest })))) (is_some m.measuring)
+    by_test (λ b. is_some m.measuring ≡ b → HasIds (if b then m else begun_from rest (begun_one session (record m { waiting = rest })))) (is_some m.measuring)
     (λ _ _. h)
     (λ _ free.
     let none = none-there m.measuring free in
@@ -311,19 +311,19 @@ begun_from_parts (session ∷ rest) m is h =
     begun_from_parts rest (begun_one session first) (begun_one-waiting session first)
     (one_parts session first none
     (first-free (session_in m) session (ids_in m) rest m.remeasure_at
-    (subst (λ (o : Option Life). AreParts (session_in m) (ids_in m) (session ∷ rest) m.remeasure_at o) none
-    (subst (λ (ids : List NodeId). AreParts (session_in m) (ids_in m) ids m.remeasure_at m.measuring) is h)))))
+    (subst (λ (o : Option Life). AreIds (session_in m) (ids_in m) (session ∷ rest) m.remeasure_at o) none
+    (subst (λ (ids : List NodeId). AreIds (session_in m) (ids_in m) ids m.remeasure_at m.measuring) is h)))))
     refl
 
-begun_parts : (m : Machine) → HasParts m → HasParts (begun m)
+begun_parts : (m : Machine) → HasIds m → HasIds (begun m)
 unfolding begun
 begun_parts m h = begun_from_parts m.waiting m refl h
 
-cleared_parts : (m : Machine) → HasParts m → HasParts (cleared m)
+cleared_parts : (m : Machine) → HasIds m → HasIds (cleared m)
 unfolding cleared pruned
 cleared_parts m h = forgotten_parts (pruned m) h
 
-tick_parts : (m : Machine) → HasParts m → HasParts (ticked m)
+tick_parts : (m : Machine) → HasIds m → HasIds (ticked m)
 unfolding ticked
 tick_parts m h =
     begun_parts (remeasure_queued (measurement_ticked (cleared m)))
@@ -331,28 +331,28 @@ tick_parts m h =
 
 -- ---- a commit
 
-start_committed_parts : (start : Option ClientStart) (m : Machine) → HasParts m → HasParts (start_committed start m)
+start_committed_parts : (start : Option ClientStart) (m : Machine) → HasIds m → HasIds (start_committed start m)
 unfolding start_committed
 start_committed_parts None m h = h
-start_committed_parts (Some start) m h = by_test (λ b. HasParts (if b then with_client_start start m else m)) (int_lt m.client_start.stamp start.stamp) (λ _. h) (λ _. h)
+start_committed_parts (Some start) m h = by_test (λ b. HasIds (if b then with_client_start start m else m)) (int_lt m.client_start.stamp start.stamp) (λ _. h) (λ _. h)
 
-committed_parts : (session : Option Timeline) (client : Timeline) (start : Option ClientStart) (m : Machine) → HasParts m → HasParts (committed_by session client start m)
+committed_parts : (session : Option Timeline) (client : Timeline) (start : Option ClientStart) (m : Machine) → HasIds m → HasIds (committed_by session client start m)
 unfolding renewed
 committed_parts None client start m h = h
 committed_parts (Some session) client start m h = start_committed_parts start (with_client_timeline client session m) h
 
-timeline_committed_parts : (timeline : Option Timeline) (commit : Commit) (m : Machine) → HasParts m → HasParts (timeline_committed timeline commit m)
+timeline_committed_parts : (timeline : Option Timeline) (commit : Commit) (m : Machine) → HasIds m → HasIds (timeline_committed timeline commit m)
 timeline_committed_parts None commit m h = start_committed_parts commit.start m h
 timeline_committed_parts (Some client) commit m h =
     committed_parts (session_from_client_of (timeline_in m) client commit.at (offset_in m)) client commit.start m h
 
-commit_parts : (commit : Commit) (m : Machine) → HasParts m → HasParts (commit_taken commit m)
+commit_parts : (commit : Commit) (m : Machine) → HasIds m → HasIds (commit_taken commit m)
 unfolding commit_taken
 commit_parts commit m h = timeline_committed_parts commit.timeline commit m h
 
 -- ---- an event
 
-pub taken_parts : (e : EventValue) (m : Machine) → HasParts m → HasParts (taken e m)
+pub taken_parts : (e : EventValue) (m : Machine) → HasIds m → HasIds (taken e m)
 unfolding app_taken audio_taken
 taken_parts (Rx gate from bytes now) m h = arrived_parts gate from (reading_of bytes) m h
 taken_parts (Tick now) m h = tick_parts m h
@@ -360,7 +360,7 @@ taken_parts (App commit now) m h = commit_parts commit (record m { app = m.app +
 taken_parts (Audio number commit now) m h = commit_parts commit (record m { audio = number }) h
 taken_parts (End now) m h = h
 
-alone-parts : (current : NodeId) → AreParts current [] [] None None
+alone-parts : (current : NodeId) → AreIds current [] [] None None
 alone-parts current = record {
   distinct = (λ h. h, tt);
   few = omega arith;
@@ -371,6 +371,6 @@ alone-parts current = record {
   going_on = tt;
 }
 
-pub settled_parts : (m : Machine) → HasParts m → HasParts (settled m)
+pub settled_parts : (m : Machine) → HasIds m → HasIds (settled m)
 unfolding settled founded renewed
-settled_parts m h = by_test (λ b. HasParts (if b then founded (recounted m) else recounted m)) (is_left m) (λ _. alone-parts (id_drawn m.config.seed m.drawn)) (λ _. h)
+settled_parts m h = by_test (λ b. HasIds (if b then founded (recounted m) else recounted m)) (is_left m) (λ _. alone-parts (id_drawn m.config.seed m.drawn)) (λ _. h)

@@ -43,7 +43,7 @@ pub record IsAlone (current : NodeId) (others waiting : List NodeId) (later : Op
   pub alone : Has waiting session → ⊥
   pub other : IsSome later → session ≡ current → ⊥
 
-pub record AreParts (current : NodeId) (others waiting : List NodeId) (later : Option ℤ) (measuring : Option Life) : Type 0 where
+pub record AreIds (current : NodeId) (others waiting : List NodeId) (later : Option ℤ) (measuring : Option Life) : Type 0 where
   pub distinct : Distinct (current ∷ others)
   pub few : length others ≤ 64
   pub known : (id : NodeId) → Has waiting id → Has (current ∷ others) id
@@ -55,8 +55,8 @@ pub record AreParts (current : NodeId) (others waiting : List NodeId) (later : O
 abbrev pub ids_in : Machine → List NodeId
 ids_in m = map session_of m.sessions.others
 
-abbrev pub HasParts : Machine → Type 0
-HasParts m = AreParts (session_in m) (ids_in m) m.waiting m.remeasure_at m.measuring
+abbrev pub HasIds : Machine → Type 0
+HasIds m = AreIds (session_in m) (ids_in m) m.waiting m.remeasure_at m.measuring
 
 -- ---- who is known
 
@@ -86,7 +86,7 @@ some-measured m (Some life) known alone other = record {
   other = λ is e. false≢true (sym (other is) ∙ equal-same life.session (session_in m) e);
 }
 
-pub to_parts : (m : Machine) → AreSessions m → HasParts m
+pub to_parts : (m : Machine) → AreSessions m → HasIds m
 to_parts m h = record {
   distinct = distinct-from (session_in m ∷ ids_in m) h.distinct;
   few = omega (arith, h.few, length-map m.sessions.others session_of);
@@ -112,7 +112,7 @@ measured-other : (m : Machine) (o : Option Life) → IfSome o (λ life. IsAlone 
 measured-other m None h is = tt
 measured-other m (Some life) h is = differ-other life.session (session_in m) (h.other is)
 
-pub from_parts : (m : Machine) → HasParts m → AreSessions m
+pub from_parts : (m : Machine) → HasIds m → AreSessions m
 from_parts m h = record {
   distinct = distinct-to (session_in m ∷ ids_in m) h.distinct;
   few = omega (arith, h.few, length-map m.sessions.others session_of);
@@ -127,7 +127,7 @@ from_parts m h = record {
 
 -- ---- room for those that wait
 
-few-wait : (current : NodeId) (others waiting : List NodeId) (later : Option ℤ) (measuring : Option Life) → AreParts current others waiting later measuring
+few-wait : (current : NodeId) (others waiting : List NodeId) (later : Option ℤ) (measuring : Option Life) → AreIds current others waiting later measuring
     → length waiting ≤ length others + 1
 few-wait current others waiting later measuring h = omega (arith, length_le waiting (current ∷ others) h.once h.known)
 
@@ -186,7 +186,7 @@ module _ (current : NodeId) (needed : Taking → Bool) where
 filtered-parts : (current : NodeId) (needed : Taking → Bool) (rows : List Taking) (waiting : List NodeId) (later : Option ℤ) (measuring : Option Life)
     → ((id : NodeId) (row : Taking) → Has waiting id → row.session ≡ id → needed row ≡ true)
     → IfSome measuring (λ life. (row : Taking) → row.session ≡ life.session → needed row ≡ true)
-    → AreParts current (map session_of rows) waiting later measuring → AreParts current (map session_of (filter needed rows)) waiting later measuring
+    → AreIds current (map session_of rows) waiting later measuring → AreIds current (map session_of (filter needed rows)) waiting later measuring
 filtered-parts current needed rows waiting later measuring waits measured h = record {
   distinct = (λ k. h.distinct.0 (filtered-has current needed rows current k), distinct-filtered current needed rows h.distinct.1);
   few = omega (arith, h.few, few-filtered current needed rows);
@@ -213,7 +213,7 @@ measured-needed : (m : Machine) (o : Option Life)
 measured-needed m None needs = tt
 measured-needed m (Some life) needs = λ row e. needs row (equal-same life.session row.session (sym e))
 
-pub forgotten_parts : (m : Machine) → HasParts m → HasParts (idle_forgotten m)
+pub forgotten_parts : (m : Machine) → HasIds m → HasIds (idle_forgotten m)
 unfolding idle_forgotten
 forgotten_parts m h =
     filtered-parts (session_in m) (is_needed m) m.sessions.others m.waiting m.remeasure_at m.measuring
@@ -234,7 +234,7 @@ cleared_sessions m sessions = from_parts (cleared m) (forgotten_parts (pruned m)
 
 -- what holds with no measurement, and of the session that was measured or taken from the list
 pub record AreFree (current : NodeId) (others waiting : List NodeId) (later : Option ℤ) (session : NodeId) : Type 0 where
-  pub parts : AreParts current others waiting later None
+  pub parts : AreIds current others waiting later None
   pub alone : IsAlone current others waiting later session
 
 abbrev pub IsFree : Machine → NodeId → Type 0
@@ -248,8 +248,8 @@ ids-replaced : (current session : NodeId) (taking : Taking) (rows : List Taking)
 ids-replaced current session taking rows e = map-updated session_of itself session session_of (λ row. refl) (λ _. taking) (λ _. current) (λ row. e) rows
 
 -- the current one is to be measured later
-later-parts : (current : NodeId) (others waiting : List NodeId) (later : Option ℤ) (at : ℤ) → (Has waiting current → ⊥) → AreParts current others waiting later None
-    → AreParts current others waiting (Some at) None
+later-parts : (current : NodeId) (others waiting : List NodeId) (later : Option ℤ) (at : ℤ) → (Has waiting current → ⊥) → AreIds current others waiting later None
+    → AreIds current others waiting (Some at) None
 later-parts current others waiting later at none h = record {
   distinct = h.distinct;
   few = h.few;
@@ -260,8 +260,8 @@ later-parts current others waiting later at none h = record {
   going_on = tt;
 }
 
-without-parts : (current session : NodeId) (others waiting : List NodeId) (later : Option ℤ) → (Has waiting session → ⊥) → AreParts current others waiting later None
-    → AreParts current (without_by itself session others) waiting later None
+without-parts : (current session : NodeId) (others waiting : List NodeId) (later : Option ℤ) → (Has waiting session → ⊥) → AreIds current others waiting later None
+    → AreIds current (without_by itself session others) waiting later None
 without-parts current session others waiting later none h = record {
   distinct = (λ k. h.distinct.0 (without-has session others current k), distinct-without session others h.distinct.1);
   few = omega (arith, h.few, few-without session others);
@@ -274,7 +274,7 @@ without-parts current session others waiting later none h = record {
 }
 
 replaced-parts : (current session : NodeId) (others waiting : List NodeId) (later : Option ℤ) (at : ℤ) → Has others session → (Has waiting session → ⊥)
-    → AreParts current others waiting later None → AreParts session (replaced current session others) waiting (Some at) None
+    → AreIds current others waiting later None → AreIds session (replaced current session others) waiting (Some at) None
 replaced-parts current session others waiting later at there none h = record {
   distinct = distinct-replaced current session others h.distinct there;
   few = omega (arith, h.few, few-replaced current session others);
@@ -288,17 +288,17 @@ replaced-parts current session others waiting later at there none h = record {
   going_on = tt;
 }
 
-pub unmeasured_parts : (session : NodeId) (m : Machine) → m.measuring ≡ None → IsFree m session → HasParts (unmeasured session m)
+pub unmeasured_parts : (session : NodeId) (m : Machine) → m.measuring ≡ None → IsFree m session → HasIds (unmeasured session m)
 unfolding unmeasured
 unmeasured_parts session m none free =
-    by_test (λ b. same_id session (session_in m) ≡ b → HasParts (if b then remeasured_later m else record m { sessions = forgotten session m.sessions })) (same_id session (session_in m))
+    by_test (λ b. same_id session (session_in m) ≡ b → HasIds (if b then remeasured_later m else record m { sessions = forgotten session m.sessions })) (same_id session (session_in m))
     (λ _ same.
-    subst (λ (o : Option Life). AreParts (session_in m) (ids_in m) m.waiting (Some (m.moment +ℤ pos 30_000_000)) o) (sym none)
+    subst (λ (o : Option Life). AreIds (session_in m) (ids_in m) m.waiting (Some (m.moment +ℤ pos 30_000_000)) o) (sym none)
     (later-parts (session_in m) (ids_in m) m.waiting m.remeasure_at (m.moment +ℤ pos 30_000_000)
     (λ w. free.alone.alone (subst (λ (z : NodeId). Has m.waiting z) (sym (same-equal session (session_in m) same)) w)) free.parts))
     (λ _ _.
-    subst (λ (o : Option Life). AreParts (session_in m) (map session_of (without_by session_of session m.sessions.others)) m.waiting m.remeasure_at o) (sym none)
-    (subst (λ (ids : List NodeId). AreParts (session_in m) ids m.waiting m.remeasure_at None) (sym (ids-without session m.sessions.others))
+    subst (λ (o : Option Life). AreIds (session_in m) (map session_of (without_by session_of session m.sessions.others)) m.waiting m.remeasure_at o) (sym none)
+    (subst (λ (ids : List NodeId). AreIds (session_in m) ids m.waiting m.remeasure_at None) (sym (ids-without session m.sessions.others))
     (without-parts (session_in m) session (ids_in m) m.waiting m.remeasure_at free.alone.alone free.parts)))
     refl
 
@@ -306,26 +306,26 @@ unmeasured_parts session m none free =
 
 -- another session that is known, or isn't
 measured-other-parts : (session : NodeId) (offset : ℤ) (m : Machine) (o : Option Taking) → other_in session m.sessions ≡ o → IsFree m session
-    → HasParts (chosen (verdict_by o m.sessions offset m.moment) (record m { sessions = measured_by o m.sessions offset m.moment; measuring = None }))
+    → HasIds (chosen (verdict_by o m.sessions offset m.moment) (record m { sessions = measured_by o m.sessions offset m.moment; measuring = None }))
 unfolding renewed
 measured-other-parts session offset m None found free = free.parts
 measured-other-parts session offset m (Some other) found free =
-    by_test (λ b. HasParts (chosen (if b then Joined else Stayed) (record m { sessions = if b then joined other offset m.sessions else m.sessions; measuring = None })))
+    by_test (λ b. HasIds (chosen (if b then Joined else Stayed) (record m { sessions = if b then joined other offset m.sessions else m.sessions; measuring = None })))
     (wins_over other.session offset (session_in m) m.sessions.offset m.moment)
     (λ _.
     let same : other.session ≡ session = found-key session_of session m.sessions.others other found in
-    subst (λ (ids : List NodeId). AreParts other.session ids m.waiting (Some (m.moment +ℤ pos 30_000_000)) None)
+    subst (λ (ids : List NodeId). AreIds other.session ids m.waiting (Some (m.moment +ℤ pos 30_000_000)) None)
     (sym (ids-replaced (session_in m) other.session m.sessions.current m.sessions.others refl))
     (replaced-parts (session_in m) other.session (ids_in m) m.waiting m.remeasure_at (m.moment +ℤ pos 30_000_000)
     (subst (λ (z : NodeId). Has (ids_in m) z) (sym same) (found-has session_of session m.sessions.others (ap is_some found)))
     (λ w. free.alone.alone (subst (λ (z : NodeId). Has m.waiting z) same w)) free.parts))
     (λ _. free.parts)
 
-pub measured_parts : (session : NodeId) (offset : ℤ) (m : Machine) → IsFree m session → HasParts (measured session offset (record m { measuring = None }))
+pub measured_parts : (session : NodeId) (offset : ℤ) (m : Machine) → IsFree m session → HasIds (measured session offset (record m { measuring = None }))
 unfolding measured measured_of measured_after renewed
 measured_parts session offset m free =
     by_test (λ b. same_id (session_in m) session ≡ b
-    → HasParts (chosen (if b then Remeasured else verdict_by (other_in session m.sessions) m.sessions offset m.moment)
+    → HasIds (chosen (if b then Remeasured else verdict_by (other_in session m.sessions) m.sessions offset m.moment)
     (record m { sessions = if b then record m.sessions { offset = offset } else measured_by (other_in session m.sessions) m.sessions offset m.moment; measuring = None })))
     (same_id (session_in m) session)
     (λ _ same.
@@ -344,7 +344,7 @@ GoesOn (Done xform) life = Unit {0}
 GoesOn (Failed fault) life = Unit {0}
 
 pub running-parts : (current : NodeId) (others waiting : List NodeId) (later : Option ℤ) (life : Life) → AreFree current others waiting later life.session → is_over life ≡ false
-    → AreParts current others waiting later (Some life)
+    → AreIds current others waiting later (Some life)
 running-parts current others waiting later life free on = record {
   distinct = free.parts.distinct;
   few = free.parts.few;
@@ -355,7 +355,7 @@ running-parts current others waiting later life free on = record {
   going_on = on;
 }
 
-pub free-from : (current : NodeId) (others waiting : List NodeId) (later : Option ℤ) (life : Life) → AreParts current others waiting later (Some life)
+pub free-from : (current : NodeId) (others waiting : List NodeId) (later : Option ℤ) (life : Life) → AreIds current others waiting later (Some life)
     → AreFree current others waiting later life.session
 free-from current others waiting later life h = record {
   parts = record {
@@ -371,7 +371,7 @@ free-from current others waiting later life h = record {
 }
 
 pub judged_parts : (outcome : Outcome) (life : Life) (m : Machine) → IsFree m life.session → GoesOn outcome life
-    → HasParts (judged outcome life.session (record m { measuring = Some life }))
+    → HasIds (judged outcome life.session (record m { measuring = Some life }))
 judged_parts Idle life m free on = running-parts (session_in m) (ids_in m) m.waiting m.remeasure_at life free on
 judged_parts (Again ping) life m free on = running-parts (session_in m) (ids_in m) m.waiting m.remeasure_at life free on
 judged_parts (Done xform) life m free on = measured_parts life.session xform.offset m free
@@ -398,17 +398,17 @@ tick-goes life now on =
     (λ _ early. let e = tick-early life now early in rw (e.0, e.1) on)
     (λ _ late. let e = tick-late life now late in rw (e.0, e.1) (silent-goes life now on)) refl
 
-tick_by_parts : (o : Option Life) (m : Machine) → AreParts (session_in m) (ids_in m) m.waiting m.remeasure_at o → m.measuring ≡ o → HasParts (tick_by o m)
-tick_by_parts None m h is = subst (λ (o : Option Life). AreParts (session_in m) (ids_in m) m.waiting m.remeasure_at o) (sym is) h
+tick_by_parts : (o : Option Life) (m : Machine) → AreIds (session_in m) (ids_in m) m.waiting m.remeasure_at o → m.measuring ≡ o → HasIds (tick_by o m)
+tick_by_parts None m h is = subst (λ (o : Option Life). AreIds (session_in m) (ids_in m) m.waiting m.remeasure_at o) (sym is) h
 tick_by_parts (Some life) m h is =
     let next = tick_after life m.moment in
     let same = tick-session life m.moment in
     let free : IsFree m next.session =
     subst (λ (z : NodeId). IsFree m z) (sym same) (free-from (session_in m) (ids_in m) m.waiting m.remeasure_at life h) in
-    subst (λ (z : NodeId). HasParts (judged (tick_outcome life m.moment) z (record m { measuring = Some next }))) same
+    subst (λ (z : NodeId). HasIds (judged (tick_outcome life m.moment) z (record m { measuring = Some next }))) same
     (judged_parts (tick_outcome life m.moment) next m free (tick-goes life m.moment h.going_on))
 
-pub ticked_parts : (m : Machine) → HasParts m → HasParts (measurement_ticked m)
+pub ticked_parts : (m : Machine) → HasIds m → HasIds (measurement_ticked m)
 unfolding measurement_ticked
 ticked_parts m h = tick_by_parts m.measuring m h refl
 
