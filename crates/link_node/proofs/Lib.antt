@@ -2,3 +2,4 @@ pub mod IdLemmas
 pub mod SessionsLemmas
 pub mod RuleLemmas
 pub mod TidyLemmas
+pub mod WellFormedLemmas

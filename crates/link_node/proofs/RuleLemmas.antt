@@ -360,7 +360,7 @@ taken_parts (App commit now) m h = commit_parts commit (record m { app = m.app +
 taken_parts (Audio number commit now) m h = commit_parts commit (record m { audio = number }) h
 taken_parts (End now) m h = h
 
-alone-parts : (current : NodeId) → AreIds current [] [] None None
+pub alone-parts : (current : NodeId) → AreIds current [] [] None None
 alone-parts current = record {
   distinct = (λ h. h, tt);
   few = omega arith;

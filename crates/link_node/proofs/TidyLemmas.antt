@@ -58,7 +58,7 @@ moment-max a b p q = (omega (arith, ints, clamps, p.0, q.0), omega (arith, ints,
 pub tidy-at : (mpb beat time : ℤ) → pos 60_060 ≤ℤ mpb → mpb ≤ℤ pos 3_000_000 → IsWithinLimit beat → IsWithinLimit time → IsTidy (timeline_at mpb beat time)
 tidy-at mpb beat time fast slow b t = record { slowest = slow; fastest = fast; beat = b; time = t }
 
-zero-within : IsWithinLimit (pos 0)
+pub zero-within : IsWithinLimit (pos 0)
 zero-within = omega (arith, ints)
 
 pub tidied : (tl : Timeline) → IsTidy (tidy_of tl)
