@@ -1,6 +1,6 @@
 -- A node is well formed at its opening, and a step keeps that.
 use Rattle.std.proofs.Common.{◌≡◌, ◌≤◌, ◌<◌, ◌+◌, ◌||◌, ◌&&◌, ◌==◌, ℕ, ℤ, pos, neg_ℤ, ◌+ℤ◌, Bool, true, false, not, List, [], ◌∷◌, ◌++◌, nat_lt, int_lt, length, drop, filter, Option, Some, None, Result, Ok, Err, refl, sym, ap, ◌∙◌, subst, arith}
-use Rattle.std.proofs.lemmas.Bool.{false≢true, and_parts, and_from}
+use Rattle.std.proofs.lemmas.Bool.{and_parts, eq-eqb, eqb-true}
 use Rattle.std.proofs.lemmas.Bool.Decides.{nat_tests, Decides-int_eq}
 use Rattle.std.specs.Prelude.{if◌then◌else◌, is_some}
 use Rattle.std.specs.Int.{int_max}
@@ -8,6 +8,7 @@ use Rattle.std.specs.Result.{result_map_both}
 use Rattle.std.specs.Ordering.{int_eq}
 use Rattle.std.specs.List.{AllByRecursion}
 use Rattle.std.specs.Option.{ForSome}
+use Rattle.ghost_xform.specs.GhostTime.{ghost_of}
 use Rattle.lk_base.specs.IdOrder.{same_id}
 use Rattle.lk_base.specs.Ranges.{IsMoment, IsWithinLimit}
 use Rattle.lk_base.specs.Timeline.{IsTidy}
@@ -60,13 +61,17 @@ use Rattle.link_node.specs.Broadcast.{broadcast_after, is_broadcast}
 use Rattle.link_node.specs.Client.{renewed}
 use Rattle.link_node.specs.Commits.{app_taken, audio_taken, commit_taken, committed_by, reaches_session, start_committed, timeline_committed, with_client_start, with_client_timeline}
 use Rattle.link_node.specs.Config.{ConfigValue, IsConfig}
-use Rattle.link_node.specs.Event.{EventValue, Rx, Tick, App, Audio, End, Fits, moment_of}
+use Rattle.link_node.specs.Event.{EventValue, Rx, Tick, App, Audio, End, Fits, app_after, audio_after, moment_of}
 use Rattle.link_node.specs.Machine.{Machine, session_in, timeline_in, offset_in}
 use Rattle.link_node.specs.Measuring.{chosen, judged, measured, measurement_ticked, pong_by, pong_heard, remeasured_later, tick_by, unmeasured}
 use Rattle.link_node.specs.Opening.{opened, opening_state_of, still_client}
 use Rattle.link_node.specs.Publishing.{alike, same_client_start, shown, state_in}
+use Rattle.link_node.specs.Runs.{AreFitting, machine_after, published_by, shown_by}
 use Rattle.link_node.specs.Settling.{counted, founded, founding_timeline_in, held_in, id_drawn, is_left, noted, settled}
-use Rattle.link_node.specs.Step.{at_moment, before_broadcast, before_shown, broadcast_by, step_of, taken}
+use Rattle.link_node.specs.Step.{at_moment, before_broadcast, before_shown, broadcast_by, change_of, step_of, taken}
+use Rattle.link_node.specs.declared.event.Change.{Change}
+use Rattle.link_node.specs.declared.event.Change.TheVariants.{Same, Published}
+use Rattle.link_node.specs.declared.node.settling.Held.{Held}
 use Rattle.link_node.specs.Taking.{followed, is_current, listened, reaches_client, sighted, start_taken, state_taken, timeline_taken, with_start}
 use Rattle.link_node.specs.Tick.{begun, begun_at, begun_from, begun_one, cleared, idle_forgotten, is_needed, is_remeasured, pruned, remeasure_queued, ticked, waiting_with}
 use Rattle.link_node.specs.WellFormed.{AreTidyTimelines, IsInLimits, IsMachine}
@@ -103,7 +108,7 @@ all-filtered P test (row ∷ rows) all =
 
 -- ---- all timelines of sessions
 
-abbrev AreTidySessions : History → Type 0
+abbrev pub AreTidySessions : History → Type 0
 AreTidySessions h = AllByRecursion AreTidyTimelines (h.current ∷ h.others)
 
 tidy-taken : (tl : Timeline) (taking : Taking) → IsTidy tl → AreTidyTimelines taking → AreTidyTimelines (with_taken tl taking)
@@ -139,16 +144,16 @@ tidy-measured h session offset now all =
 
 -- ---- what isn't of ids
 
-record AreTidyParts (config : ConfigValue) (moment : ℤ) (sessions : History) (starts : List SessionStart) (client : Timeline) (client_start : ClientStart) (published : State) : Type 0 where
-  setup : IsConfig config
-  time : IsMoment moment
-  timelines : AreTidySessions sessions
-  limits : AllByRecursion IsInLimits starts
-  tidy_client : IsTidy client
-  tidy_start : IsTidyStart client_start
-  tidy_state : IsTidyState published
+pub record AreTidyParts (config : ConfigValue) (moment : ℤ) (sessions : History) (starts : List SessionStart) (client : Timeline) (client_start : ClientStart) (published : State) : Type 0 where
+  pub setup : IsConfig config
+  pub time : IsMoment moment
+  pub timelines : AreTidySessions sessions
+  pub limits : AllByRecursion IsInLimits starts
+  pub tidy_client : IsTidy client
+  pub tidy_start : IsTidyStart client_start
+  pub tidy_state : IsTidyState published
 
-abbrev IsTidyNode : Machine → Type 0
+abbrev pub IsTidyNode : Machine → Type 0
 IsTidyNode m = AreTidyParts m.config m.moment m.sessions m.starts m.client m.client_start m.published
 
 module _ {config : ConfigValue} {moment : ℤ} {sessions : History} {starts : List SessionStart} {client : Timeline} {client_start : ClientStart} {published : State} (h : AreTidyParts config moment sessions starts client client_start published) where
@@ -409,3 +414,225 @@ taken_tidy (Tick now) m gates app audio fits h = tick_tidy m h
 taken_tidy (App commit now) m gates app audio fits h = commit_tidy commit (record m { app = m.app + 1 }) fits.1.0 h
 taken_tidy (Audio number commit now) m gates app audio fits h = commit_tidy commit (record m { audio = number }) fits.1.0 h
 taken_tidy (End now) m gates app audio fits h = h
+
+-- ---- settling
+
+-- what holds of a node whose peers were counted, whatever is published
+pub record IsCounted (m : Machine) : Type 0 where
+  pub ids : HasIds m
+  pub tidy : IsTidyNode m
+  pub peers : m.peers ≡ peers_in (session_in m) m.life
+
+founding-tidy : (m : Machine) → IsTidyNode m → IsTidy (founding_timeline_in m)
+unfolding founding_timeline_in
+founding-tidy m h =
+    let current = tidy-current m h in
+    let beat = beat_at (timeline_in m) (ghost_of (offset_in m) m.moment) in
+    tidy-at (timeline_in m).mpb beat (pos 0) current.fastest current.slowest (beat_at-within (timeline_in m) (ghost_of (offset_in m) m.moment)) zero-within
+
+founded_tidy : (m : Machine) → IsTidyNode m → IsTidyNode (founded m)
+unfolding founded
+founded_tidy m h =
+    let id = id_drawn m.config.seed m.drawn in
+    let sessions = opening id (founding_timeline_in m) (neg_ℤ m.moment) in
+    let alone = record m { drawn = m.drawn + 1; id = id; sessions = sessions; starts = []; life = []; waiting = []; measuring = None; remeasure_at = None } in
+    renewed_tidy alone (with_starts (with_sessions h sessions ((founding-tidy m h, tt), tt)) [] tt)
+
+settled_tidy : (m : Machine) → IsTidyNode m → IsTidyNode (settled m)
+unfolding settled
+settled_tidy m h = by_test (λ b. IsTidyNode (if b then founded (counted m) else counted m)) (is_left m) (λ _. founded_tidy (counted m) h) (λ _. h)
+
+nobody : (session : NodeId) → peers_in session [] ≡ 0
+unfolding peers_in rows_of
+nobody session = refl
+
+founded-nobody : (m : Machine) → m.peers ≡ 0 → (founded m).peers ≡ peers_in (session_in (founded m)) (founded m).life
+unfolding founded renewed
+founded-nobody m none = none ∙ sym (nobody (id_drawn m.config.seed m.drawn))
+
+left-none : (m : Machine) → is_left m ≡ true → peers_in (session_in m) m.life ≡ 0
+left-none m left =
+    let none = (and_parts (nat_lt 0 m.peers) (peers_in (session_in m) m.life == 0) left).1 in
+    eqb-true (peers_in (session_in m) m.life) 0 none
+
+settled-peers : (m : Machine) → (settled m).peers ≡ peers_in (session_in (settled m)) (settled m).life
+unfolding settled
+settled-peers m =
+    by_test (λ b. is_left m ≡ b → (if b then founded (counted m) else counted m).peers
+    ≡ peers_in (session_in (if b then founded (counted m) else counted m)) (if b then founded (counted m) else counted m).life) (is_left m)
+    (λ _ left. founded-nobody (counted m) (left-none m left)) (λ _ _. refl) refl
+
+-- ---- telling
+
+noted_counted : (m : Machine) (before : Held) → IsCounted m → IsCounted (noted before m)
+unfolding noted
+noted_counted m before h = record { ids = h.ids; tidy = h.tidy; peers = h.peers }
+
+broadcast_counted : (m : Machine) → IsCounted m → IsCounted (broadcast_after m)
+unfolding broadcast_after
+broadcast_counted m h =
+    by_test (λ b. IsCounted (if b then record m { last_broadcast = Some m.moment; changed = false } else m)) (is_broadcast m)
+    (λ _. record { ids = h.ids; tidy = h.tidy; peers = h.peers }) (λ _. h)
+
+told_counted : (e : EventValue) (m : Machine) → IsCounted m → IsCounted (broadcast_by e m)
+told_counted (Tick now) m h = broadcast_counted m h
+told_counted (Rx gate from bytes now) m h = h
+told_counted (App commit now) m h = h
+told_counted (Audio number commit now) m h = h
+told_counted (End now) m h = h
+
+-- ---- showing
+
+int_eq-itself : (n : ℤ) → int_eq n n ≡ true
+int_eq-itself n = (Decides-int_eq n n).1 refl
+
+same_bool-itself : (b : Bool) → same_bool b b ≡ true
+same_bool-itself true = refl
+same_bool-itself false = refl
+
+same_timeline-itself : (tl : Timeline) → same_timeline tl tl ≡ true
+same_timeline-itself tl = rw (int_eq-itself tl.mpb, int_eq-itself tl.beat, int_eq-itself tl.time) refl
+
+same_start-itself : (start : ClientStart) → same_client_start start start ≡ true
+same_start-itself start = rw (same_bool-itself start.playing, int_eq-itself start.time, int_eq-itself start.stamp) refl
+
+eqb-itself : (n : ℕ) → (n == n) ≡ true
+eqb-itself n = eq-eqb n n refl
+
+pub alike-itself : (state : State) → alike state state ≡ true
+unfolding alike
+alike-itself state =
+    rw (same_timeline-itself state.timeline, same_start-itself state.start, same_bool-itself state.sync, eqb-itself state.peers, eqb-itself state.app, eqb-itself state.audio) refl
+
+pub state-tidy : (m : Machine) → IsTidyNode m → IsTidyState (state_in m)
+state-tidy m h = record {
+  timeline = h.tidy_client;
+  start = h.tidy_start.time;
+  stamp = h.tidy_start.stamp;
+  moment = moment-within m.moment h.time;
+}
+
+shown-sound : (m : Machine) → IsCounted m → IsMachine (shown m)
+unfolding shown
+shown-sound m h =
+    by_test (λ b. alike (state_in m) m.published ≡ b → IsMachine (if b then m else record m { published = state_in m })) (alike (state_in m) m.published)
+    (λ _ same. record {
+      config = h.tidy.setup;
+      moment = h.tidy.time;
+      sessions = from_parts m h.ids;
+      timelines = h.tidy.timelines;
+      starts = h.tidy.limits;
+      peers = h.peers;
+      client = h.tidy.tidy_client;
+      client_start = h.tidy.tidy_start;
+      published = h.tidy.tidy_state;
+      shown = same;
+    })
+    (λ _ _. record {
+      config = h.tidy.setup;
+      moment = h.tidy.time;
+      sessions = from_parts (record m { published = state_in m }) h.ids;
+      timelines = h.tidy.timelines;
+      starts = h.tidy.limits;
+      peers = h.peers;
+      client = h.tidy.tidy_client;
+      client_start = h.tidy.tidy_start;
+      published = state-tidy m h.tidy;
+      shown = alike-itself (state_in m);
+    })
+    refl
+
+-- ---- the step
+
+tidy-from : (m : Machine) → IsMachine m → IsTidyNode m
+tidy-from m h = record {
+  setup = h.config;
+  time = h.moment;
+  timelines = h.timelines;
+  limits = h.starts;
+  tidy_client = h.client;
+  tidy_start = h.client_start;
+  tidy_state = h.published;
+}
+
+at_moment_tidy : (now : ℤ) (m : Machine) → IsMoment now → IsTidyNode m → IsTidyNode (at_moment now m)
+at_moment_tidy now m is h = record {
+  setup = h.setup;
+  time = moment-max m.moment now h.time is;
+  timelines = h.timelines;
+  limits = h.limits;
+  tidy_client = h.tidy_client;
+  tidy_start = h.tidy_start;
+  tidy_state = h.tidy_state;
+}
+
+settled_counted : (m : Machine) → HasIds m → IsTidyNode m → IsCounted (settled m)
+settled_counted m ids tidy = record { ids = settled_parts m ids; tidy = settled_tidy m tidy; peers = settled-peers m }
+
+pub before-counted : (m : Machine) (e : EventValue) → IsMachine m → Fits (length m.config.gates) m.app m.audio e → IsCounted (before_shown e m)
+unfolding before_shown before_broadcast
+before-counted m e h fits =
+    let now = at_moment (moment_of e) m in
+    let after = taken e now in
+    told_counted e (noted (held_in m) (settled after))
+    (noted_counted (settled after) (held_in m)
+    (settled_counted after (taken_parts e now (to_parts m h.sessions))
+    (taken_tidy e now (length m.config.gates) m.app m.audio fits (at_moment_tidy (moment_of e) m fits.0 (tidy-from m h)))))
+
+pub step_sound : (m : Machine) (e : EventValue) → IsMachine m → Fits (length m.config.gates) m.app m.audio e → IsMachine (step_of m e)
+unfolding step_of
+step_sound m e h fits = shown-sound (before_shown e m) (before-counted m e h fits)
+
+-- ---- the opening
+
+pub opened_sound : (config : ConfigValue) (now : ℤ) → IsConfig config → IsMoment now → IsMachine (opened config now)
+unfolding opened
+opened_sound config now is moment =
+    let within = moment-within now moment in
+    let client = tidy-at config.mpb (pos 0) now is.fastest is.slowest zero-within within in
+    record {
+      config = is;
+      moment = moment;
+      sessions = from_parts (opened config now) (alone-parts config.id);
+      timelines = ((tidy-at config.mpb (pos 0) (pos 0) is.fastest is.slowest zero-within zero-within, tt), tt);
+      starts = tt;
+      peers = sym (nobody config.id);
+      client = client;
+      client_start = record { time = zero-within; stamp = zero-within };
+      published = record { timeline = client; start = zero-within; stamp = zero-within; moment = within };
+      shown = alike-itself (opening_state_of config now);
+    }
+
+-- ---- whole runs
+
+-- what a step leaves of the counts that say whether the next event fits
+pub record CountsOn : Type 0 where
+  pub config : (m : Machine) (e : EventValue) → (step_of m e).config ≡ m.config
+  pub app : (m : Machine) (e : EventValue) → (step_of m e).app ≡ app_after m.app e
+  pub audio : (m : Machine) (e : EventValue) → (step_of m e).audio ≡ audio_after m.audio e
+
+fitting-on : (counts : CountsOn) (m : Machine) (e : EventValue) (es : List EventValue) → AreFitting (length m.config.gates) (app_after m.app e) (audio_after m.audio e) es
+    → AreFitting (length (step_of m e).config.gates) (step_of m e).app (step_of m e).audio es
+fitting-on counts m e es fits =
+    subst (λ (n : ℕ). AreFitting (length (step_of m e).config.gates) (step_of m e).app n es) (sym (counts.audio m e))
+    (subst (λ (n : ℕ). AreFitting (length (step_of m e).config.gates) n (audio_after m.audio e) es) (sym (counts.app m e))
+    (subst (λ (config : ConfigValue). AreFitting (length config.gates) (app_after m.app e) (audio_after m.audio e) es) (sym (counts.config m e)) fits))
+
+pub run_sound : (counts : CountsOn) (m : Machine) (es : List EventValue) → IsMachine m → AreFitting (length m.config.gates) m.app m.audio es → IsMachine (machine_after m es)
+unfolding machine_after
+run_sound counts m [] h fits = h
+run_sound counts m (e ∷ es) h fits = run_sound counts (step_of m e) es (step_sound m e h fits.0) (fitting-on counts m e es fits.1)
+
+shown-tidy : (change : Change) (state : State) → IsTidyState state → AllByRecursion IsTidyState (shown_by change state)
+shown-tidy Same state h = tt
+shown-tidy Published state h = (h, tt)
+
+pub published_tidy : (counts : CountsOn) (m : Machine) (es : List EventValue) → IsMachine m → AreFitting (length m.config.gates) m.app m.audio es
+    → AllByRecursion IsTidyState (published_by m es)
+unfolding published_by
+published_tidy counts m [] h fits = tt
+published_tidy counts m (e ∷ es) h fits =
+    let sound = step_sound m e h fits.0 in
+    all_append IsTidyState (shown_by (change_of m e) (step_of m e).published) (published_by (step_of m e) es)
+    (shown-tidy (change_of m e) (step_of m e).published sound.published)
+    (published_tidy counts (step_of m e) es sound (fitting-on counts m e es fits.1))
