@@ -3,3 +3,4 @@ pub mod SessionsLemmas
 pub mod RuleLemmas
 pub mod TidyLemmas
 pub mod WellFormedLemmas
+pub mod DueLemmas
