@@ -1,5 +1,5 @@
 -- When a tick has work: after a tick nothing is due, and commits put nothing off.
-use Rattle.std.proofs.Common.{◌≡◌, ◌⊎◌, ◌≤◌, ◌+◌, ◌||◌, ◌&&◌, ◌==◌, ℕ, zero, suc, ℤ, pos, ◌+ℤ◌, ◌≤ℤ◌, ◌<ℤ◌, Bool, true, false, not, List, [], ◌∷◌, ◌++◌, nat_lt, nat_le, int_lt, int_le, length, filter, map, Option, Some, None, refl, sym, ap, ◌∙◌, subst, inl, inr, arith}
+use Rattle.std.proofs.Common.{◌≡◌, ◌⊎◌, ◌+◌, ◌||◌, ◌&&◌, ◌==◌, ℕ, zero, suc, ℤ, pos, ◌+ℤ◌, ◌≤ℤ◌, ◌<ℤ◌, Bool, true, false, not, List, [], ◌∷◌, nat_lt, nat_le, int_lt, int_le, filter, map, Option, Some, None, refl, sym, ap, ◌∙◌, subst, inl, inr, arith}
 use Rattle.std.proofs.lemmas.Bool.{and_parts, and_right, eqb-true, false≢true, or_parts}
 use Rattle.std.proofs.lemmas.Bool.Decides.{nat_tests}
 use Rattle.std.proofs.lemmas.Int.{ints, clamps}
@@ -15,7 +15,7 @@ use Rattle.lk_base.specs.declared.ids.NodeId.{NodeId}
 use Rattle.lk_base.specs.declared.start.ClientStart.{ClientStart}
 use Rattle.lk_base.specs.declared.timeline.Timeline.{Timeline}
 use Rattle.peer_gateway.specs.Answers.{least_in, least_limit_of, peers_in, target_of}
-use Rattle.peer_gateway.specs.Happenings.{Happening, Has, lives, rows_of, was_pruned}
+use Rattle.peer_gateway.specs.Happenings.{Happening, lives, rows_of, was_pruned}
 use Rattle.peer_gateway.specs.Happenings.Happening.{pruning}
 use Rattle.peer_gateway.specs.declared.row.PeerRow.{PeerRow}
 use Rattle.peer_gateway.proofs.LifeLemmas.{rows_more}
@@ -34,7 +34,6 @@ use Rattle.session_choice.proofs.Lists.{by_test}
 use Rattle.client_state.specs.Commit.{same_bool, same_timeline}
 use Rattle.client_state.specs.Timelines.{session_from_client_of}
 use Rattle.client_state.specs.declared.commit.Commit.{Commit}
-use Rattle.client_state.specs.declared.state.State.{State}
 use Rattle.link_node.specs.Broadcast.{broadcast_after, is_broadcast, is_due_after}
 use Rattle.link_node.specs.Client.{renewed}
 use Rattle.link_node.specs.Commits.{app_taken, audio_taken, commit_taken, committed_by, start_committed, timeline_committed, with_client_start, with_client_timeline}
@@ -48,8 +47,7 @@ use Rattle.link_node.specs.Step.{at_moment, before_broadcast, before_shown, step
 use Rattle.link_node.specs.Tick.{begun, begun_at, begun_from, begun_one, cleared, idle_forgotten, is_remeasured, pruned, remeasure_queued, ticked, waiting_with}
 use Rattle.link_node.specs.WellFormed.{IsMachine}
 use Rattle.link_node.specs.declared.node.settling.Held.{Held}
-use Rattle.link_node.proofs.RuleLemmas.{begun_one-waiting, none-there}
-use Rattle.link_node.proofs.SessionsLemmas.{HasIds, to_parts}
+use Rattle.link_node.proofs.RuleLemmas.{begun_one-waiting}
 
 -- ---- the earliest of several
 
@@ -358,9 +356,9 @@ earlier-second now at (Some other) h = let le : other ≤ℤ now = h in omega (a
 -- where each that was due is due, the earliest is
 AreKept : ℤ → List (Option ℤ) → List (Option ℤ) → Type 0
 AreKept now [] [] = Unit {0}
-AreKept now [] (b ∷ bs) = ⊥
-AreKept now (a ∷ as_) [] = ⊥
-AreKept now (a ∷ as_) (b ∷ bs) = (IsDueBy now a → IsDueBy now b) × AreKept now as_ bs
+AreKept now [] (b ∷ news) = ⊥
+AreKept now (a ∷ olds) [] = ⊥
+AreKept now (a ∷ olds) (b ∷ news) = (IsDueBy now a → IsDueBy now b) × AreKept now olds news
 
 earliest-kept : (now a b : ℤ) (olds news : List (Option ℤ)) → (a ≤ℤ now → b ≤ℤ now) → AreKept now olds news → earliest_of a olds ≤ℤ now → earliest_of b news ≤ℤ now
 unfolding AreKept

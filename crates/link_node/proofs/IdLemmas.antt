@@ -1,15 +1,13 @@
 -- Ids in lists: which stand there, and that none does twice.
-use Rattle.std.proofs.Common.{◌≡◌, ◌⊎◌, ◌≤◌, Bool, true, false, List, [], ◌∷◌, ◌++◌, length, map, filter, Option, Some, None, refl, sym, ap, ◌∙◌, subst, inl, inr, suc, arith}
+use Rattle.std.proofs.Common.{◌≡◌, ◌⊎◌, ◌≤◌, true, false, List, [], ◌∷◌, ◌++◌, length, map, Some, refl, sym, ap, ◌∙◌, subst, inl, inr, suc, arith}
 use Rattle.std.specs.Prelude.{if◌then◌else◌, is_some}
-use Rattle.std.specs.List.{AllByRecursion, list_any}
 use Rattle.std.proofs.lemmas.Bool.{false≢true, false_from_ne_true}
 use Rattle.lk_base.specs.IdOrder.{same_id}
 use Rattle.lk_base.specs.declared.ids.NodeId.{NodeId}
 use Rattle.peer_gateway.specs.Happenings.{Has}
-use Rattle.peer_gateway.proofs.MemberLemmas.{Distinct, all_from_has, has_from_all, has_from_any, any_from_has, has_map, map_has, filter_has}
+use Rattle.peer_gateway.proofs.MemberLemmas.{Distinct, all_from_has, has_from_all, has_from_any, any_from_has}
 use Rattle.session_choice.specs.Keyed.{found_by, updated_by, without_by}
 use Rattle.session_choice.proofs.DistinctLemmas.{same-equal, same-itself}
-use Rattle.session_choice.proofs.KeyedLemmas.{map-updated, map-without}
 use Rattle.session_choice.proofs.Lists.{by_test}
 use Rattle.link_node.specs.Tick.{is_waiting}
 use Rattle.link_node.specs.WellFormed.{AreDistinct}
@@ -165,13 +163,13 @@ module _ (current id : NodeId) where
       (λ _ same.
       let e = same-equal first id same in (
         (λ k. elim k as (λ _. ⊥)
-        [ inl is ↦ all.0 (inl (e ∙ sym is)) | inr q ↦ all.1.0 (subst (λ (z : NodeId). Has ids z) (sym e) q) ]),
+            [ inl is ↦ all.0 (inl (e ∙ sym is)) | inr q ↦ all.1.0 (subst (λ (z : NodeId). Has ids z) (sym e) q) ]),
         ((λ k. all.0 (inr k)), all.1.1),
       ))
       (λ _ other.
       let later : Has ids id = elim h as (λ _. Has ids id) [ inl e ↦ absurd (false≢true (sym other ∙ equal-same first id e)) | inr k ↦ k ] in
       let rest : Distinct (id ∷ replaced ids) = distinct-replaced ids (λ k. all.0 (inr k), all.1.1) later in (
         (λ k. elim k as (λ _. ⊥)
-        [ inl is ↦ false≢true (sym other ∙ equal-same first id is) | inr q ↦ rest.0 q ]),
+            [ inl is ↦ false≢true (sym other ∙ equal-same first id is) | inr q ↦ rest.0 q ]),
         ((λ k. elim (replaced-has ids first k) as (λ _. ⊥) [ inl e ↦ all.0 (inl (sym e)) | inr q ↦ all.1.0 q ]), rest.1),
       )) refl
