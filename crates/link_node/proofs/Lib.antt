@@ -1,0 +1,6 @@
+pub mod IdLemmas
+pub mod SessionsLemmas
+pub mod RuleLemmas
+pub mod TidyLemmas
+pub mod WellFormedLemmas
+pub mod DueLemmas

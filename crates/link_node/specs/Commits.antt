@@ -1,0 +1,61 @@
+-- Taking a commit.
+use Rattle.std.specs.Prelude.{ℕ, int_lt, Bool, ◌+◌, ◌&&◌, List, [], ◌∷◌, ◌++◌, if◌then◌else◌, is_some, Option, Some, None}
+use Rattle.ghost_xform.specs.GhostTime.{ghost_of}
+use Rattle.lk_base.specs.declared.start.ClientStart.{ClientStart}
+use Rattle.lk_base.specs.declared.timeline.Timeline.{Timeline}
+use Rattle.session_choice.specs.History.{committed}
+use Rattle.client_state.specs.Starts.{start_to_session_of}
+use Rattle.client_state.specs.Timelines.{session_from_client_of}
+use Rattle.client_state.specs.declared.commit.Commit.{Commit}
+use Rattle.link_node.specs.Client.{renewed}
+use Rattle.link_node.specs.Machine.{Machine, timeline_in, offset_in, start_in}
+
+-- ---- the start
+
+-- with sync, a start that is later than the session's is the session's too
+abbrev pub reaches_session : ClientStart → Machine → Bool
+reaches_session start m = m.config.sync && int_lt (start_in m).stamp (ghost_of (offset_in m) start.stamp)
+
+abbrev pub with_client_start : ClientStart → Machine → Machine
+with_client_start start m = record m {
+  client_start = start;
+  starts =
+      if reaches_session start m then m.starts ++ start_to_session_of start (timeline_in m) (offset_in m) ∷ []
+      else m.starts;
+}
+
+-- a start counts where it is later than the client's
+unfoldable pub start_committed : Option ClientStart → Machine → Machine
+start_committed None m = m
+start_committed (Some start) m = if int_lt m.client_start.stamp start.stamp then with_client_start start m else m
+
+-- ---- the timeline
+
+-- the session takes the timeline that is made of the client's
+abbrev pub with_client_timeline : Timeline → Timeline → Machine → Machine
+with_client_timeline client session m = renewed (record m { client = client; sessions = committed session m.sessions })
+
+-- where the session's beat origin can't grow, nothing of the commit is taken
+abbrev pub client_taken : Option Timeline → Timeline → Machine → Machine
+client_taken None client m = m
+client_taken (Some session) client m = with_client_timeline client session m
+
+abbrev pub committed_by : Option Timeline → Timeline → Option ClientStart → Machine → Machine
+committed_by session client start m =
+    if is_some session then start_committed start (client_taken session client m) else m
+
+abbrev pub timeline_committed : Option Timeline → Commit → Machine → Machine
+timeline_committed None commit m = start_committed commit.start m
+timeline_committed (Some client) commit m =
+    committed_by (session_from_client_of (timeline_in m) client commit.at (offset_in m)) client commit.start m
+
+unfoldable pub commit_taken : Commit → Machine → Machine
+commit_taken commit m = timeline_committed commit.timeline commit m
+
+-- ---- counted
+
+unfoldable pub app_taken : Commit → Machine → Machine
+app_taken commit m = commit_taken commit (record m { app = m.app + 1 })
+
+unfoldable pub audio_taken : ℕ → Commit → Machine → Machine
+audio_taken number commit m = commit_taken commit (record m { audio = number })

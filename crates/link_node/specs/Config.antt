@@ -1,0 +1,37 @@
+-- A node's setup as plain data.
+use Rattle.std.specs.Prelude.{ℕ, ℤ, pos, ◌≤ℤ◌, ◌≤◌, Bool, List, length, map}
+use Rattle.lk_base.specs.declared.endpoint.Endpoint.{Endpoint}
+use Rattle.lk_base.specs.declared.ids.NodeId.{NodeId}
+use Rattle.link_node.specs.declared.config.Config.{Config}
+use Rattle.link_node.specs.declared.config.GateSetup.{GateSetup}
+
+-- a gate: its own endpoint, and those that it broadcasts to
+pub record GateValue : Type 0 where
+  pub local : Endpoint
+  pub destinations : List Endpoint
+
+pub record ConfigValue : Type 0 where
+  pub id : NodeId
+  pub seed : ℕ
+  pub mpb : ℤ
+  pub sync : Bool
+  pub gates : List GateValue
+
+abbrev pub gate_value : GateSetup → GateValue
+gate_value setup = record { local = setup.local; destinations = setup.peers.items }
+
+abbrev pub config_value : Config → ConfigValue
+config_value config = record {
+  id = config.id;
+  seed = config.seed;
+  mpb = config.mpb;
+  sync = config.sync;
+  gates = map gate_value config.gates.items;
+}
+
+-- what a node can be opened with: one to four gates, and a tempo in its range
+pub record IsConfig (config : ConfigValue) : Type 0 where
+  pub some_gate : 1 ≤ length config.gates
+  pub few_gates : length config.gates ≤ 4
+  pub fastest : pos 60_060 ≤ℤ config.mpb
+  pub slowest : config.mpb ≤ℤ pos 3_000_000

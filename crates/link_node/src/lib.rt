@@ -1,0 +1,30 @@
+//! The machine: one event after another in, datagrams to send and states to show out. A node is a pure function of its
+//! events; it knows no clock, no socket and no thread.
+//!
+//! In reading order: `config`, `event`, `sends`, `node`, and then a file a rule, in the order in which the rules of an event run:
+//! `node/arrival`, `node/taking`, `node/measuring`, `node/client`, `node/commits`, `node/tick`, `node/settling`,
+//! `node/telling`, `node/broadcast`, `node/publishing`, `node/due`; last `laws` and
+//! `lasting`.
+#![tactic(auto)]
+
+mod config;
+mod event;
+mod lasting;
+mod laws;
+mod node;
+mod sends;
+#[cfg(test)]
+mod tests;
+
+pub use config::{Config, GateSetup};
+pub use event::{Change, Event};
+pub use lasting::{
+    a_tick_leaves_nothing_due, commits_put_off_nothing, few_sessions_wait, nodes_are_well_formed,
+    states_tell_the_counts,
+};
+pub use laws::{
+    best_timelines_are_told, commits_are_counted, commits_send_nothing, moments_never_fall,
+    runs_go_on, timelines_are_brought,
+};
+pub use node::Node;
+pub use sends::{Sending, Sends};
