@@ -1,3 +1,4 @@
 pub mod Cases
 pub mod MomentLemmas
 pub mod RunLemmas
+pub mod ToldLemmas

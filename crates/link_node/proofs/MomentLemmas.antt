@@ -1,6 +1,6 @@
 -- What no rule touches: the config, the moment and the counts of commits.
 use Rattle.std.proofs.Common.{◌≡◌, ℕ, ℤ, ◌+◌, Bool, true, false, List, [], ◌∷◌, ◌++◌, Option, Some, None, Result, Ok, Err, refl, sym, ap, ◌∙◌}
-use Rattle.std.specs.Prelude.{if◌then◌else◌, is_some}
+use Rattle.std.specs.Prelude.{int_lt, if◌then◌else◌, is_some}
 use Rattle.lk_base.specs.IdOrder.{same_id}
 use Rattle.lk_base.specs.declared.endpoint.Endpoint.{Endpoint}
 use Rattle.lk_base.specs.declared.endpoint.Gate.{Gate}
@@ -18,10 +18,11 @@ use Rattle.asdp_messages.specs.declared.message.StateMsg.{StateMsg}
 use Rattle.peer_gateway.specs.Answers.{target_of, seen_of}
 use Rattle.peer_gateway.specs.declared.row.Seen.{Seen}
 use Rattle.peer_gateway.specs.declared.row.Seen.TheVariants as seen
+use Rattle.peer_gateway.specs.Happenings.{said_goodbye}
 use Rattle.ping_measure.specs.Life.{Life, pong_outcome, pong_after, tick_outcome, tick_after}
 use Rattle.ping_measure.specs.declared.outcome.Outcome.{Outcome}
 use Rattle.ping_measure.specs.declared.outcome.Outcome.TheVariants.{Idle, Again, Done, Failed}
-use Rattle.session_choice.specs.History.{measured_of, measured_after, saw_of, saw_after}
+use Rattle.session_choice.specs.History.{measured_of, measured_after, forgotten, saw_of, saw_after}
 use Rattle.session_choice.specs.declared.verdict.Saw.{Saw}
 use Rattle.session_choice.specs.declared.verdict.Saw.TheVariants as saw
 use Rattle.session_choice.specs.declared.verdict.Verdict.{Verdict}
@@ -36,12 +37,13 @@ use Rattle.link_node.specs.Commits.{start_committed, with_client_start, client_t
 use Rattle.link_node.specs.Config.{ConfigValue}
 use Rattle.link_node.specs.Event.{EventValue, Rx, Tick, App, Audio, End, moment_of, app_after, audio_after}
 use Rattle.link_node.specs.Machine.{Machine, session_in, timeline_in, offset_in}
-use Rattle.link_node.specs.Measuring.{chosen, measured, unmeasured, judged, pong_by, pong_heard, tick_by, measurement_ticked}
+use Rattle.link_node.specs.Measuring.{remeasured_later, chosen, measured, unmeasured, judged, pong_by, pong_heard, tick_by, measurement_ticked}
 use Rattle.link_node.specs.Publishing.{shown, alike, state_in}
 use Rattle.link_node.specs.Settling.{held_in, settled, founded, counted, is_left, noted}
 use Rattle.link_node.specs.Step.{at_moment, taken, before_broadcast, broadcast_by, before_shown, step_of}
 use Rattle.link_node.specs.Taking.{followed, timeline_taken, with_start, start_taken, sighted, listened, state_taken, is_current}
-use Rattle.link_node.specs.Tick.{pruned, idle_forgotten, remeasure_queued, is_remeasured, begun_at, begun_one, begun_from, begun, cleared, ticked}
+use Rattle.link_node.specs.Tick.{waiting_with, pruned, idle_forgotten, remeasure_queued, is_remeasured, begun_at, begun_one, begun_from, begun, cleared, ticked}
+use Rattle.link_node.specs.declared.node.settling.Held.{Held}
 use Rattle.link_node.proofs.Cases.{by_test}
 
 pub record Keeps (m n : Machine) : Type 0 where
@@ -64,7 +66,7 @@ both m n o first second = record {
 
 module _ (m : Machine) where
   pub either : (b : Bool) (n o : Machine) → Keeps m n → Keeps m o → Keeps m (if b then n else o)
-  either b n o yes no = by_test (λ t. Keeps m (if t then n else o)) b (λ _. yes) (λ _. no)
+  either b n o first second = by_test (λ t. Keeps m (if t then n else o)) b (λ _. first) (λ _. second)
 
 pub after_renewed : (m : Machine) → Keeps m (renewed m)
 unfolding renewed
@@ -124,10 +126,8 @@ after_measured session offset m =
 after_unmeasured : (session : NodeId) (m : Machine) → Keeps m (unmeasured session m)
 unfolding unmeasured
 after_unmeasured session m =
-    by_test
-    (λ t. Keeps m (if t then _ else _)) (same_id session (session_in m))
-    (λ _. record { config = refl; moment = refl; app = refl; audio = refl })
-    (λ _. record { config = refl; moment = refl; app = refl; audio = refl })
+    either m (same_id session (session_in m)) (remeasured_later m) (record m { sessions = forgotten session m.sessions })
+    (record { config = refl; moment = refl; app = refl; audio = refl }) (record { config = refl; moment = refl; app = refl; audio = refl })
 
 after_judged : (outcome : Outcome) (session : NodeId) (m : Machine) → Keeps m (judged outcome session m)
 after_judged Idle session m = same m
@@ -169,7 +169,7 @@ after_arrived gate from (Ok (message.Alive msg)) m =
 after_arrived gate from (Ok (message.Response msg)) m =
     either m (is_heard msg.from msg.group m) (state_taken gate msg m) m (after_state gate msg m) (same m)
 after_arrived gate from (Ok (message.Bye id ttl group)) m =
-    either m (is_heard id group m) _ m (record { config = refl; moment = refl; app = refl; audio = refl }) (same m)
+    either m (is_heard id group m) (record m { life = said_goodbye gate id m.life }) m (record { config = refl; moment = refl; app = refl; audio = refl }) (same m)
 after_arrived gate from (Ok (message.Ping payload)) m = same m
 after_arrived gate from (Ok (message.Pong pong)) m = after_pong gate from pong m
 after_arrived gate from (Ok (message.OtherDiscovery kind)) m = same m
@@ -185,7 +185,7 @@ after_cleared m = record { config = refl; moment = refl; app = refl; audio = ref
 after_queued : (m : Machine) → Keeps m (remeasure_queued m)
 unfolding remeasure_queued
 after_queued m =
-    either m (is_remeasured m.remeasure_at m.moment) _ m (record { config = refl; moment = refl; app = refl; audio = refl }) (same m)
+    either m (is_remeasured m.remeasure_at m.moment) (record m { remeasure_at = None; waiting = waiting_with (session_in m) m.waiting }) m (record { config = refl; moment = refl; app = refl; audio = refl }) (same m)
 
 after_begun_at : (target : Option Target) (session : NodeId) (m : Machine) → Keeps m (begun_at target session m)
 after_begun_at (Some target) session m = record { config = refl; moment = refl; app = refl; audio = refl }
@@ -218,7 +218,7 @@ after_start_committed : (start : Option ClientStart) (m : Machine) → Keeps m (
 unfolding start_committed
 after_start_committed None m = same m
 after_start_committed (Some start) m =
-    either m _ (with_client_start start m) m (record { config = refl; moment = refl; app = refl; audio = refl }) (same m)
+    either m (int_lt m.client_start.stamp start.stamp) (with_client_start start m) m (record { config = refl; moment = refl; app = refl; audio = refl }) (same m)
 
 after_client_taken : (session : Option Timeline) (client : Timeline) (m : Machine) → Keeps m (client_taken session client m)
 unfolding renewed
@@ -255,13 +255,13 @@ after_settled m =
     either m (is_left m) (founded (counted m)) (counted m)
     (both m (counted m) (founded (counted m)) (after_counted m) (after_founded (counted m))) (after_counted m)
 
-after_noted : (before : _) (m : Machine) → Keeps m (noted before m)
+after_noted : (before : Held) (m : Machine) → Keeps m (noted before m)
 unfolding noted
 after_noted before m = record { config = refl; moment = refl; app = refl; audio = refl }
 
 after_broadcast : (m : Machine) → Keeps m (broadcast_after m)
 unfolding broadcast_after
-after_broadcast m = either m (is_broadcast m) _ m (record { config = refl; moment = refl; app = refl; audio = refl }) (same m)
+after_broadcast m = either m (is_broadcast m) (record m { last_broadcast = Some m.moment; changed = false }) m (record { config = refl; moment = refl; app = refl; audio = refl }) (same m)
 
 after_broadcast_by : (e : EventValue) (m : Machine) → Keeps m (broadcast_by e m)
 after_broadcast_by (Tick now) m = after_broadcast m
@@ -272,7 +272,7 @@ after_broadcast_by (End now) m = same m
 
 after_shown : (m : Machine) → Keeps m (shown m)
 unfolding shown
-after_shown m = either m (alike (state_in m) m.published) m _ (same m) (record { config = refl; moment = refl; app = refl; audio = refl })
+after_shown m = either m (alike (state_in m) m.published) m (record m { published = state_in m }) (same m) (record { config = refl; moment = refl; app = refl; audio = refl })
 
 -- ---- the event itself
 
