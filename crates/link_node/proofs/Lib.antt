@@ -1,4 +1,6 @@
 pub mod Cases
 pub mod MomentLemmas
 pub mod RunLemmas
+pub mod TakenLemmas
+pub mod BroughtLemmas
 pub mod ToldLemmas
