@@ -1,5 +1,5 @@
 -- Where the timelines that a node's sessions have taken come from, rule by rule.
-use Rattle.std.proofs.Common.{◌≡◌, ◌⊎◌, inl, inr, ℕ, ℤ, ◌+◌, Bool, true, false, List, [], ◌∷◌, ◌++◌, filter, Option, Some, None, Result, Ok, Err, refl, sym, ap, subst, ◌∙◌}
+use Rattle.std.proofs.Common.{◌≡◌, ◌⊎◌, inl, inr, ℕ, ℤ, ◌+◌, Bool, true, false, List, [], ◌∷◌, ◌++◌, Option, Some, None, Result, Ok, Err, refl, sym, ap, subst, ◌∙◌}
 use Rattle.std.specs.Prelude.{int_lt, is_some, if◌then◌else◌}
 use Rattle.lk_base.specs.IdOrder.{same_id}
 use Rattle.lk_base.specs.declared.endpoint.Endpoint.{Endpoint}
@@ -40,12 +40,12 @@ use Rattle.link_node.specs.Event.{EventValue, Rx, Tick, App, Audio, End, moment_
 use Rattle.link_node.specs.Machine.{Machine, session_in, timeline_in, offset_in}
 use Rattle.link_node.specs.Measuring.{remeasured_later, chosen, measured, unmeasured, judged, pong_by, pong_heard, tick_by, measurement_ticked}
 use Rattle.link_node.specs.Publishing.{shown, alike, state_in}
-use Rattle.link_node.specs.Settling.{id_drawn, founding_timeline_in, held_in, settled, founded, counted, is_left, noted}
+use Rattle.link_node.specs.Settling.{id_drawn, founding_timeline_in, settled, founded, counted, is_left, noted}
 use Rattle.link_node.specs.Step.{at_moment, taken, before_broadcast, broadcast_by, before_shown, step_of}
 use Rattle.link_node.specs.Taking.{followed, timeline_taken, with_start, start_taken, sighted, listened, state_taken, is_current}
 use Rattle.link_node.specs.Tick.{pruned, is_needed, idle_forgotten, waiting_with, remeasure_queued, is_remeasured, begun_at, begun_one, begun_from, begun, cleared, ticked}
-use Rattle.link_node.proofs.Cases.{by_test, has_left, has_right}
-use Rattle.link_node.proofs.TakenLemmas.{known, Took, Within, took_within, forgotten_within, filtered_within, measured_within, IsGiven, committed_took, saw_took}
+use Rattle.link_node.proofs.Lists.{by_test, has_left, has_right}
+use Rattle.link_node.proofs.TakenLemmas.{known, Within, took_within, forgotten_within, filtered_within, measured_within, IsGiven, committed_took, saw_took}
 
 -- the second machine's sessions have taken nothing that the first's haven't
 abbrev Adds : Machine → Machine → Type 0
@@ -225,7 +225,7 @@ took_committed_by : (given : Option Timeline) (client : Timeline) (start : Optio
 took_committed_by None client start m session tl took = inl took
 took_committed_by (Some given) client start m session tl took =
     elim (took_client given client start m session tl took) as (λ _. IsTakenIn m session tl ⊎ Has {A = NodeId × Timeline} ((session_in m, given) ∷ []) (session, tl)) [
-      inl old ↦ inl old
+      | inl old ↦ inl old
       | inr new ↦ inr (inl (paired (session_in m) session given tl new.0 new.1))
     ]
 
@@ -348,6 +348,6 @@ brought_by m e session tl took =
     let given = brought.committed_by e m in
     elim (took_settled a session tl (took_within (known (settled a).sessions) (known (step_of m e).sessions) (in_step m e) session tl took))
     as (λ _. IsTakenIn m session tl ⊎ (Has (given ++ founded_by a) (session, tl) ⊎ Brings e session tl)) [
-      inl old ↦ made_now given (founded_by a) (IsTakenIn m session tl) (Brings e session tl) (session, tl) (comes m e session tl old)
+      | inl old ↦ made_now given (founded_by a) (IsTakenIn m session tl) (Brings e session tl) (session, tl) (comes m e session tl old)
       | inr new ↦ inr (inl (has_right given (founded_by a) (session, tl) new))
     ]

@@ -1,4 +1,4 @@
-pub mod Cases
+pub mod Lists
 pub mod MomentLemmas
 pub mod RunLemmas
 pub mod TakenLemmas

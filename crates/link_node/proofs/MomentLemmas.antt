@@ -1,5 +1,5 @@
 -- What no rule touches: the config, the moment and the counts of commits.
-use Rattle.std.proofs.Common.{◌≡◌, ℕ, ℤ, ◌+◌, Bool, true, false, List, [], ◌∷◌, ◌++◌, Option, Some, None, Result, Ok, Err, refl, sym, ap, ◌∙◌}
+use Rattle.std.proofs.Common.{◌≡◌, ℤ, ◌+◌, Bool, false, List, [], ◌∷◌, Option, Some, None, Result, Ok, Err, refl, ◌∙◌}
 use Rattle.std.specs.Prelude.{int_lt, if◌then◌else◌, is_some}
 use Rattle.lk_base.specs.IdOrder.{same_id}
 use Rattle.lk_base.specs.declared.endpoint.Endpoint.{Endpoint}
@@ -34,7 +34,6 @@ use Rattle.link_node.specs.Arrival.{arrived, is_heard}
 use Rattle.link_node.specs.Broadcast.{broadcast_after, is_broadcast}
 use Rattle.link_node.specs.Client.{renewed}
 use Rattle.link_node.specs.Commits.{start_committed, with_client_start, client_taken, committed_by, timeline_committed, commit_taken, app_taken, audio_taken}
-use Rattle.link_node.specs.Config.{ConfigValue}
 use Rattle.link_node.specs.Event.{EventValue, Rx, Tick, App, Audio, End, moment_of, app_after, audio_after}
 use Rattle.link_node.specs.Machine.{Machine, session_in, timeline_in, offset_in}
 use Rattle.link_node.specs.Measuring.{remeasured_later, chosen, measured, unmeasured, judged, pong_by, pong_heard, tick_by, measurement_ticked}
@@ -44,7 +43,7 @@ use Rattle.link_node.specs.Step.{at_moment, taken, before_broadcast, broadcast_b
 use Rattle.link_node.specs.Taking.{followed, timeline_taken, with_start, start_taken, sighted, listened, state_taken, is_current}
 use Rattle.link_node.specs.Tick.{waiting_with, pruned, idle_forgotten, remeasure_queued, is_remeasured, begun_at, begun_one, begun_from, begun, cleared, ticked}
 use Rattle.link_node.specs.declared.node.settling.Held.{Held}
-use Rattle.link_node.proofs.Cases.{by_test}
+use Rattle.link_node.proofs.Lists.{by_test}
 
 pub record Keeps (m n : Machine) : Type 0 where
   pub config : n.config ≡ m.config

@@ -1,5 +1,5 @@
 -- Which timelines the sessions of a history have taken, call by call.
-use Rattle.std.proofs.Common.{◌≡◌, ◌⊎◌, inl, inr, ℤ, Bool, true, false, List, [], ◌∷◌, ◌++◌, length, filter, Option, Some, None, refl, sym, ap, ◌∙◌, subst}
+use Rattle.std.proofs.Common.{◌≡◌, ◌⊎◌, inl, inr, ℤ, Bool, List, [], ◌∷◌, ◌++◌, length, filter, Option, Some, None, refl, sym, ap, ◌∙◌, subst}
 use Rattle.std.specs.Prelude.{cond, nat_lt, if◌then◌else◌}
 use Rattle.lk_base.specs.IdOrder.{same_id}
 use Rattle.lk_base.specs.declared.ids.NodeId.{NodeId}
@@ -8,7 +8,7 @@ use Rattle.peer_gateway.specs.Happenings.{Has}
 use Rattle.session_choice.specs.History.{Taking, History, session_of, with_taken, begun, is_current, other_in, taken_by, saw_after, joined, measured_by, measured_after, forgotten, committed}
 use Rattle.session_choice.specs.Keyed.{found_by, updated_by, without_by}
 use Rattle.session_choice.specs.Winning.{wins_over}
-use Rattle.link_node.proofs.Cases.{by_test, id_from_test, has_parts, has_left}
+use Rattle.link_node.proofs.Lists.{by_test, id_from_test, has_parts}
 
 abbrev pub known : History → List Taking
 known h = h.current ∷ h.others
@@ -64,11 +64,11 @@ updated_has id change (r ∷ rows) row has =
     (λ b. same_id r.session id ≡ b → Has (if b then change r ∷ rows else r ∷ updated_by session_of id change rows) row → Has (r ∷ rows) row ⊎ Changed id change (r ∷ rows) row)
     (same_id r.session id)
     (λ _ is more. elim more as (λ _. Has (r ∷ rows) row ⊎ Changed id change (r ∷ rows) row) [
-      inl e ↦ inr (record { old = r; there = inl refl; of_id = id_from_test r.session id is; new = e })
+      | inl e ↦ inr (record { old = r; there = inl refl; of_id = id_from_test r.session id is; new = e })
       | inr h ↦ inl (inr h)
     ])
     (λ _ is more. elim more as (λ _. Has (r ∷ rows) row ⊎ Changed id change (r ∷ rows) row) [
-      inl e ↦ inl (inl e)
+      | inl e ↦ inl (inl e)
       | inr h ↦ later id change r rows row (updated_has id change rows row h)
     ])
     refl has
@@ -110,7 +110,7 @@ IsGiven session tl other given = (session ≡ other) × (tl ≡ given)
 last_of_more : (first : Timeline) (later : List Timeline) (seen tl : Timeline) → Has (first ∷ (later ++ seen ∷ [])) tl → Has (first ∷ later) tl ⊎ (seen ≡ tl)
 last_of_more first later seen tl has =
     elim (has_parts (first ∷ later) (seen ∷ []) tl has) as (λ _. Has (first ∷ later) tl ⊎ (seen ≡ tl)) [
-      inl h ↦ inl h
+      | inl h ↦ inl h
       | inr one ↦ elim one as (λ _. Has (first ∷ later) tl ⊎ (seen ≡ tl)) [ inl e ↦ inr e | inr none ↦ absurd none ]
     ]
 
@@ -119,7 +119,7 @@ more_took : (takings : List Taking) (old : Taking) (seen : Timeline) → Has tak
     → old.session ≡ session → Has (old.first ∷ (old.later ++ seen ∷ [])) tl → Took takings session tl ⊎ IsGiven old.session seen session tl
 more_took takings old seen there session tl is has =
     elim (last_of_more old.first old.later seen tl has) as (λ _. Took takings session tl ⊎ IsGiven old.session seen session tl) [
-      inl h ↦ inl (old, there, is, h)
+      | inl h ↦ inl (old, there, is, h)
       | inr e ↦ inr (is, e)
     ]
 
@@ -137,8 +137,8 @@ others_took : (h : History) (told : NodeId) (seen : Timeline) (session : NodeId)
 others_took h told seen session tl taking (inl there) is has = inl (taking, inr there, is, has)
 others_took h told seen session tl taking (inr c) is has =
     elim (more_took (known h) c.old seen (inr c.there) session tl (ap (λ (t : Taking). t.session) c.new ∙ is)
-      (subst (λ (t : Taking). Has (t.first ∷ t.later) tl) (sym c.new) has)) as (λ _. Took (known h) session tl ⊎ IsGiven told seen session tl) [
-      inl took ↦ inl took
+    (subst (λ (t : Taking). Has (t.first ∷ t.later) tl) (sym c.new) has)) as (λ _. Took (known h) session tl ⊎ IsGiven told seen session tl) [
+      | inl took ↦ inl took
       | inr given ↦ inr (sym c.of_id ∙ given.0, given.1)
     ]
 
@@ -148,7 +148,7 @@ new_took : (h : History) (told : NodeId) (seen : Timeline) (session : NodeId) (t
 new_took h told seen session tl taking (inl there) is has = inl (taking, inr there, is, has)
 new_took h told seen session tl taking (inr (inl e)) is has =
     elim (subst (λ (t : Taking). Has (t.first ∷ t.later) tl) (sym e) has) as (λ _. Took (known h) session tl ⊎ IsGiven told seen session tl) [
-      inl one ↦ inr (ap (λ (t : Taking). t.session) e ∙ is, one)
+      | inl one ↦ inr (ap (λ (t : Taking). t.session) e ∙ is, one)
       | inr none ↦ absurd none
     ]
 new_took h told seen session tl taking (inr (inr none)) is has = absurd none
@@ -168,7 +168,7 @@ taken_by_took None h told seen session tl =
     (λ b. Took (known (if b then record h { others = h.others ++ begun told seen ∷ [] } else h)) session tl → Took (known h) session tl ⊎ IsGiven told seen session tl)
     (nat_lt (length h.others) 64)
     (λ _ took. elim took.1 as (λ _. Took (known h) session tl ⊎ IsGiven told seen session tl) [
-      inl e ↦ inl (took.0, inl e, took.2, took.3)
+      | inl e ↦ inl (took.0, inl e, took.2, took.3)
       | inr there ↦ new_took h told seen session tl took.0 (has_parts h.others (begun told seen ∷ []) took.0 there) took.2 took.3
     ])
     (λ _ took. inl took)
@@ -183,7 +183,7 @@ saw_took h told seen session tl =
     → Took (known h) session tl ⊎ IsGiven told seen session tl)
     (same_id h.current.session told)
     (λ _ is took. elim (committed_took h seen session tl took) as (λ _. Took (known h) session tl ⊎ IsGiven told seen session tl) [
-      inl old ↦ inl old
+      | inl old ↦ inl old
       | inr given ↦ inr (sym (id_from_test h.current.session told is) ∙ given.0, given.1)
     ])
     (λ _ is took. taken_by_took (other_in told h) h told seen session tl took)

@@ -1,4 +1,4 @@
-use Rattle.std.proofs.Common.{◌≡◌, ℕ, ◌≤◌, sym, subst, arith}
+use Rattle.std.proofs.Common.{ℕ, ◌≤◌, sym, subst, arith}
 use Rattle.link_node.specs.Event.{EventValue, Rx, Tick, App, Audio, End, FitsKind, audio_after}
 use Rattle.link_node.proofs.MomentLemmas.{leads_step}
 use Rattle.link_node.proofs.laws.commits_are_counted.Goals as goal
