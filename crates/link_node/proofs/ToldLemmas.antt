@@ -50,11 +50,12 @@ module _ (m : Machine) (e : EventValue) where
   unfolding ping_to
   told_ping target ping = (written.Ping ping, refl, tt)
 
-  told_pongs : (gate : Gate) (to : Endpoint) (payload : List ℕ) (at : Machine) → AllByRecursion (IsToldIn m e) (pongs_to gate to payload at)
+  told_pongs : (gate : Gate) (to : Endpoint) (payload : List ℕ) → AllByRecursion (IsToldIn m e) (pongs_to gate to payload (at_moment (moment_of e) m))
   unfolding pongs_to
-  told_pongs gate to payload at =
+  told_pongs gate to payload =
+      let at = at_moment (moment_of e) m in
       let pong : Written = written.Pong (session_in at) (ghost_of (offset_in at) at.moment) payload in
-      all_either (IsToldIn m e) (nat_lt 32 (length payload)) [] (record { gate = gate; to = to; bytes = spelled_of pong } ∷ []) tt ((pong, refl, tt), tt)
+      all_either (IsToldIn m e) (nat_lt 32 (length payload)) [] (record { gate = gate; to = to; bytes = spelled_of pong } ∷ []) tt ((pong, refl, (refl, refl)), tt)
 
   told_outcome : (outcome : Outcome) (target : Target) → AllByRecursion (IsToldIn m e) (pings_of outcome target)
   told_outcome Idle target = tt
@@ -94,9 +95,11 @@ module _ (m : Machine) (e : EventValue) where
       all_append (IsToldIn m e) (pings_after_tick (cleared at)) (pings_begun next)
       (told_by_tick (cleared at).measuring (cleared at).moment) (told_from next.waiting next)
 
-  told_byes : (at : Machine) → AllByRecursion (IsToldIn m e) (byes_in at)
+  told_byes : AllByRecursion (IsToldIn m e) (byes_in (at_moment (moment_of e) m))
   unfolding byes_in
-  told_byes at = all_sent (IsToldIn m e) (bye_of at) (λ gate to setup. (written.Bye at.id 0 0, refl, tt)) 0 at.config.gates
+  told_byes =
+      let at = at_moment (moment_of e) m in
+      all_sent (IsToldIn m e) (bye_of at) (λ gate to setup. (written.Bye at.id 0 0, refl, refl)) 0 at.config.gates
 
   -- ---- a response tells the state before the event
 
@@ -104,7 +107,7 @@ module _ (m : Machine) (e : EventValue) where
   unfolding response_to
   told_response gate to =
       let at = at_moment (moment_of e) m in
-      (written.Response (sent at.id 0 (fields_in (local_of gate at) at)), refl, (refl, refl))
+      (written.Response (sent at.id 0 (fields_in (local_of gate at) at)), refl, record { from = refl; group = refl; session = refl; timeline = refl; start = refl })
 
   told_answers_to : (gate : Gate) (from : Endpoint) (reading : Result MessageValue WireFault)
       → AllByRecursion (IsToldIn m e) (answers_to gate from reading (at_moment (moment_of e) m))
@@ -113,7 +116,7 @@ module _ (m : Machine) (e : EventValue) where
       all_either (IsToldIn m e) (is_heard msg.from msg.group at) (response_to gate from at ∷ []) [] (told_response gate from, tt) tt
   told_answers_to gate from (Ok (message.Response msg)) = tt
   told_answers_to gate from (Ok (message.Bye id ttl group)) = tt
-  told_answers_to gate from (Ok (message.Ping payload)) = told_pongs gate from payload (at_moment (moment_of e) m)
+  told_answers_to gate from (Ok (message.Ping payload)) = told_pongs gate from payload
   told_answers_to gate from (Ok (message.Pong pong)) = told_after_pong gate from pong (at_moment (moment_of e) m)
   told_answers_to gate from (Ok (message.OtherDiscovery kind)) = tt
   told_answers_to gate from (Ok (message.OtherLink kind)) = tt
@@ -126,14 +129,14 @@ module _ (m : Machine) (e : EventValue) where
   told_alives =
       let after = before_broadcast e m in
       all_either (IsToldIn m e) (is_broadcast after) (alives_in after) []
-      (all_sent (IsToldIn m e) (alive_of after) (λ gate to setup. (written.Alive (sent after.id 0 (fields_in (Some setup.local) after)), refl, (refl, refl))) 0 after.config.gates) tt
+      (all_sent (IsToldIn m e) (alive_of after) (λ gate to setup. (written.Alive (sent after.id 0 (fields_in (Some setup.local) after)), refl, record { from = refl; group = refl; session = refl; timeline = refl; start = refl })) 0 after.config.gates) tt
 
 told_answers : (m : Machine) (e : EventValue) → AllByRecursion (IsToldIn m e) (answers e (at_moment (moment_of e) m))
 told_answers m (Rx gate from bytes now) = told_answers_to m (Rx gate from bytes now) gate from (reading_of bytes)
 told_answers m (Tick now) = told_tick m (Tick now) (at_moment now m)
 told_answers m (App commit now) = tt
 told_answers m (Audio number commit now) = tt
-told_answers m (End now) = told_byes m (End now) (at_moment now m)
+told_answers m (End now) = told_byes m (End now)
 
 told_after : (m : Machine) (e : EventValue) → AllByRecursion (IsToldIn m e) (alives_by e (before_broadcast e m))
 told_after m (Rx gate from bytes now) = tt
