@@ -4,3 +4,4 @@ pub mod RunLemmas
 pub mod TakenLemmas
 pub mod BroughtLemmas
 pub mod ToldLemmas
+pub mod StayingLemmas

@@ -50,9 +50,15 @@ pub record Keeps (m n : Machine) : Type 0 where
   pub moment : n.moment ≡ m.moment
   pub app : n.app ≡ m.app
   pub audio : n.audio ≡ m.audio
+  pub id : n.id ≡ m.id
+  pub drawn : n.drawn ≡ m.drawn
+  pub peers : n.peers ≡ m.peers
+  pub last_broadcast : n.last_broadcast ≡ m.last_broadcast
+  pub changed : n.changed ≡ m.changed
+  pub published : n.published ≡ m.published
 
 pub same : (m : Machine) → Keeps m m
-same m = record { config = refl; moment = refl; app = refl; audio = refl }
+same m = record { config = refl; moment = refl; app = refl; audio = refl; id = refl; drawn = refl; peers = refl; last_broadcast = refl; changed = refl; published = refl }
 
 -- the first of two, and then the other
 pub both : (m n o : Machine) → Keeps m n → Keeps n o → Keeps m o
@@ -61,6 +67,12 @@ both m n o first second = record {
   moment = second.moment ∙ first.moment;
   app = second.app ∙ first.app;
   audio = second.audio ∙ first.audio;
+  id = second.id ∙ first.id;
+  drawn = second.drawn ∙ first.drawn;
+  peers = second.peers ∙ first.peers;
+  last_broadcast = second.last_broadcast ∙ first.last_broadcast;
+  changed = second.changed ∙ first.changed;
+  published = second.published ∙ first.published;
 }
 
 module _ (m : Machine) where
@@ -69,12 +81,12 @@ module _ (m : Machine) where
 
 pub after_renewed : (m : Machine) → Keeps m (renewed m)
 unfolding renewed
-after_renewed m = record { config = refl; moment = refl; app = refl; audio = refl }
+after_renewed m = record { config = refl; moment = refl; app = refl; audio = refl; id = refl; drawn = refl; peers = refl; last_broadcast = refl; changed = refl; published = refl }
 
 -- ---- a message
 
 after_followed : (answer : Saw) (session : NodeId) (m : Machine) → Keeps m (followed answer session m)
-after_followed saw.New session m = record { config = refl; moment = refl; app = refl; audio = refl }
+after_followed saw.New session m = record { config = refl; moment = refl; app = refl; audio = refl; id = refl; drawn = refl; peers = refl; last_broadcast = refl; changed = refl; published = refl }
 after_followed saw.Taken session m = either m (is_current session m) (renewed m) m (after_renewed m) (same m)
 after_followed saw.Kept session m = same m
 after_followed saw.Full session m = same m
@@ -84,12 +96,12 @@ unfolding timeline_taken
 after_timeline fields m =
     let next = record m { sessions = saw_after m.sessions fields.session (tidy_of fields.timeline) } in
     let kept = after_followed (saw_of m.sessions fields.session (tidy_of fields.timeline)) fields.session next in
-    record { config = kept.config; moment = kept.moment; app = kept.app; audio = kept.audio }
+    record { config = kept.config; moment = kept.moment; app = kept.app; audio = kept.audio; id = kept.id; drawn = kept.drawn; peers = kept.peers; last_broadcast = kept.last_broadcast; changed = kept.changed; published = kept.published }
 
 after_start : (fields : PeerFields) (m : Machine) → Keeps m (start_taken fields m)
 unfolding start_taken
 after_start fields m =
-    either m (is_current fields.session m) (with_start fields.start m) m (record { config = refl; moment = refl; app = refl; audio = refl }) (same m)
+    either m (is_current fields.session m) (with_start fields.start m) m (record { config = refl; moment = refl; app = refl; audio = refl; id = refl; drawn = refl; peers = refl; last_broadcast = refl; changed = refl; published = refl }) (same m)
 
 after_fields : (fields : PeerFields) (m : Machine) → Keeps m (start_taken fields (timeline_taken fields m))
 after_fields fields m =
@@ -104,14 +116,14 @@ after_state : (gate : Gate) (msg : StateMsg) (m : Machine) → Keeps m (state_ta
 unfolding state_taken sighted
 after_state gate msg m =
     let kept = after_listened (seen_of gate msg.from m.life) msg.fields (sighted gate msg m) in
-    record { config = kept.config; moment = kept.moment; app = kept.app; audio = kept.audio }
+    record { config = kept.config; moment = kept.moment; app = kept.app; audio = kept.audio; id = kept.id; drawn = kept.drawn; peers = kept.peers; last_broadcast = kept.last_broadcast; changed = kept.changed; published = kept.published }
 
 -- ---- measurements
 
 after_chosen : (verdict : Verdict) (m : Machine) → Keeps m (chosen verdict m)
 unfolding renewed
-after_chosen Joined m = record { config = refl; moment = refl; app = refl; audio = refl }
-after_chosen Remeasured m = record { config = refl; moment = refl; app = refl; audio = refl }
+after_chosen Joined m = record { config = refl; moment = refl; app = refl; audio = refl; id = refl; drawn = refl; peers = refl; last_broadcast = refl; changed = refl; published = refl }
+after_chosen Remeasured m = record { config = refl; moment = refl; app = refl; audio = refl; id = refl; drawn = refl; peers = refl; last_broadcast = refl; changed = refl; published = refl }
 after_chosen Stayed m = same m
 after_chosen Unknown m = same m
 
@@ -120,30 +132,30 @@ unfolding measured
 after_measured session offset m =
     let next = record m { sessions = measured_after m.sessions session offset m.moment } in
     let kept = after_chosen (measured_of m.sessions session offset m.moment) next in
-    record { config = kept.config; moment = kept.moment; app = kept.app; audio = kept.audio }
+    record { config = kept.config; moment = kept.moment; app = kept.app; audio = kept.audio; id = kept.id; drawn = kept.drawn; peers = kept.peers; last_broadcast = kept.last_broadcast; changed = kept.changed; published = kept.published }
 
 after_unmeasured : (session : NodeId) (m : Machine) → Keeps m (unmeasured session m)
 unfolding unmeasured
 after_unmeasured session m =
     either m (same_id session (session_in m)) (remeasured_later m) (record m { sessions = forgotten session m.sessions })
-    (record { config = refl; moment = refl; app = refl; audio = refl }) (record { config = refl; moment = refl; app = refl; audio = refl })
+    (record { config = refl; moment = refl; app = refl; audio = refl; id = refl; drawn = refl; peers = refl; last_broadcast = refl; changed = refl; published = refl }) (record { config = refl; moment = refl; app = refl; audio = refl; id = refl; drawn = refl; peers = refl; last_broadcast = refl; changed = refl; published = refl })
 
 after_judged : (outcome : Outcome) (session : NodeId) (m : Machine) → Keeps m (judged outcome session m)
 after_judged Idle session m = same m
 after_judged (Again ping) session m = same m
 after_judged (Done xform) session m =
     let kept = after_measured session xform.offset (record m { measuring = None }) in
-    record { config = kept.config; moment = kept.moment; app = kept.app; audio = kept.audio }
+    record { config = kept.config; moment = kept.moment; app = kept.app; audio = kept.audio; id = kept.id; drawn = kept.drawn; peers = kept.peers; last_broadcast = kept.last_broadcast; changed = kept.changed; published = kept.published }
 after_judged (Failed fault) session m =
     let kept = after_unmeasured session (record m { measuring = None }) in
-    record { config = kept.config; moment = kept.moment; app = kept.app; audio = kept.audio }
+    record { config = kept.config; moment = kept.moment; app = kept.app; audio = kept.audio; id = kept.id; drawn = kept.drawn; peers = kept.peers; last_broadcast = kept.last_broadcast; changed = kept.changed; published = kept.published }
 
 after_pong_by : (running : Option Life) (gate : Gate) (from : Endpoint) (pong : PongFields) (m : Machine) → Keeps m (pong_by running gate from pong m)
 after_pong_by None gate from pong m = same m
 after_pong_by (Some life) gate from pong m =
     let next = record m { measuring = Some (pong_after life gate from pong m.moment) } in
     let kept = after_judged (pong_outcome life gate from pong m.moment) life.session next in
-    record { config = kept.config; moment = kept.moment; app = kept.app; audio = kept.audio }
+    record { config = kept.config; moment = kept.moment; app = kept.app; audio = kept.audio; id = kept.id; drawn = kept.drawn; peers = kept.peers; last_broadcast = kept.last_broadcast; changed = kept.changed; published = kept.published }
 
 after_pong : (gate : Gate) (from : Endpoint) (pong : PongFields) (m : Machine) → Keeps m (pong_heard gate from pong m)
 unfolding pong_heard
@@ -154,7 +166,7 @@ after_tick_by None m = same m
 after_tick_by (Some life) m =
     let next = record m { measuring = Some (tick_after life m.moment) } in
     let kept = after_judged (tick_outcome life m.moment) life.session next in
-    record { config = kept.config; moment = kept.moment; app = kept.app; audio = kept.audio }
+    record { config = kept.config; moment = kept.moment; app = kept.app; audio = kept.audio; id = kept.id; drawn = kept.drawn; peers = kept.peers; last_broadcast = kept.last_broadcast; changed = kept.changed; published = kept.published }
 
 after_measurement : (m : Machine) → Keeps m (measurement_ticked m)
 unfolding measurement_ticked
@@ -168,7 +180,7 @@ after_arrived gate from (Ok (message.Alive msg)) m =
 after_arrived gate from (Ok (message.Response msg)) m =
     either m (is_heard msg.from msg.group m) (state_taken gate msg m) m (after_state gate msg m) (same m)
 after_arrived gate from (Ok (message.Bye id ttl group)) m =
-    either m (is_heard id group m) (record m { life = said_goodbye gate id m.life }) m (record { config = refl; moment = refl; app = refl; audio = refl }) (same m)
+    either m (is_heard id group m) (record m { life = said_goodbye gate id m.life }) m (record { config = refl; moment = refl; app = refl; audio = refl; id = refl; drawn = refl; peers = refl; last_broadcast = refl; changed = refl; published = refl }) (same m)
 after_arrived gate from (Ok (message.Ping payload)) m = same m
 after_arrived gate from (Ok (message.Pong pong)) m = after_pong gate from pong m
 after_arrived gate from (Ok (message.OtherDiscovery kind)) m = same m
@@ -179,15 +191,15 @@ after_arrived gate from (Err fault) m = same m
 
 after_cleared : (m : Machine) → Keeps m (cleared m)
 unfolding cleared idle_forgotten pruned
-after_cleared m = record { config = refl; moment = refl; app = refl; audio = refl }
+after_cleared m = record { config = refl; moment = refl; app = refl; audio = refl; id = refl; drawn = refl; peers = refl; last_broadcast = refl; changed = refl; published = refl }
 
 after_queued : (m : Machine) → Keeps m (remeasure_queued m)
 unfolding remeasure_queued
 after_queued m =
-    either m (is_remeasured m.remeasure_at m.moment) (record m { remeasure_at = None; waiting = waiting_with (session_in m) m.waiting }) m (record { config = refl; moment = refl; app = refl; audio = refl }) (same m)
+    either m (is_remeasured m.remeasure_at m.moment) (record m { remeasure_at = None; waiting = waiting_with (session_in m) m.waiting }) m (record { config = refl; moment = refl; app = refl; audio = refl; id = refl; drawn = refl; peers = refl; last_broadcast = refl; changed = refl; published = refl }) (same m)
 
 after_begun_at : (target : Option Target) (session : NodeId) (m : Machine) → Keeps m (begun_at target session m)
-after_begun_at (Some target) session m = record { config = refl; moment = refl; app = refl; audio = refl }
+after_begun_at (Some target) session m = record { config = refl; moment = refl; app = refl; audio = refl; id = refl; drawn = refl; peers = refl; last_broadcast = refl; changed = refl; published = refl }
 after_begun_at None session m = after_unmeasured session m
 
 after_begun_one : (session : NodeId) (m : Machine) → Keeps m (begun_one session m)
@@ -200,7 +212,7 @@ after_begun_from [] m = same m
 after_begun_from (session ∷ rest) m =
     let next = begun_one session (record m { waiting = rest }) in
     let one = after_begun_one session (record m { waiting = rest }) in
-    let kept : Keeps m next = record { config = one.config; moment = one.moment; app = one.app; audio = one.audio } in
+    let kept : Keeps m next = record { config = one.config; moment = one.moment; app = one.app; audio = one.audio; id = one.id; drawn = one.drawn; peers = one.peers; last_broadcast = one.last_broadcast; changed = one.changed; published = one.published } in
     either m (is_some m.measuring) m (begun_from rest next) (same m) (both m next (begun_from rest next) kept (after_begun_from rest next))
 
 after_ticked : (m : Machine) → Keeps m (ticked m)
@@ -217,12 +229,12 @@ after_start_committed : (start : Option ClientStart) (m : Machine) → Keeps m (
 unfolding start_committed
 after_start_committed None m = same m
 after_start_committed (Some start) m =
-    either m (int_lt m.client_start.stamp start.stamp) (with_client_start start m) m (record { config = refl; moment = refl; app = refl; audio = refl }) (same m)
+    either m (int_lt m.client_start.stamp start.stamp) (with_client_start start m) m (record { config = refl; moment = refl; app = refl; audio = refl; id = refl; drawn = refl; peers = refl; last_broadcast = refl; changed = refl; published = refl }) (same m)
 
 after_client_taken : (session : Option Timeline) (client : Timeline) (m : Machine) → Keeps m (client_taken session client m)
 unfolding renewed
 after_client_taken None client m = same m
-after_client_taken (Some session) client m = record { config = refl; moment = refl; app = refl; audio = refl }
+after_client_taken (Some session) client m = record { config = refl; moment = refl; app = refl; audio = refl; id = refl; drawn = refl; peers = refl; last_broadcast = refl; changed = refl; published = refl }
 
 after_committed_by : (session : Option Timeline) (client : Timeline) (start : Option ClientStart) (m : Machine) → Keeps m (committed_by session client start m)
 after_committed_by session client start m =
@@ -241,37 +253,57 @@ after_commit commit m = after_timeline_committed commit.timeline commit m
 
 -- ---- the end of every event
 
-after_counted : (m : Machine) → Keeps m (counted m)
+pub record Goes (m n : Machine) : Type 0 where
+  pub config : n.config ≡ m.config
+  pub moment : n.moment ≡ m.moment
+  pub app : n.app ≡ m.app
+  pub audio : n.audio ≡ m.audio
+
+still : (m : Machine) → Goes m m
+still m = record { config = refl; moment = refl; app = refl; audio = refl }
+
+then_both : (m n o : Machine) → Goes m n → Goes n o → Goes m o
+then_both m n o first second = record {
+  config = second.config ∙ first.config;
+  moment = second.moment ∙ first.moment;
+  app = second.app ∙ first.app;
+  audio = second.audio ∙ first.audio;
+}
+
+settles : (m : Machine) (b : Bool) (n o : Machine) → Goes m n → Goes m o → Goes m (if b then n else o)
+settles m b n o first second = by_test (λ t. Goes m (if t then n else o)) b (λ _. first) (λ _. second)
+
+after_counted : (m : Machine) → Goes m (counted m)
 after_counted m = record { config = refl; moment = refl; app = refl; audio = refl }
 
-after_founded : (m : Machine) → Keeps m (founded m)
+after_founded : (m : Machine) → Goes m (founded m)
 unfolding founded renewed
 after_founded m = record { config = refl; moment = refl; app = refl; audio = refl }
 
-after_settled : (m : Machine) → Keeps m (settled m)
+after_settled : (m : Machine) → Goes m (settled m)
 unfolding settled
 after_settled m =
-    either m (is_left m) (founded (counted m)) (counted m)
-    (both m (counted m) (founded (counted m)) (after_counted m) (after_founded (counted m))) (after_counted m)
+    settles m (is_left m) (founded (counted m)) (counted m)
+    (then_both m (counted m) (founded (counted m)) (after_counted m) (after_founded (counted m))) (after_counted m)
 
-after_noted : (before : Held) (m : Machine) → Keeps m (noted before m)
+after_noted : (before : Held) (m : Machine) → Goes m (noted before m)
 unfolding noted
 after_noted before m = record { config = refl; moment = refl; app = refl; audio = refl }
 
-after_broadcast : (m : Machine) → Keeps m (broadcast_after m)
+after_broadcast : (m : Machine) → Goes m (broadcast_after m)
 unfolding broadcast_after
-after_broadcast m = either m (is_broadcast m) (record m { last_broadcast = Some m.moment; changed = false }) m (record { config = refl; moment = refl; app = refl; audio = refl }) (same m)
+after_broadcast m = settles m (is_broadcast m) (record m { last_broadcast = Some m.moment; changed = false }) m (record { config = refl; moment = refl; app = refl; audio = refl }) (still m)
 
-after_broadcast_by : (e : EventValue) (m : Machine) → Keeps m (broadcast_by e m)
+after_broadcast_by : (e : EventValue) (m : Machine) → Goes m (broadcast_by e m)
 after_broadcast_by (Tick now) m = after_broadcast m
-after_broadcast_by (Rx gate from bytes now) m = same m
-after_broadcast_by (App commit now) m = same m
-after_broadcast_by (Audio number commit now) m = same m
-after_broadcast_by (End now) m = same m
+after_broadcast_by (Rx gate from bytes now) m = still m
+after_broadcast_by (App commit now) m = still m
+after_broadcast_by (Audio number commit now) m = still m
+after_broadcast_by (End now) m = still m
 
-after_shown : (m : Machine) → Keeps m (shown m)
+after_shown : (m : Machine) → Goes m (shown m)
 unfolding shown
-after_shown m = either m (alike (state_in m) m.published) m (record m { published = state_in m }) (same m) (record { config = refl; moment = refl; app = refl; audio = refl })
+after_shown m = settles m (alike (state_in m) m.published) m (record m { published = state_in m }) (still m) (record { config = refl; moment = refl; app = refl; audio = refl })
 
 -- ---- the event itself
 
@@ -282,7 +314,34 @@ pub record Leads (e : EventValue) (m n : Machine) : Type 0 where
   pub app : n.app ≡ app_after m.app e
   pub audio : n.audio ≡ audio_after m.audio e
 
-leads_taken : (e : EventValue) (m : Machine) → Leads e m (taken e m)
+-- the rest stays
+pub record Rests (m n : Machine) : Type 0 where
+  pub id : n.id ≡ m.id
+  pub drawn : n.drawn ≡ m.drawn
+  pub peers : n.peers ≡ m.peers
+  pub last_broadcast : n.last_broadcast ≡ m.last_broadcast
+  pub changed : n.changed ≡ m.changed
+  pub published : n.published ≡ m.published
+
+rests_kept : (m n : Machine) → Keeps m n → Rests m n
+rests_kept m n kept =
+    record { id = kept.id; drawn = kept.drawn; peers = kept.peers; last_broadcast = kept.last_broadcast; changed = kept.changed; published = kept.published }
+
+pub rests_taken : (e : EventValue) (m : Machine) → Rests m (taken e m)
+unfolding app_taken audio_taken
+rests_taken (Rx gate from bytes now) m = rests_kept m (arrived gate from (reading_of bytes) m) (after_arrived gate from (reading_of bytes) m)
+rests_taken (Tick now) m = rests_kept m (ticked m) (after_ticked m)
+rests_taken (App commit now) m =
+    let next = record m { app = m.app + 1 } in
+    let rest = rests_kept next (commit_taken commit next) (after_commit commit next) in
+    record { id = rest.id; drawn = rest.drawn; peers = rest.peers; last_broadcast = rest.last_broadcast; changed = rest.changed; published = rest.published }
+rests_taken (Audio number commit now) m =
+    let next = record m { audio = number } in
+    let rest = rests_kept next (commit_taken commit next) (after_commit commit next) in
+    record { id = rest.id; drawn = rest.drawn; peers = rest.peers; last_broadcast = rest.last_broadcast; changed = rest.changed; published = rest.published }
+rests_taken (End now) m = record { id = refl; drawn = refl; peers = refl; last_broadcast = refl; changed = refl; published = refl }
+
+pub leads_taken : (e : EventValue) (m : Machine) → Leads e m (taken e m)
 unfolding app_taken audio_taken
 leads_taken (Rx gate from bytes now) m =
     let kept = after_arrived gate from (reading_of bytes) m in
@@ -298,7 +357,7 @@ leads_taken (Audio number commit now) m =
     record { config = kept.config; moment = kept.moment; app = kept.app; audio = kept.audio }
 leads_taken (End now) m = record { config = refl; moment = refl; app = refl; audio = refl }
 
-leads_on : (e : EventValue) (m n o : Machine) → Leads e m n → Keeps n o → Leads e m o
+leads_on : (e : EventValue) (m n o : Machine) → Leads e m n → Goes n o → Leads e m o
 leads_on e m n o first second = record {
   config = second.config ∙ first.config;
   moment = second.moment ∙ first.moment;
@@ -312,7 +371,7 @@ leads_before_broadcast m e =
     let at = at_moment (moment_of e) m in
     let a = taken e at in
     let b = settled a in
-    leads_on e at a (noted (held_in m) b) (leads_taken e at) (both a b (noted (held_in m) b) (after_settled a) (after_noted (held_in m) b))
+    leads_on e at a (noted (held_in m) b) (leads_taken e at) (then_both a b (noted (held_in m) b) (after_settled a) (after_noted (held_in m) b))
 
 pub leads_step : (m : Machine) (e : EventValue) → Leads e (at_moment (moment_of e) m) (step_of m e)
 unfolding step_of before_shown
@@ -320,4 +379,4 @@ leads_step m e =
     let at = at_moment (moment_of e) m in
     let b = before_broadcast e m in
     let c = broadcast_by e b in
-    leads_on e at b (shown c) (leads_before_broadcast m e) (both b c (shown c) (after_broadcast_by e b) (after_shown c))
+    leads_on e at b (shown c) (leads_before_broadcast m e) (then_both b c (shown c) (after_broadcast_by e b) (after_shown c))

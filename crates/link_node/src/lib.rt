@@ -3,8 +3,8 @@
 //!
 //! In reading order: `config`, `event`, `sends`, `node`, and then a file a rule, in the order in which the rules of an event run:
 //! `node/arrival`, `node/taking`, `node/measuring`, `node/client`, `node/commits`, `node/tick`, `node/settling`,
-//! `node/telling`, `node/broadcast`, `node/publishing`, `node/due`; last `laws` and
-//! `lasting`.
+//! `node/telling`, `node/broadcast`, `node/publishing`, `node/due`; last `laws`, `staying`
+//! and `lasting`.
 #![tactic(auto)]
 
 mod config;
@@ -13,6 +13,7 @@ mod lasting;
 mod laws;
 mod node;
 mod sends;
+mod staying;
 #[cfg(test)]
 mod tests;
 
@@ -28,3 +29,6 @@ pub use laws::{
 };
 pub use node::Node;
 pub use sends::{Sending, Sends};
+pub use staying::{
+    sessions_are_left_for_winners, states_are_published, timelines_stay, who_is_left_founds,
+};

@@ -1,0 +1,53 @@
+//! What a step keeps and what it leads to: laws for what stands above. To call one is to know it.
+
+ghost use Rattle.std.specs.Prelude.{◌≡◌, ◌<◌, ◌⊎◌, ℕ, ℤ, List, false};
+ghost use Rattle.lk_base.specs.declared.ids.NodeId.{NodeId};
+ghost use Rattle.lk_base.specs.declared.timeline.Timeline.{Timeline};
+ghost use Rattle.session_choice.specs.Winning.{Wins};
+ghost use Rattle.link_node.specs.Brought.{IsTakenIn};
+ghost use Rattle.link_node.specs.Event.{EventValue};
+ghost use Rattle.link_node.specs.Machine.{Machine, session_in, offset_in};
+ghost use Rattle.link_node.specs.Publishing.{alike};
+ghost use Rattle.link_node.specs.Runs.{machine_after, published_by};
+ghost use Rattle.link_node.specs.Staying.{IsFounded, IsKnownIn, IsFollowing, last_of};
+ghost use Rattle.link_node.specs.Step.{step_of, change_of};
+ghost use Rattle.link_node.specs.WellFormed.{IsMachine};
+ghost use Rattle.link_node.specs.declared.event.Change.TheVariants.{Same, Published};
+
+use session_choice::{not_both_win, one_best};
+
+/// A node that had peers and has none founds a session, and no other draws an id.
+pub fn who_is_left_founds()
+    ensures founds { (m : Machine) (e : EventValue) → 0 < m.peers → (step_of m e).peers ≡ 0 → IsFounded m (step_of m e) }
+    ensures alone { (m : Machine) (e : EventValue) → m.peers ≡ 0
+        → ((step_of m e).drawn ≡ m.drawn) × ((step_of m e).id ≡ m.id) }
+    ensures among { (m : Machine) (e : EventValue) → 0 < (step_of m e).peers
+        → ((step_of m e).drawn ≡ m.drawn) × ((step_of m e).id ≡ m.id) }
+{}
+
+/// A state is published just where it differs from the one before in more than its moment, and the last one published
+/// is the node's.
+pub fn states_are_published()
+    ensures same { (m : Machine) (e : EventValue) → change_of m e ≡ Same → (step_of m e).published ≡ m.published }
+    ensures new { (m : Machine) (e : EventValue) → change_of m e ≡ Published
+        → alike (step_of m e).published m.published ≡ false }
+    ensures last { (m : Machine) (es : List EventValue)
+        → last_of m.published (published_by m es) ≡ (machine_after m es).published }
+{}
+
+/// Each timeline that a session has taken it keeps, until it is forgotten or the node founds a session.
+pub fn timelines_stay()
+    ensures { (m : Machine) (e : EventValue) (session : NodeId) (tl : Timeline) → IsMachine m
+        → (step_of m e).drawn ≡ m.drawn → IsTakenIn m session tl → IsKnownIn (step_of m e) session
+        → IsTakenIn (step_of m e) session tl }
+{}
+
+/// A node leaves its session for one that wins over it, by the offset that was measured, or for one that it founds.
+pub fn sessions_are_left_for_winners()
+    ensures { (m : Machine) (e : EventValue) → (step_of m e).drawn ≡ m.drawn
+        → (session_in (step_of m e) ≡ session_in m)
+        ⊎ Wins (session_in (step_of m e)) (offset_in (step_of m e)) (session_in m) (offset_in m) (step_of m e).moment }
+{
+    // A law, for the proof: what the test of who wins says.
+    not_both_win();
+}
