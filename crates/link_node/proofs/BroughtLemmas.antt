@@ -48,7 +48,7 @@ use Rattle.link_node.proofs.Lists.{by_test, has_left, has_right}
 use Rattle.link_node.proofs.TakenLemmas.{known, Within, took_within, forgotten_within, filtered_within, measured_within, IsGiven, committed_took, saw_took}
 
 -- the second machine's sessions have taken nothing that the first's haven't
-abbrev Adds : Machine → Machine → Type 0
+abbrev pub Adds : Machine → Machine → Type 0
 Adds m n = Within (known m.sessions) (known n.sessions)
 
 none : (m : Machine) → Adds m m
@@ -92,7 +92,7 @@ in_pong_by None gate from pong m taking has = has
 in_pong_by (Some life) gate from pong m taking has =
     in_judged (pong_outcome life gate from pong m.moment) life.session (record m { measuring = Some (pong_after life gate from pong m.moment) }) taking has
 
-in_pong : (gate : Gate) (from : Endpoint) (pong : PongFields) (m : Machine) → Adds m (pong_heard gate from pong m)
+pub in_pong : (gate : Gate) (from : Endpoint) (pong : PongFields) (m : Machine) → Adds m (pong_heard gate from pong m)
 unfolding pong_heard
 in_pong gate from pong m = in_pong_by m.measuring gate from pong m
 
@@ -133,7 +133,7 @@ in_begun_from (session ∷ rest) m =
     either m (is_some m.measuring) m (begun_from rest next) (none m)
     (onward m next (begun_from rest next) (in_begun_one session (record m { waiting = rest })) (in_begun_from rest next))
 
-in_ticked : (m : Machine) → Adds m (ticked m)
+pub in_ticked : (m : Machine) → Adds m (ticked m)
 unfolding ticked begun
 in_ticked m =
     let a = cleared m in

@@ -5,3 +5,4 @@ pub mod TakenLemmas
 pub mod BroughtLemmas
 pub mod ToldLemmas
 pub mod StayingLemmas
+pub mod KeptLemmas
