@@ -172,7 +172,7 @@ arrived_keeps gate from (Err fault) m session tl distinct took knows = took
 
 -- ---- a commit
 
-start_committed-sessions : (start : Option ClientStart) (m : Machine) → (start_committed start m).sessions ≡ m.sessions
+pub start_committed-sessions : (start : Option ClientStart) (m : Machine) → (start_committed start m).sessions ≡ m.sessions
 unfolding start_committed
 start_committed-sessions None m = refl
 start_committed-sessions (Some start) m =

@@ -6,3 +6,4 @@ pub mod BroughtLemmas
 pub mod ToldLemmas
 pub mod StayingLemmas
 pub mod KeptLemmas
+pub mod LeavingLemmas
