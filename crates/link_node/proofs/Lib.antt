@@ -7,3 +7,4 @@ pub mod ToldLemmas
 pub mod StayingLemmas
 pub mod KeptLemmas
 pub mod LeavingLemmas
+pub mod FollowingLemmas

@@ -1,12 +1,15 @@
 //! What a step keeps and what it leads to: laws for what stands above. To call one is to know it.
 
 ghost use Rattle.std.specs.Prelude.{◌≡◌, ◌<◌, ◌⊎◌, ℕ, ℤ, List, false};
+ghost use Rattle.lk_base.specs.Ranges.{IsMoment};
 ghost use Rattle.lk_base.specs.declared.ids.NodeId.{NodeId};
 ghost use Rattle.lk_base.specs.declared.timeline.Timeline.{Timeline};
 ghost use Rattle.session_choice.specs.Winning.{Wins};
 ghost use Rattle.link_node.specs.Brought.{IsTakenIn};
+ghost use Rattle.link_node.specs.Config.{ConfigValue};
 ghost use Rattle.link_node.specs.Event.{EventValue};
 ghost use Rattle.link_node.specs.Machine.{Machine, session_in, offset_in};
+ghost use Rattle.link_node.specs.Opening.{opened};
 ghost use Rattle.link_node.specs.Publishing.{alike};
 ghost use Rattle.link_node.specs.Runs.{machine_after, published_by};
 ghost use Rattle.link_node.specs.Staying.{IsFounded, IsKnownIn, IsFollowing, last_of};
@@ -50,4 +53,14 @@ pub fn sessions_are_left_for_winners()
 {
     // A law, for the proof: what the test of who wins says.
     not_both_win();
+}
+
+/// A client has its session's tempo, and its time origin is the host time of the session's beat 0: so at the opening,
+/// and after each step.
+pub fn clients_follow_sessions()
+    ensures opening { (config : ConfigValue) (now : ℤ) → IsMoment now → IsFollowing (opened config now) }
+    ensures step { (m : Machine) (e : EventValue) → IsFollowing m → IsFollowing (step_of m e) }
+{
+    // A law, for the proof: a timeline that isn't above the best one leaves it the best.
+    one_best();
 }
