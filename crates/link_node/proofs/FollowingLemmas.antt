@@ -2,7 +2,6 @@
 use Rattle.std.proofs.Common.{◌≡◌, inl, inr, ◌+◌, ℤ, pos, ◌+ℤ◌, ◌-ℤ◌, ◌*ℤ◌, ◌≤ℤ◌, Bool, true, false, List, [], ◌∷◌, ◌++◌, length, Option, Some, None, Result, Ok, Err, refl, sym, ap, ◌∙◌, subst, append_assoc, arith}
 use Rattle.std.specs.Prelude.{int_lt, nat_lt, neg_ℤ, is_some, if◌then◌else◌}
 use Rattle.std.proofs.lemmas.Int.{ints}
-use Rattle.std.specs.Cmp.Lexicographic.{bytes_decides}
 use Rattle.ghost_xform.specs.GhostTime.{host_of}
 use Rattle.lk_base.specs.IdOrder.{same_id}
 use Rattle.lk_base.specs.Ranges.{IsMoment}
@@ -53,7 +52,7 @@ use Rattle.link_node.specs.Step.{at_moment, taken, step_of}
 use Rattle.link_node.specs.Taking as taking_rules
 use Rattle.link_node.specs.Taking.{followed, timeline_taken, with_start, start_taken, sighted, listened, state_taken}
 use Rattle.link_node.specs.Tick.{pruned, idle_forgotten, waiting_with, remeasure_queued, is_remeasured, begun_at, begun_one, begun_from, begun as begun_in, cleared, ticked}
-use Rattle.link_node.proofs.Lists.{by_test, id_from_test, all_append}
+use Rattle.link_node.proofs.Lists.{by_test, id_from_test, test_from_id, all_append}
 use Rattle.link_node.proofs.StayingLemmas.{midst, stands_step}
 
 -- ---- a renewed client follows, whatever it was before
@@ -194,9 +193,6 @@ commit-follows commit m follows = timeline_committed-follows commit.timeline com
 
 -- ---- a message
 
-same_bytes-test : (a b : NodeId) → a ≡ b → same_id a b ≡ true
-same_bytes-test a b e = (bytes_decides a.0 b.0).1 (ap (λ (n : NodeId). n.0) e)
-
 not_above : (held seen : ℤ) → int_lt held seen ≡ false → seen ≤ℤ held
 not_above held seen is = grind (arith, ints)
 
@@ -239,7 +235,7 @@ module _ (there : (first : Timeline) (later : List Timeline) → IsBest (first �
   current-follows session seen m is follows =
       let next = record m { sessions = record m.sessions { current = with_taken seen m.sessions.current } } in
       let same : same_id session m.sessions.current.session ≡ true =
-      same_bytes-test session m.sessions.current.session (sym (id_from_test m.sessions.current.session session is)) in
+      test_from_id session m.sessions.current.session (sym (id_from_test m.sessions.current.session session is)) in
       by_test (λ b. int_lt (best_in m.sessions.current).beat seen.beat ≡ b → IsFollowing (followed (if b then saw.Taken else saw.Kept) session next)) (int_lt (best_in m.sessions.current).beat seen.beat)
       (λ _ _. subst (λ b. IsFollowing (if b then renewed next else next)) (sym same) (renewed-follows next))
       (λ _ low. alike-follows m next (record {

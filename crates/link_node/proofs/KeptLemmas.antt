@@ -60,7 +60,7 @@ unique (r ∷ rows) distinct a b (inr e) (inl f) same =
     absurd (all_has (λ other. other ≡ r.session → ⊥) rows a distinct.0 e (same ∙ sym (ap (λ (t : Taking). t.session) f)))
 unique (r ∷ rows) distinct a b (inr e) (inr f) same = unique rows distinct.1 a b e f same
 
-abbrev Knows : List Taking → NodeId → Type 0
+abbrev pub Knows : List Taking → NodeId → Type 0
 Knows takings session = (taking : Taking) × Has takings taking × (taking.session ≡ session)
 
 left_whole : (more takings : List Taking) → AreDistinct (map session_of more) → Within more takings → (session : NodeId) (tl : Timeline)

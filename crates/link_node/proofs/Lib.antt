@@ -8,3 +8,4 @@ pub mod StayingLemmas
 pub mod KeptLemmas
 pub mod LeavingLemmas
 pub mod FollowingLemmas
+pub mod HearingLemmas

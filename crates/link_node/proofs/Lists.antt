@@ -17,6 +17,9 @@ same_bytes a b e = let id_of : List ℕ → NodeId = λ bytes. record { 0 = byte
 pub id_from_test : (a b : NodeId) → same_id a b ≡ true → a ≡ b
 id_from_test a b e = same_bytes a b ((bytes_decides a.0 b.0).0 e)
 
+pub test_from_id : (a b : NodeId) → a ≡ b → same_id a b ≡ true
+test_from_id a b e = (bytes_decides a.0 b.0).1 (ap (λ (n : NodeId). n.0) e)
+
 -- ---- members
 
 pub has_parts : {A : Type 0} (xs ys : List A) (x : A) → Has (xs ++ ys) x → Has xs x ⊎ Has ys x

@@ -1,10 +1,17 @@
 -- What a step keeps, and what it leads to.
-use Rattle.std.specs.Prelude.{◌≡◌, ◌+◌, neg_ℤ, List, [], ◌∷◌}
+use Rattle.std.specs.Prelude.{◌≡◌, ◌⊎◌, ◌+◌, neg_ℤ, List, [], ◌∷◌, IsTrue, Ok}
 use Rattle.lk_base.specs.declared.ids.NodeId.{NodeId}
+use Rattle.asdp_messages.specs.Datagram as message
+use Rattle.asdp_messages.specs.Reading.{reading_of}
+use Rattle.asdp_messages.specs.declared.message.StateMsg.{StateMsg}
+use Rattle.peer_gateway.specs.Answers.{seen_of}
 use Rattle.peer_gateway.specs.Happenings.{Has}
+use Rattle.peer_gateway.specs.declared.row.Seen.TheVariants as seen
 use Rattle.session_choice.specs.History.{Taking}
 use Rattle.client_state.specs.Timelines.{zero_time_of}
 use Rattle.client_state.specs.declared.state.State.{State}
+use Rattle.link_node.specs.Arrival.{is_heard}
+use Rattle.link_node.specs.Event.{EventValue, Rx, Tick, App, Audio, End}
 use Rattle.link_node.specs.Machine.{Machine, session_in, timeline_in, offset_in}
 use Rattle.link_node.specs.Settling.{id_drawn}
 
@@ -30,3 +37,13 @@ IsKnownIn m session = (taking : Taking) × Has (m.sessions.current ∷ m.session
 pub record IsFollowing (m : Machine) : Type 0 where
   pub tempo : m.client.mpb ≡ (timeline_in m).mpb
   pub time : m.client.time ≡ zero_time_of (timeline_in m) (offset_in m)
+
+-- the event tells the message, which is of another peer and in the group 0, and there is room for that peer's row
+abbrev pub Hears : Machine → EventValue → StateMsg → Type 0
+Hears m (Rx gate from bytes now) msg =
+    ((reading_of bytes ≡ Ok (message.Alive msg)) ⊎ (reading_of bytes ≡ Ok (message.Response msg)))
+    × IsTrue (is_heard msg.from msg.group m) × (seen_of gate msg.from m.life ≡ seen.TableFull → ⊥)
+Hears m (Tick now) msg = ⊥
+Hears m (App commit now) msg = ⊥
+Hears m (Audio number commit now) msg = ⊥
+Hears m (End now) msg = ⊥

@@ -30,5 +30,5 @@ pub use laws::{
 pub use node::Node;
 pub use sends::{Sending, Sends};
 pub use staying::{
-    clients_follow_sessions, sessions_are_left_for_winners, states_are_published, timelines_stay, who_is_left_founds,
+    clients_follow_sessions, heard_timelines_are_taken, sessions_are_left_for_winners, states_are_published, timelines_stay, who_is_left_founds,
 };

@@ -1,9 +1,12 @@
 //! What a step keeps and what it leads to: laws for what stands above. To call one is to know it.
 
-ghost use Rattle.std.specs.Prelude.{◌≡◌, ◌<◌, ◌⊎◌, ℕ, ℤ, List, false};
+ghost use Rattle.std.specs.Prelude.{◌≡◌, ◌<◌, ◌⊎◌, ℤ, List, length, false};
 ghost use Rattle.lk_base.specs.Ranges.{IsMoment};
 ghost use Rattle.lk_base.specs.declared.ids.NodeId.{NodeId};
 ghost use Rattle.lk_base.specs.declared.timeline.Timeline.{Timeline};
+ghost use Rattle.asdp_messages.specs.declared.message.StateMsg.{StateMsg};
+ghost use Rattle.timeline_math.specs.Tidying.{tidy_of};
+ghost use Rattle.peer_gateway.specs.Happenings.{Has};
 ghost use Rattle.session_choice.specs.Winning.{Wins};
 ghost use Rattle.link_node.specs.Brought.{IsTakenIn};
 ghost use Rattle.link_node.specs.Config.{ConfigValue};
@@ -12,7 +15,7 @@ ghost use Rattle.link_node.specs.Machine.{Machine, session_in, offset_in};
 ghost use Rattle.link_node.specs.Opening.{opened};
 ghost use Rattle.link_node.specs.Publishing.{alike};
 ghost use Rattle.link_node.specs.Runs.{machine_after, published_by};
-ghost use Rattle.link_node.specs.Staying.{IsFounded, IsKnownIn, IsFollowing, last_of};
+ghost use Rattle.link_node.specs.Staying.{IsFounded, IsKnownIn, IsFollowing, Hears, last_of};
 ghost use Rattle.link_node.specs.Step.{step_of, change_of};
 ghost use Rattle.link_node.specs.WellFormed.{IsMachine};
 ghost use Rattle.link_node.specs.declared.event.Change.TheVariants.{Same, Published};
@@ -64,3 +67,14 @@ pub fn clients_follow_sessions()
     // A law, for the proof: a timeline that isn't above the best one leaves it the best.
     one_best();
 }
+
+/// Where no session is founded, a timeline that is heard is taken, unless its session is a new one for which there is no
+/// room. A session that becomes known so waits to be measured.
+pub fn heard_timelines_are_taken()
+    ensures known { (m : Machine) (e : EventValue) (msg : StateMsg) → Hears m e msg → (step_of m e).drawn ≡ m.drawn
+        → IsKnownIn m msg.fields.session → IsTakenIn (step_of m e) msg.fields.session (tidy_of msg.fields.timeline) }
+    ensures new { (m : Machine) (e : EventValue) (msg : StateMsg) → Hears m e msg → (step_of m e).drawn ≡ m.drawn
+        → (IsKnownIn m msg.fields.session → ⊥) → length m.sessions.others < 64
+        → IsTakenIn (step_of m e) msg.fields.session (tidy_of msg.fields.timeline)
+        × Has (step_of m e).waiting msg.fields.session }
+{}
