@@ -9,3 +9,4 @@ pub mod KeptLemmas
 pub mod LeavingLemmas
 pub mod FollowingLemmas
 pub mod HearingLemmas
+pub mod NewsLemmas

@@ -19,3 +19,4 @@ pub mod WellFormed
 pub mod Brought
 pub mod Standing
 pub mod Staying
+pub mod News

@@ -3,7 +3,7 @@
 //!
 //! In reading order: `config`, `event`, `sends`, `node`, and then a file a rule, in the order in which the rules of an event run:
 //! `node/arrival`, `node/taking`, `node/measuring`, `node/client`, `node/commits`, `node/tick`, `node/settling`,
-//! `node/telling`, `node/broadcast`, `node/publishing`, `node/due`; last `laws`, `staying`
+//! `node/telling`, `node/broadcast`, `node/publishing`, `node/due`; last `laws`, `news`, `staying`
 //! and `lasting`.
 #![tactic(auto)]
 
@@ -11,6 +11,7 @@ mod config;
 mod event;
 mod lasting;
 mod laws;
+mod news;
 mod node;
 mod sends;
 mod staying;
@@ -27,6 +28,7 @@ pub use laws::{
     best_timelines_are_told, commits_are_counted, commits_send_nothing, moments_never_fall,
     runs_go_on, timelines_are_brought,
 };
+pub use news::{alives_are_answered, broadcasts_reach_all, news_is_noted};
 pub use node::Node;
 pub use sends::{Sending, Sends};
 pub use staying::{
