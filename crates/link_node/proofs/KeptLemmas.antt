@@ -119,7 +119,7 @@ saw_keeps h told seen session tl took =
 
 -- ---- a message
 
-followed-sessions : (answer : Saw) (session : NodeId) (m : Machine) → (followed answer session m).sessions ≡ m.sessions
+pub followed-sessions : (answer : Saw) (session : NodeId) (m : Machine) → (followed answer session m).sessions ≡ m.sessions
 unfolding renewed
 followed-sessions saw.New session m = refl
 followed-sessions saw.Taken session m =

@@ -22,7 +22,7 @@ use Rattle.peer_gateway.specs.declared.row.Seen.TheVariants as seen
 use Rattle.ping_measure.specs.Life.{Life, pong_outcome, pong_after, tick_outcome, tick_after}
 use Rattle.ping_measure.specs.declared.outcome.Outcome.{Outcome}
 use Rattle.ping_measure.specs.declared.outcome.Outcome.TheVariants.{Idle, Again, Done, Failed}
-use Rattle.session_choice.specs.History.{Taking, History, with_taken, begun, is_current, other_in, taken_by, saw_after, joined, measured_of, measured_by, measured_after, forgotten}
+use Rattle.session_choice.specs.History.{Taking, History, with_taken, begun, is_current, other_in, taken_by, saw_of, saw_after, joined, measured_of, measured_by, measured_after, forgotten}
 use Rattle.session_choice.specs.Winning.{wins_over}
 use Rattle.session_choice.specs.declared.verdict.Verdict.{Verdict}
 use Rattle.session_choice.specs.declared.verdict.Verdict.TheVariants.{Joined, Stayed, Remeasured, Unknown}
@@ -40,7 +40,7 @@ use Rattle.link_node.specs.Taking.{timeline_taken, start_taken, sighted, listene
 use Rattle.link_node.specs.Tick.{pruned, idle_forgotten, waiting_with, remeasure_queued, is_remeasured, begun_at, begun_one, begun_from, begun as begun_in, cleared, ticked}
 use Rattle.link_node.proofs.Lists.{by_test}
 use Rattle.link_node.proofs.MomentLemmas.{leads_step}
-use Rattle.link_node.proofs.KeptLemmas.{fields-sessions, start_committed-sessions, sessions_stay}
+use Rattle.link_node.proofs.KeptLemmas.{followed-sessions, fields-sessions, start_committed-sessions, sessions_stay}
 
 -- the session is the same, or it wins by its offset
 abbrev pub LeftFor : History → ℤ → History → Type 0
@@ -249,3 +249,23 @@ pub step-left : (m : Machine) (e : EventValue) → (step_of m e).drawn ≡ m.dra
 step-left m e same =
     subst (λ (k : History). LeftFor m.sessions (step_of m e).moment k) (sym (sessions_stay m e same))
     (subst (λ (now : ℤ). LeftFor m.sessions now (taken e (at_moment (moment_of e) m)).sessions) (sym (leads_step m e).moment) (taken-left e (at_moment (moment_of e) m)))
+
+taken_by-session : (found : Option Taking) (h : History) (told : NodeId) (seen : Timeline) → (taken_by found h told seen).current.session ≡ h.current.session
+taken_by-session (Some other) h told seen = refl
+taken_by-session None h told seen =
+    by_test (λ b. (if b then record h { others = h.others ++ begun told seen ∷ [] } else h).current.session ≡ h.current.session) (nat_lt (length h.others) 64)
+    (λ _. refl) (λ _. refl)
+
+saw-session : (h : History) (told : NodeId) (seen : Timeline) → (saw_after h told seen).current.session ≡ h.current.session
+unfolding saw_after
+saw-session h told seen =
+    by_test (λ b. (if b then record h { current = with_taken seen h.current } else taken_by (other_in told h) h told seen).current.session ≡ h.current.session) (is_current told h)
+    (λ _. refl) (λ _. taken_by-session (other_in told h) h told seen)
+
+-- a message stays in the current session
+pub timeline-session : (fields : PeerFields) (m : Machine) → session_in (timeline_taken fields m) ≡ session_in m
+unfolding timeline_taken
+timeline-session fields m =
+    let next = record m { sessions = saw_after m.sessions fields.session (tidy_of fields.timeline) } in
+    ap (λ (h : History). h.current.session) (followed-sessions (saw_of m.sessions fields.session (tidy_of fields.timeline)) fields.session next)
+    ∙ saw-session m.sessions fields.session (tidy_of fields.timeline)

@@ -10,3 +10,4 @@ pub mod LeavingLemmas
 pub mod FollowingLemmas
 pub mod HearingLemmas
 pub mod NewsLemmas
+pub mod StartingLemmas

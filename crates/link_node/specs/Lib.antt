@@ -20,3 +20,4 @@ pub mod Brought
 pub mod Standing
 pub mod Staying
 pub mod News
+pub mod Starting

@@ -15,6 +15,8 @@ ghost use Rattle.link_node.specs.Machine.{Machine, session_in, offset_in};
 ghost use Rattle.link_node.specs.Opening.{opened};
 ghost use Rattle.link_node.specs.Publishing.{alike};
 ghost use Rattle.link_node.specs.Runs.{machine_after, published_by};
+ghost use Rattle.lk_base.specs.declared.start.SessionStart.{SessionStart};
+ghost use Rattle.link_node.specs.Starting.{BringsStart};
 ghost use Rattle.link_node.specs.Staying.{IsFounded, IsKnownIn, IsFollowing, Hears, last_of};
 ghost use Rattle.link_node.specs.Step.{step_of, change_of};
 ghost use Rattle.link_node.specs.WellFormed.{IsMachine};
@@ -77,4 +79,11 @@ pub fn heard_timelines_are_taken()
         → (IsKnownIn m msg.fields.session → ⊥) → length m.sessions.others < 64
         → IsTakenIn (step_of m e) msg.fields.session (tidy_of msg.fields.timeline)
         × Has (step_of m e).waiting msg.fields.session }
+{}
+
+/// Each start that the current session has taken after a step, it had taken before, or the event is a message that tells
+/// it in that session, or with sync a commit whose start's image it is.
+pub fn starts_are_brought()
+    ensures { (m : Machine) (e : EventValue) (start : SessionStart) → Has (step_of m e).starts start
+        → Has m.starts start ⊎ BringsStart m e start }
 {}
