@@ -1,5 +1,5 @@
 -- That a client goes on with its session's tempo and beats.
-use Rattle.std.proofs.Common.{◌≡◌, inl, inr, ◌+◌, ℤ, pos, ◌+ℤ◌, ◌-ℤ◌, ◌*ℤ◌, ◌≤ℤ◌, Bool, true, false, List, [], ◌∷◌, ◌++◌, length, Option, Some, None, Result, Ok, Err, refl, sym, ap, ◌∙◌, subst, append_assoc, arith}
+use Rattle.std.proofs.Common.{◌≡◌, ◌+◌, ℤ, pos, ◌+ℤ◌, ◌*ℤ◌, ◌≤ℤ◌, Bool, true, false, List, [], ◌∷◌, ◌++◌, length, Option, Some, None, Result, Ok, Err, refl, sym, ap, ◌∙◌, subst, append_assoc, arith}
 use Rattle.std.specs.Prelude.{int_lt, nat_lt, neg_ℤ, is_some, if◌then◌else◌}
 use Rattle.std.proofs.lemmas.Int.{ints}
 use Rattle.ghost_xform.specs.GhostTime.{host_of}
@@ -31,8 +31,7 @@ use Rattle.session_choice.specs.History.{Taking, History, best_in, with_taken, b
 use Rattle.session_choice.specs.Winning.{wins_over}
 use Rattle.session_choice.specs.declared.verdict.Saw.{Saw}
 use Rattle.session_choice.specs.declared.verdict.Saw.TheVariants as saw
-use Rattle.session_choice.specs.declared.verdict.Verdict.{Verdict}
-use Rattle.session_choice.specs.declared.verdict.Verdict.TheVariants.{Joined, Stayed, Remeasured, Unknown}
+use Rattle.session_choice.specs.declared.verdict.Verdict.TheVariants.{Joined, Stayed, Remeasured}
 use Rattle.timeline_math.specs.Beats.{time_at}
 use Rattle.timeline_math.specs.Tidying.{tidy_of}
 use Rattle.client_state.specs.Edits.{timeline_at}

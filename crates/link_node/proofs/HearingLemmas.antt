@@ -1,6 +1,6 @@
 -- That a timeline which is heard is taken.
-use Rattle.std.proofs.Common.{◌≡◌, ◌⊎◌, ◌<◌, inl, inr, ℕ, Bool, true, false, List, [], ◌∷◌, ◌++◌, length, Option, Some, None, Result, Ok, Err, refl, sym, ap, ◌∙◌, subst, arith}
-use Rattle.std.specs.Prelude.{nat_lt, IsTrue, if◌then◌else◌}
+use Rattle.std.proofs.Common.{◌≡◌, ◌⊎◌, ◌<◌, inl, inr, ℕ, true, false, List, [], ◌∷◌, ◌++◌, length, Option, Some, None, Result, Ok, refl, sym, ap, ◌∙◌, subst, arith}
+use Rattle.std.specs.Prelude.{nat_lt, if◌then◌else◌}
 use Rattle.std.proofs.lemmas.Bool.{false≢true}
 use Rattle.std.proofs.lemmas.Bool.Decides.{nat_tests}
 use Rattle.lk_base.specs.IdOrder.{same_id}
@@ -25,11 +25,10 @@ use Rattle.session_choice.specs.declared.verdict.Saw.TheVariants as saw
 use Rattle.timeline_math.specs.Tidying.{tidy_of}
 use Rattle.link_node.specs.Arrival.{arrived, is_heard}
 use Rattle.link_node.specs.Brought.{IsTakenIn}
-use Rattle.link_node.specs.Event.{EventValue, Rx, Tick, App, Audio, End, moment_of}
+use Rattle.link_node.specs.Event.{EventValue, Rx, Tick, App, Audio, End}
 use Rattle.link_node.specs.Machine.{Machine}
-use Rattle.link_node.specs.Settling.{settled, counted}
-use Rattle.link_node.specs.Staying.{IsKnownIn, Hears}
-use Rattle.link_node.specs.Step.{at_moment, taken, step_of}
+use Rattle.link_node.specs.Staying.{Hears}
+use Rattle.link_node.specs.Step.{at_moment, step_of}
 use Rattle.link_node.specs.Taking as taking_rules
 use Rattle.link_node.specs.Taking.{followed, timeline_taken, with_start, start_taken, sighted, listened, state_taken}
 use Rattle.link_node.proofs.Lists.{by_test, id_from_test, test_from_id, has_right}

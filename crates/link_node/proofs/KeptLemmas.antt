@@ -1,6 +1,6 @@
 -- That what a session has taken stays.
-use Rattle.std.proofs.Common.{◌≡◌, ◌⊎◌, inl, inr, ◌+◌, ℤ, Bool, true, false, List, [], ◌∷◌, ◌++◌, length, map, Option, Some, None, Result, Ok, Err, refl, sym, ap, ◌∙◌, subst}
-use Rattle.std.specs.Prelude.{int_lt, nat_lt, is_some, if◌then◌else◌}
+use Rattle.std.proofs.Common.{◌≡◌, ◌⊎◌, inl, inr, ◌+◌, Bool, true, false, List, [], ◌∷◌, ◌++◌, length, map, Option, Some, None, Result, Ok, Err, refl, sym, ap, ◌∙◌, subst}
+use Rattle.std.specs.Prelude.{int_lt, nat_lt, if◌then◌else◌}
 use Rattle.std.specs.List.{AllByRecursion}
 use Rattle.lk_base.specs.IdOrder.{same_id}
 use Rattle.lk_base.specs.declared.endpoint.Endpoint.{Endpoint}
@@ -30,16 +30,15 @@ use Rattle.link_node.specs.Brought.{IsTakenIn}
 use Rattle.link_node.specs.Client.{renewed}
 use Rattle.link_node.specs.Commits.{start_committed, with_client_start, client_taken, committed_by, timeline_committed, commit_taken, app_taken, audio_taken}
 use Rattle.link_node.specs.Event.{EventValue, Rx, Tick, App, Audio, End, moment_of}
-use Rattle.link_node.specs.Machine.{Machine, session_in, timeline_in, offset_in}
+use Rattle.link_node.specs.Machine.{Machine, timeline_in, offset_in}
 use Rattle.link_node.specs.Measuring.{pong_heard}
-use Rattle.link_node.specs.Settling.{settled, counted, is_left}
 use Rattle.link_node.specs.Staying.{IsKnownIn}
 use Rattle.link_node.specs.Step.{at_moment, taken, step_of}
 use Rattle.link_node.specs.Taking as taking_rules
 use Rattle.link_node.specs.Taking.{followed, timeline_taken, with_start, start_taken, sighted, listened, state_taken}
 use Rattle.link_node.specs.Tick.{ticked}
 use Rattle.link_node.specs.WellFormed.{AreDistinct}
-use Rattle.link_node.proofs.Lists.{by_test, has_left, has_right}
+use Rattle.link_node.proofs.Lists.{by_test, has_left}
 use Rattle.link_node.proofs.TakenLemmas.{known, Took, Within}
 use Rattle.link_node.proofs.BroughtLemmas.{in_pong, in_ticked}
 use Rattle.link_node.proofs.StayingLemmas.{midst, stands_step, no_founding, not_left-settled}

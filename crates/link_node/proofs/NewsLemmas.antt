@@ -1,19 +1,16 @@
 -- That what is new is told, to all.
-use Rattle.std.proofs.Common.{◌≡◌, ◌⊎◌, inl, inr, ◌+◌, ◌+ℤ◌, ◌≤ℤ◌, ℕ, zero, suc, ℤ, pos, Bool, true, false, List, [], ◌∷◌, ◌++◌, map, Option, Some, None, Result, Ok, refl, sym, ap, ◌∙◌, subst, arith}
+use Rattle.std.proofs.Common.{◌≡◌, ◌⊎◌, inl, inr, ◌+◌, ◌+ℤ◌, ◌≤ℤ◌, ℕ, zero, suc, ℤ, pos, Bool, true, false, List, [], ◌∷◌, ◌++◌, map, Option, Some, None, Ok, refl, sym, ap, ◌∙◌, subst, arith}
 use Rattle.std.specs.Prelude.{int_le, ◌||◌, ◌&&◌, not, slice_get, if◌then◌else◌}
-use Rattle.std.specs.Int.{int_max}
 use Rattle.std.proofs.lemmas.Int.{ints}
 use Rattle.lk_base.specs.declared.endpoint.Endpoint.{Endpoint}
 use Rattle.lk_base.specs.declared.endpoint.Gate.{Gate}
 use Rattle.asdp_messages.specs.Datagram as message
 use Rattle.asdp_messages.specs.Reading.{reading_of}
-use Rattle.asdp_messages.specs.Spelling.{spelled_of, sent}
-use Rattle.asdp_messages.specs.Spelling as written
+use Rattle.asdp_messages.specs.Spelling.{sent}
 use Rattle.asdp_messages.specs.declared.message.StateMsg.{StateMsg}
 use Rattle.peer_gateway.specs.Happenings.{Has}
 use Rattle.link_node.specs.Arrival.{answers_to, is_heard}
 use Rattle.link_node.specs.Broadcast.{broadcast_after, broadcast_in, is_broadcast, is_due_after}
-use Rattle.link_node.specs.Brought.{TellsOf}
 use Rattle.link_node.specs.Client.{renewed}
 use Rattle.link_node.specs.Config.{GateValue}
 use Rattle.link_node.specs.Event.{EventValue, Rx, Tick, App, Audio, End, SendingValue, moment_of}
@@ -23,7 +20,7 @@ use Rattle.link_node.specs.Machine.{Machine, still}
 use Rattle.link_node.specs.News.{IsResponse, HasAlive, IsDue, IsNoted}
 use Rattle.link_node.specs.Publishing.{shown, alike, state_in}
 use Rattle.link_node.specs.Settling.{held_in, same_held, settled, founded, counted, is_left, noted}
-use Rattle.link_node.specs.Step.{at_moment, answers, alives_by, before_broadcast, broadcast_by, before_shown, step_of, sends_of}
+use Rattle.link_node.specs.Step.{at_moment, before_broadcast, broadcast_by, before_shown, step_of, sends_of}
 use Rattle.link_node.specs.Telling.{response_to, fields_in, local_of, alive_of, alives_in, sent_from}
 use Rattle.link_node.specs.Tick.{pings_of_tick}
 use Rattle.link_node.specs.declared.node.settling.Held.{Held}

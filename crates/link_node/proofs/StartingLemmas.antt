@@ -1,6 +1,6 @@
 -- Where the starts that a node's session has taken come from, rule by rule.
-use Rattle.std.proofs.Common.{◌≡◌, ◌⊎◌, inl, inr, ◌+◌, ℤ, Bool, true, false, List, [], ◌∷◌, ◌++◌, Option, Some, None, Result, Ok, Err, refl, sym, ap, ◌∙◌, subst}
-use Rattle.std.specs.Prelude.{int_lt, ◌&&◌, is_some, if◌then◌else◌}
+use Rattle.std.proofs.Common.{◌≡◌, ◌⊎◌, inl, inr, ◌+◌, ℤ, Bool, true, false, List, [], ◌∷◌, ◌++◌, Option, Some, None, Result, Ok, Err, refl, ◌∙◌, subst}
+use Rattle.std.specs.Prelude.{int_lt, is_some, if◌then◌else◌}
 use Rattle.std.proofs.lemmas.Bool.{and_parts}
 use Rattle.lk_base.specs.IdOrder.{same_id}
 use Rattle.lk_base.specs.declared.endpoint.Endpoint.{Endpoint}
@@ -24,7 +24,7 @@ use Rattle.peer_gateway.specs.declared.row.Seen.TheVariants as seen
 use Rattle.ping_measure.specs.Life.{Life, pong_outcome, pong_after, tick_outcome, tick_after}
 use Rattle.ping_measure.specs.declared.outcome.Outcome.{Outcome}
 use Rattle.ping_measure.specs.declared.outcome.Outcome.TheVariants.{Idle, Again, Done, Failed}
-use Rattle.session_choice.specs.History.{Taking, History, best_in, saw_of, saw_after, measured_of, measured_after, forgotten, committed}
+use Rattle.session_choice.specs.History.{History, best_in, saw_of, saw_after, measured_of, measured_after, forgotten}
 use Rattle.session_choice.specs.declared.verdict.Saw.{Saw}
 use Rattle.session_choice.specs.declared.verdict.Saw.TheVariants as saw
 use Rattle.session_choice.specs.declared.verdict.Verdict.{Verdict}
@@ -36,17 +36,16 @@ use Rattle.client_state.specs.declared.commit.Commit.{Commit}
 use Rattle.link_node.specs.Arrival.{arrived, is_heard}
 use Rattle.link_node.specs.Client.{renewed}
 use Rattle.link_node.specs.Commits.{reaches_session, start_committed, with_client_start, client_taken, committed_by, timeline_committed, commit_taken, app_taken, audio_taken}
-use Rattle.link_node.specs.Event.{EventValue, Rx, Tick, App, Audio, End, moment_of}
-use Rattle.link_node.specs.Machine.{Machine, session_in, timeline_in, offset_in, start_in}
+use Rattle.link_node.specs.Event.{EventValue, Rx, Tick, App, Audio, End}
+use Rattle.link_node.specs.Machine.{Machine, session_in, timeline_in, offset_in}
 use Rattle.link_node.specs.Measuring.{remeasured_later, chosen, measured, unmeasured, judged, pong_by, pong_heard, tick_by, measurement_ticked}
 use Rattle.link_node.specs.Settling.{settled, founded, counted, is_left}
-use Rattle.link_node.specs.Starting.{TellsStart, IsImage, BringsStart}
-use Rattle.link_node.specs.Step.{at_moment, taken, step_of}
+use Rattle.link_node.specs.Starting.{TellsStart, BringsStart}
+use Rattle.link_node.specs.Step.{at_moment, step_of}
 use Rattle.link_node.specs.Taking.{is_current, followed, timeline_taken, with_start, start_taken, sighted, listened, state_taken}
 use Rattle.link_node.specs.Tick.{pruned, idle_forgotten, waiting_with, remeasure_queued, is_remeasured, begun_at, begun_one, begun_from, begun, cleared, ticked}
 use Rattle.link_node.proofs.Lists.{by_test, id_from_test, has_parts}
 use Rattle.link_node.proofs.StayingLemmas.{midst, stands_step}
-use Rattle.link_node.proofs.KeptLemmas.{start_committed-sessions}
 use Rattle.link_node.proofs.LeavingLemmas.{timeline-session}
 
 -- the second has taken no start that the first hasn't

@@ -1,17 +1,16 @@
 -- What the end of an event keeps, whether or not a session is founded.
-use Rattle.std.proofs.Common.{◌≡◌, ◌⊎◌, inl, inr, ◌<◌, ◌+◌, ℕ, ℤ, Bool, true, false, Some, List, [], ◌∷◌, ◌++◌, refl, sym, ap, ◌∙◌, subst, arith}
+use Rattle.std.proofs.Common.{◌≡◌, ◌<◌, ◌+◌, ℕ, Bool, true, false, Some, List, [], ◌∷◌, ◌++◌, refl, sym, ap, ◌∙◌, subst, arith}
 use Rattle.std.specs.Prelude.{◌==◌, ◌&&◌, nat_lt, neg_ℤ, if◌then◌else◌}
-use Rattle.std.proofs.lemmas.Bool.{false≢true}
 use Rattle.std.proofs.lemmas.Bool.Decides.{nat_tests}
 use Rattle.peer_gateway.specs.Answers.{peers_in}
 use Rattle.client_state.specs.declared.state.State.{State}
 use Rattle.link_node.specs.Broadcast.{broadcast_after, is_broadcast}
 use Rattle.link_node.specs.Client.{renewed}
 use Rattle.link_node.specs.Event.{EventValue, Rx, Tick, App, Audio, End, moment_of}
-use Rattle.link_node.specs.Machine.{Machine, session_in, offset_in}
+use Rattle.link_node.specs.Machine.{Machine, session_in}
 use Rattle.link_node.specs.Publishing.{shown, alike, state_in, change_in}
 use Rattle.link_node.specs.Runs.{machine_after, published_by, shown_by}
-use Rattle.link_node.specs.Settling.{held_in, id_drawn, settled, founded, counted, is_left, noted}
+use Rattle.link_node.specs.Settling.{id_drawn, settled, founded, counted, is_left, noted}
 use Rattle.link_node.specs.Staying.{IsFounded, last_of}
 use Rattle.link_node.specs.Step.{at_moment, taken, before_broadcast, broadcast_by, before_shown, step_of, change_of}
 use Rattle.link_node.specs.declared.event.Change.{Change}
@@ -156,8 +155,8 @@ no_founding m e same =
     let a = midst m e in
     by_test (λ b. is_left a ≡ b → is_left a ≡ false) (is_left a)
     (λ _ left. let n : (step_of m e).drawn ≡ m.drawn + 1 =
-      (stands_step m e).drawn ∙ ap (λ o. o.drawn) (is_left-settled a left) ∙ (founded-is a).drawn ∙ ap (λ d. d + 1) (rests_taken e (at_moment (moment_of e) m)).drawn in
-      absurd (omega (arith, n, same)))
+    (stands_step m e).drawn ∙ ap (λ o. o.drawn) (is_left-settled a left) ∙ (founded-is a).drawn ∙ ap (λ d. d + 1) (rests_taken e (at_moment (moment_of e) m)).drawn in
+    absurd (omega (arith, n, same)))
     (λ _ not_left. not_left) refl
 
 -- ---- publishing

@@ -1,5 +1,5 @@
 -- What is sent to whom, and what becomes of news.
-use Rattle.std.specs.Prelude.{◌≡◌, ◌⊎◌, ℕ, ℤ, pos, ◌+ℤ◌, ◌≤ℤ◌, List, [], ◌∷◌, Option, Some, true}
+use Rattle.std.specs.Prelude.{◌≡◌, ◌⊎◌, ℤ, pos, ◌+ℤ◌, ◌≤ℤ◌, List, [], ◌∷◌, Some, true}
 use Rattle.lk_base.specs.declared.endpoint.Endpoint.{Endpoint}
 use Rattle.lk_base.specs.declared.endpoint.Gate.{Gate}
 use Rattle.asdp_messages.specs.Spelling.{Written, spelled_of}
@@ -7,9 +7,9 @@ use Rattle.asdp_messages.specs.Spelling as written
 use Rattle.asdp_messages.specs.declared.message.StateMsg.{StateMsg}
 use Rattle.peer_gateway.specs.Happenings.{Has}
 use Rattle.link_node.specs.Brought.{TellsOf}
-use Rattle.link_node.specs.Event.{EventValue, Tick, SendingValue}
+use Rattle.link_node.specs.Event.{Tick, SendingValue}
 use Rattle.link_node.specs.Machine.{Machine}
-use Rattle.link_node.specs.Step.{before_broadcast, step_of}
+use Rattle.link_node.specs.Step.{before_broadcast}
 use Rattle.link_node.specs.Telling.{local_of}
 
 -- one datagram on the gate to the endpoint, a response that tells the node's state and where it answers pings there

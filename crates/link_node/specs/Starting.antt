@@ -1,5 +1,5 @@
 -- Where starts come from.
-use Rattle.std.specs.Prelude.{◌≡◌, List, [], ◌∷◌, Option, Some, None, Result, Ok, Err, IsTrue}
+use Rattle.std.specs.Prelude.{◌≡◌, Option, Some, Result, Ok, Err, IsTrue}
 use Rattle.lk_base.specs.declared.start.ClientStart.{ClientStart}
 use Rattle.lk_base.specs.declared.ids.NodeId.{NodeId}
 use Rattle.lk_base.specs.declared.start.SessionStart.{SessionStart}
