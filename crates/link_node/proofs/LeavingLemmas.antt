@@ -70,7 +70,7 @@ chosen-sessions Remeasured m = refl
 chosen-sessions Stayed m = refl
 chosen-sessions Unknown m = refl
 
-measured-sessions : (session : NodeId) (offset : ℤ) (m : Machine) → (measured session offset m).sessions ≡ measured_after m.sessions session offset m.moment
+pub measured-sessions : (session : NodeId) (offset : ℤ) (m : Machine) → (measured session offset m).sessions ≡ measured_after m.sessions session offset m.moment
 unfolding measured
 measured-sessions session offset m =
     chosen-sessions (measured_of m.sessions session offset m.moment) (record m { sessions = measured_after m.sessions session offset m.moment })
@@ -80,13 +80,13 @@ pub record Remains (h k : History) : Type 0 where
   pub current : k.current ≡ h.current
   pub offset : k.offset ≡ h.offset
 
-remains : (h : History) → Remains h h
+pub remains : (h : History) → Remains h h
 remains h = record { current = refl; offset = refl }
 
-remains_then : (h k l : History) → Remains h k → Remains k l → Remains h l
+pub remains_then : (h k l : History) → Remains h k → Remains k l → Remains h l
 remains_then h k l first second = record { current = second.current ∙ first.current; offset = second.offset ∙ first.offset }
 
-unmeasured-remains : (session : NodeId) (m : Machine) → Remains m.sessions (unmeasured session m).sessions
+pub unmeasured-remains : (session : NodeId) (m : Machine) → Remains m.sessions (unmeasured session m).sessions
 unfolding unmeasured
 unmeasured-remains session m =
     by_test (λ b. Remains m.sessions (if b then remeasured_later m else record m { sessions = forgotten session m.sessions }).sessions) (same_id session (session_in m))
@@ -135,7 +135,7 @@ measurement-left : (m : Machine) → LeftFor m.sessions m.moment (measurement_ti
 unfolding measurement_ticked
 measurement-left m = tick_by-left m.measuring m
 
-cleared-remains : (m : Machine) → Remains m.sessions (cleared m).sessions
+pub cleared-remains : (m : Machine) → Remains m.sessions (cleared m).sessions
 unfolding cleared idle_forgotten pruned
 cleared-remains m = record { current = refl; offset = refl }
 
@@ -143,7 +143,7 @@ cleared-moment : (m : Machine) → (cleared m).moment ≡ m.moment
 unfolding cleared idle_forgotten pruned
 cleared-moment m = refl
 
-queued-remains : (m : Machine) → Remains m.sessions (remeasure_queued m).sessions
+pub queued-remains : (m : Machine) → Remains m.sessions (remeasure_queued m).sessions
 unfolding remeasure_queued
 queued-remains m =
     by_test
@@ -158,7 +158,7 @@ begun_one-remains : (session : NodeId) (m : Machine) → Remains m.sessions (beg
 unfolding begun_one
 begun_one-remains session m = begun_at-remains (target_of session m.life) session m
 
-begun_from-remains : (waiting : List NodeId) (m : Machine) → Remains m.sessions (begun_from waiting m).sessions
+pub begun_from-remains : (waiting : List NodeId) (m : Machine) → Remains m.sessions (begun_from waiting m).sessions
 unfolding begun_from
 begun_from-remains [] m = remains m.sessions
 begun_from-remains (session ∷ rest) m =

@@ -11,3 +11,4 @@ pub mod FollowingLemmas
 pub mod HearingLemmas
 pub mod NewsLemmas
 pub mod StartingLemmas
+pub mod MeasuredLemmas

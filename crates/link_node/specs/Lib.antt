@@ -21,3 +21,4 @@ pub mod Standing
 pub mod Staying
 pub mod News
 pub mod Starting
+pub mod Measured

@@ -12,6 +12,7 @@ ghost use Rattle.link_node.specs.Brought.{IsTakenIn};
 ghost use Rattle.link_node.specs.Config.{ConfigValue};
 ghost use Rattle.link_node.specs.Event.{EventValue};
 ghost use Rattle.link_node.specs.Machine.{Machine, session_in, offset_in};
+ghost use Rattle.link_node.specs.Measured.{IsMeasured};
 ghost use Rattle.link_node.specs.Opening.{opened};
 ghost use Rattle.link_node.specs.Publishing.{alike};
 ghost use Rattle.link_node.specs.Runs.{machine_after, published_by};
@@ -86,4 +87,12 @@ pub fn heard_timelines_are_taken()
 pub fn starts_are_brought()
     ensures { (m : Machine) (e : EventValue) (start : SessionStart) → Has (step_of m e).starts start
         → Has m.starts start ⊎ BringsStart m e start }
+{}
+
+/// Where no session is founded, the current session and its offset stay, or the event is a pong that ends a measurement
+/// of that session with that offset.
+pub fn offsets_are_measured()
+    ensures { (m : Machine) (e : EventValue) → (step_of m e).drawn ≡ m.drawn
+        → ((session_in (step_of m e) ≡ session_in m) × (offset_in (step_of m e) ≡ offset_in m))
+        ⊎ IsMeasured m e (session_in (step_of m e)) (offset_in (step_of m e)) }
 {}
