@@ -217,7 +217,7 @@ other-follows None session seen m follows =
 
 module _ (there : (first : Timeline) (later : List Timeline) → IsBest (first ∷ later) (best_of first later)) (one : (list : List Timeline) (a b : Timeline) → IsBest list a → IsBest list b → a ≡ b) where
   -- one that isn't above it leaves the best
-  best-kept : (first : Timeline) (later : List Timeline) (seen : Timeline) → seen.beat ≤ℤ (best_of first later).beat → best_of first (later ++ seen ∷ []) ≡ best_of first later
+  pub best-kept : (first : Timeline) (later : List Timeline) (seen : Timeline) → seen.beat ≤ℤ (best_of first later).beat → best_of first (later ++ seen ∷ []) ≡ best_of first later
   best-kept first later seen le =
       let best = there first later in
       let more : IsBest (first ∷ (later ++ seen ∷ [])) (best_of first later) = record {

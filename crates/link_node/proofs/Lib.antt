@@ -12,3 +12,4 @@ pub mod HearingLemmas
 pub mod NewsLemmas
 pub mod StartingLemmas
 pub mod MeasuredLemmas
+pub mod CountingLemmas

@@ -30,9 +30,10 @@ pub record Stands (m n : Machine) : Type 0 where
   pub client : n.client ≡ m.client
   pub waiting : n.waiting ≡ m.waiting
   pub starts : n.starts ≡ m.starts
+  pub client_start : n.client_start ≡ m.client_start
 
 it_stands : (m : Machine) → Stands m m
-it_stands m = record { moment = refl; drawn = refl; id = refl; sessions = refl; life = refl; peers = refl; client = refl; waiting = refl; starts = refl }
+it_stands m = record { moment = refl; drawn = refl; id = refl; sessions = refl; life = refl; peers = refl; client = refl; waiting = refl; starts = refl; client_start = refl }
 
 stands_then : (m n o : Machine) → Stands m n → Stands n o → Stands m o
 stands_then m n o first second = record {
@@ -45,6 +46,7 @@ stands_then m n o first second = record {
   client = second.client ∙ first.client;
   waiting = second.waiting ∙ first.waiting;
   starts = second.starts ∙ first.starts;
+  client_start = second.client_start ∙ first.client_start;
 }
 
 stands_either : (m : Machine) (b : Bool) (n o : Machine) → Stands m n → Stands m o → Stands m (if b then n else o)
@@ -54,7 +56,7 @@ stands_broadcast : (e : EventValue) (m : Machine) → Stands m (broadcast_by e m
 unfolding broadcast_after
 stands_broadcast (Tick now) m =
     stands_either m (is_broadcast m) (record m { last_broadcast = Some m.moment; changed = false }) m
-    (record { moment = refl; drawn = refl; id = refl; sessions = refl; life = refl; peers = refl; client = refl; waiting = refl; starts = refl }) (it_stands m)
+    (record { moment = refl; drawn = refl; id = refl; sessions = refl; life = refl; peers = refl; client = refl; waiting = refl; starts = refl; client_start = refl }) (it_stands m)
 stands_broadcast (Rx gate from bytes now) m = it_stands m
 stands_broadcast (App commit now) m = it_stands m
 stands_broadcast (Audio number commit now) m = it_stands m
@@ -64,7 +66,7 @@ stands_shown : (m : Machine) → Stands m (shown m)
 unfolding shown
 stands_shown m =
     stands_either m (alike (state_in m) m.published) m (record m { published = state_in m }) (it_stands m)
-    (record { moment = refl; drawn = refl; id = refl; sessions = refl; life = refl; peers = refl; client = refl; waiting = refl; starts = refl })
+    (record { moment = refl; drawn = refl; id = refl; sessions = refl; life = refl; peers = refl; client = refl; waiting = refl; starts = refl; client_start = refl })
 
 -- what the event made of the node, before it settles
 abbrev pub midst : Machine → EventValue → Machine
@@ -72,7 +74,7 @@ midst m e = taken e (at_moment (moment_of e) m)
 
 stands_noted : (m : Machine) (e : EventValue) → Stands (settled (midst m e)) (before_broadcast e m)
 unfolding before_broadcast noted
-stands_noted m e = record { moment = refl; drawn = refl; id = refl; sessions = refl; life = refl; peers = refl; client = refl; waiting = refl; starts = refl }
+stands_noted m e = record { moment = refl; drawn = refl; id = refl; sessions = refl; life = refl; peers = refl; client = refl; waiting = refl; starts = refl; client_start = refl }
 
 pub stands_step : (m : Machine) (e : EventValue) → Stands (settled (midst m e)) (step_of m e)
 unfolding step_of before_shown

@@ -1,6 +1,7 @@
 -- What a step keeps, and what it leads to.
-use Rattle.std.specs.Prelude.{◌≡◌, ◌⊎◌, ◌+◌, neg_ℤ, List, [], ◌∷◌, IsTrue, Ok}
+use Rattle.std.specs.Prelude.{◌≡◌, ◌⊎◌, ◌+◌, neg_ℤ, List, [], ◌∷◌, IsTrue, Ok, Option, Some, None}
 use Rattle.lk_base.specs.declared.ids.NodeId.{NodeId}
+use Rattle.lk_base.specs.declared.timeline.Timeline.{Timeline}
 use Rattle.asdp_messages.specs.Datagram as message
 use Rattle.asdp_messages.specs.Reading.{reading_of}
 use Rattle.asdp_messages.specs.declared.message.StateMsg.{StateMsg}
@@ -8,7 +9,8 @@ use Rattle.peer_gateway.specs.Answers.{seen_of}
 use Rattle.peer_gateway.specs.Happenings.{Has}
 use Rattle.peer_gateway.specs.declared.row.Seen.TheVariants as seen
 use Rattle.session_choice.specs.History.{Taking}
-use Rattle.client_state.specs.Timelines.{zero_time_of}
+use Rattle.client_state.specs.Timelines.{session_from_client_of, zero_time_of}
+use Rattle.client_state.specs.declared.commit.Commit.{Commit}
 use Rattle.client_state.specs.declared.state.State.{State}
 use Rattle.link_node.specs.Arrival.{is_heard}
 use Rattle.link_node.specs.Event.{EventValue, Rx, Tick, App, Audio, End}
@@ -47,3 +49,16 @@ Hears m (Tick now) msg = ⊥
 Hears m (App commit now) msg = ⊥
 Hears m (Audio number commit now) msg = ⊥
 Hears m (End now) msg = ⊥
+
+-- the commit that the event is
+abbrev pub commit_in : EventValue → Option Commit
+commit_in (App commit now) = Some commit
+commit_in (Audio number commit now) = Some commit
+commit_in (Rx gate from bytes now) = None
+commit_in (Tick now) = None
+commit_in (End now) = None
+
+-- the commit has a timeline, which has no greater origin to go to
+abbrev pub IsSpent : Machine → Commit → Type 0
+IsSpent m commit =
+    (client : Timeline) × (commit.timeline ≡ Some client) × (session_from_client_of (timeline_in m) client commit.at (offset_in m) ≡ None)

@@ -32,7 +32,7 @@ pub use news::{alives_are_answered, broadcasts_reach_all, news_is_noted};
 pub use node::Node;
 pub use sends::{Sending, Sends};
 pub use staying::{
-    clients_follow_sessions, heard_timelines_are_taken, offsets_are_measured,
+    clients_follow_sessions, commits_count, heard_timelines_are_taken, offsets_are_measured,
     sessions_are_left_for_winners, starts_are_brought, states_are_published, timelines_stay,
     who_is_left_founds,
 };

@@ -1,6 +1,6 @@
 //! What a step keeps and what it leads to: laws for what stands above. To call one is to know it.
 
-ghost use Rattle.std.specs.Prelude.{◌≡◌, ◌<◌, ◌⊎◌, ℤ, List, length, false};
+ghost use Rattle.std.specs.Prelude.{◌≡◌, ◌<◌, ◌<ℤ◌, ◌⊎◌, ℤ, List, Some, length, false};
 ghost use Rattle.lk_base.specs.Ranges.{IsMoment};
 ghost use Rattle.lk_base.specs.declared.ids.NodeId.{NodeId};
 ghost use Rattle.lk_base.specs.declared.timeline.Timeline.{Timeline};
@@ -8,17 +8,19 @@ ghost use Rattle.asdp_messages.specs.declared.message.StateMsg.{StateMsg};
 ghost use Rattle.timeline_math.specs.Tidying.{tidy_of};
 ghost use Rattle.peer_gateway.specs.Happenings.{Has};
 ghost use Rattle.session_choice.specs.Winning.{Wins};
-ghost use Rattle.link_node.specs.Brought.{IsTakenIn};
+ghost use Rattle.link_node.specs.Brought.{IsTakenIn, committed_by};
 ghost use Rattle.link_node.specs.Config.{ConfigValue};
 ghost use Rattle.link_node.specs.Event.{EventValue};
-ghost use Rattle.link_node.specs.Machine.{Machine, session_in, offset_in};
+ghost use Rattle.link_node.specs.Machine.{Machine, session_in, timeline_in, offset_in};
 ghost use Rattle.link_node.specs.Measured.{IsMeasured};
 ghost use Rattle.link_node.specs.Opening.{opened};
 ghost use Rattle.link_node.specs.Publishing.{alike};
 ghost use Rattle.link_node.specs.Runs.{machine_after, published_by};
+ghost use Rattle.client_state.specs.declared.commit.Commit.{Commit};
+ghost use Rattle.lk_base.specs.declared.start.ClientStart.{ClientStart};
 ghost use Rattle.lk_base.specs.declared.start.SessionStart.{SessionStart};
 ghost use Rattle.link_node.specs.Starting.{BringsStart};
-ghost use Rattle.link_node.specs.Staying.{IsFounded, IsKnownIn, IsFollowing, Hears, last_of};
+ghost use Rattle.link_node.specs.Staying.{IsFounded, IsKnownIn, IsFollowing, Hears, IsSpent, commit_in, last_of};
 ghost use Rattle.link_node.specs.Step.{step_of, change_of};
 ghost use Rattle.link_node.specs.WellFormed.{IsMachine};
 ghost use Rattle.link_node.specs.declared.event.Change.TheVariants.{Same, Published};
@@ -96,3 +98,16 @@ pub fn offsets_are_measured()
         → ((session_in (step_of m e) ≡ session_in m) × (offset_in (step_of m e) ≡ offset_in m))
         ⊎ IsMeasured m e (session_in (step_of m e)) (offset_in (step_of m e)) }
 {}
+
+/// Where no session is founded, a timeline that a commit gives is the session's from then on. A commit's start that is
+/// later than the client's becomes the client's, unless the commit's timeline has no greater origin to go to.
+pub fn commits_count()
+    ensures timeline { (m : Machine) (e : EventValue) (session : NodeId) (tl : Timeline) → Has (committed_by e m) (session, tl)
+        → (step_of m e).drawn ≡ m.drawn → (session_in (step_of m e) ≡ session) × (timeline_in (step_of m e) ≡ tl) }
+    ensures start { (m : Machine) (e : EventValue) (commit : Commit) (start : ClientStart) → commit_in e ≡ Some commit
+        → commit.start ≡ Some start → m.client_start.stamp <ℤ start.stamp → (IsSpent m commit → ⊥)
+        → (step_of m e).client_start ≡ start }
+{
+    // A law, for the proof: a timeline of greater beat origin than the best one is the best.
+    one_best();
+}
