@@ -1,6 +1,7 @@
 -- That what is new is told, to all.
-use Rattle.std.proofs.Common.{◌≡◌, ◌⊎◌, inl, inr, ◌+◌, ◌+ℤ◌, ◌≤ℤ◌, ℕ, zero, suc, ℤ, pos, Bool, true, false, List, [], ◌∷◌, ◌++◌, map, Option, Some, None, Ok, refl, sym, ap, ◌∙◌, subst, arith}
+use Rattle.std.proofs.Common.{◌≡◌, ◌≤◌, ◌<◌, length, nat_lt, ◌⊎◌, inl, inr, ◌+◌, ◌+ℤ◌, ◌≤ℤ◌, ℕ, zero, suc, ℤ, pos, Bool, true, false, List, [], ◌∷◌, ◌++◌, map, Option, Some, None, Ok, refl, sym, ap, ◌∙◌, subst, arith}
 use Rattle.std.specs.Prelude.{int_le, ◌||◌, ◌&&◌, not, slice_get, if◌then◌else◌}
+use Rattle.std.proofs.lemmas.Bool.Decides.{nat_tests}
 use Rattle.std.proofs.lemmas.Int.{ints}
 use Rattle.lk_base.specs.declared.endpoint.Endpoint.{Endpoint}
 use Rattle.lk_base.specs.declared.endpoint.Gate.{Gate}
@@ -9,7 +10,7 @@ use Rattle.asdp_messages.specs.Reading.{reading_of}
 use Rattle.asdp_messages.specs.Spelling.{sent}
 use Rattle.asdp_messages.specs.declared.message.StateMsg.{StateMsg}
 use Rattle.peer_gateway.specs.Happenings.{Has}
-use Rattle.link_node.specs.Arrival.{answers_to, is_heard}
+use Rattle.link_node.specs.Arrival.{answers_to, is_heard, pongs_to}
 use Rattle.link_node.specs.Broadcast.{broadcast_after, broadcast_in, is_broadcast, is_due_after}
 use Rattle.link_node.specs.Client.{renewed}
 use Rattle.link_node.specs.Config.{GateValue}
@@ -17,11 +18,11 @@ use Rattle.link_node.specs.Event.{EventValue, Rx, Tick, App, Audio, End, Sending
 use Rattle.session_choice.specs.History.{best_in}
 use Rattle.client_state.specs.Starts.{latest_start_of}
 use Rattle.link_node.specs.Machine.{Machine, still}
-use Rattle.link_node.specs.News.{IsResponse, HasAlive, IsDue, IsNoted}
+use Rattle.link_node.specs.News.{IsResponse, HasAlive, IsDue, IsNoted, pong_of, bye_to}
 use Rattle.link_node.specs.Publishing.{shown, alike, state_in}
 use Rattle.link_node.specs.Settling.{held_in, same_held, settled, founded, counted, is_left, noted}
 use Rattle.link_node.specs.Step.{at_moment, before_broadcast, broadcast_by, before_shown, step_of, sends_of}
-use Rattle.link_node.specs.Telling.{response_to, fields_in, local_of, alive_of, alives_in, sent_from}
+use Rattle.link_node.specs.Telling.{bye_of, byes_in, response_to, fields_in, local_of, alive_of, alives_in, sent_from}
 use Rattle.link_node.specs.Tick.{pings_of_tick}
 use Rattle.link_node.specs.declared.node.settling.Held.{Held}
 use Rattle.link_node.proofs.Lists.{by_test, has_left, has_right}
@@ -192,3 +193,36 @@ new_noted m e differs =
 
 pub old_noted : (m : Machine) (e : EventValue) → m.changed ≡ true → IsNoted (step_of m e)
 old_noted m e is = noted_step m e (changed_before m e ∙ ap (λ b. b || not (same_held (held_in m) (held_in (settled (midst m e))))) is)
+
+-- ---- pings and the end
+
+is_short : (n : ℕ) → n ≤ 32 → nat_lt 32 n ≡ false
+is_short n le = grind (arith, nat_tests)
+
+is_long : (n : ℕ) → 32 < n → nat_lt 32 n ≡ true
+is_long n lt = grind (arith, nat_tests)
+
+pub short_answered : (m : Machine) (gate : Gate) (from : Endpoint) (bytes payload : List ℕ) (now : ℤ) → reading_of bytes ≡ Ok (message.Ping payload) → length payload ≤ 32
+    → sends_of m (Rx gate from bytes now) ≡ pong_of m gate from payload now ∷ []
+unfolding sends_of pongs_to
+short_answered m gate from bytes payload now is le =
+    let at = at_moment now m in
+    unchanged_end (answers_to gate from (reading_of bytes) at) ∙ ap (λ r. answers_to gate from r at) is
+    ∙ ap (λ b. if b then [] else pong_of m gate from payload now ∷ []) (is_short (length payload) le)
+
+pub long_passed : (m : Machine) (gate : Gate) (from : Endpoint) (bytes payload : List ℕ) (now : ℤ) → reading_of bytes ≡ Ok (message.Ping payload) → 32 < length payload
+    → sends_of m (Rx gate from bytes now) ≡ []
+unfolding sends_of pongs_to
+long_passed m gate from bytes payload now is lt =
+    let at = at_moment now m in
+    unchanged_end (answers_to gate from (reading_of bytes) at) ∙ ap (λ r. answers_to gate from r at) is
+    ∙ ap (λ b. if b then [] else pong_of m gate from payload now ∷ []) (is_long (length payload) lt)
+
+pub goodbye_said : (m : Machine) (now : ℤ) (gate : Gate) (setup : GateValue) (to : Endpoint) → slice_get m.config.gates gate.0 ≡ Some setup → Has setup.destinations to
+    → Has (sends_of m (End now)) (bye_to m gate to)
+unfolding sends_of byes_in
+goodbye_said m now gate setup to at has =
+    let there : Has (byes_in (at_moment now m)) (bye_to m gate to) =
+    subst (λ (n : ℕ). Has (byes_in (at_moment now m)) (bye_to m (record { 0 = n }) to)) (let n : 0 + gate.0 ≡ gate.0 = omega arith in n)
+    (sent_has (bye_of (at_moment now m)) 0 gate.0 m.config.gates setup to at has) in
+    has_left (byes_in (at_moment now m)) [] (bye_to m gate to) there

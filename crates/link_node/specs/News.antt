@@ -1,5 +1,7 @@
 -- What is sent to whom, and what becomes of news.
-use Rattle.std.specs.Prelude.{◌≡◌, ◌⊎◌, ℤ, pos, ◌+ℤ◌, ◌≤ℤ◌, List, [], ◌∷◌, Some, true}
+use Rattle.std.specs.Prelude.{◌≡◌, ℕ, ◌⊎◌, ℤ, pos, ◌+ℤ◌, ◌≤ℤ◌, List, [], ◌∷◌, Some, true}
+use Rattle.std.specs.Int.{int_max}
+use Rattle.ghost_xform.specs.GhostTime.{ghost_of}
 use Rattle.lk_base.specs.declared.endpoint.Endpoint.{Endpoint}
 use Rattle.lk_base.specs.declared.endpoint.Gate.{Gate}
 use Rattle.asdp_messages.specs.Spelling.{Written, spelled_of}
@@ -8,7 +10,7 @@ use Rattle.asdp_messages.specs.declared.message.StateMsg.{StateMsg}
 use Rattle.peer_gateway.specs.Happenings.{Has}
 use Rattle.link_node.specs.Brought.{TellsOf}
 use Rattle.link_node.specs.Event.{Tick, SendingValue}
-use Rattle.link_node.specs.Machine.{Machine}
+use Rattle.link_node.specs.Machine.{Machine, session_in, offset_in}
 use Rattle.link_node.specs.Step.{before_broadcast}
 use Rattle.link_node.specs.Telling.{local_of}
 
@@ -37,3 +39,11 @@ IsDue m moment =
 -- it is still to be told, or it was told now
 abbrev pub IsNoted : Machine → Type 0
 IsNoted m = (m.changed ≡ true) ⊎ (m.last_broadcast ≡ Some m.moment)
+
+-- the pong that goes back
+abbrev pub pong_of : Machine → Gate → Endpoint → List ℕ → ℤ → SendingValue
+pong_of m gate to payload now =
+    record { gate = gate; to = to; bytes = spelled_of (written.Pong (session_in m) (ghost_of (offset_in m) (int_max m.moment now)) payload) }
+
+abbrev pub bye_to : Machine → Gate → Endpoint → SendingValue
+bye_to m gate to = record { gate = gate; to = to; bytes = spelled_of (written.Bye m.id 0 0) }

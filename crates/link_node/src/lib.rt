@@ -28,7 +28,9 @@ pub use laws::{
     best_timelines_are_told, commits_are_counted, commits_send_nothing, moments_never_fall,
     runs_go_on, timelines_are_brought,
 };
-pub use news::{alives_are_answered, broadcasts_reach_all, news_is_noted};
+pub use news::{
+    alives_are_answered, broadcasts_reach_all, ends_say_goodbye, news_is_noted, pings_are_answered,
+};
 pub use node::Node;
 pub use sends::{Sending, Sends};
 pub use staying::{
