@@ -1,8 +1,9 @@
 -- Where timelines come from, and what state messages tell.
-use Rattle.std.specs.Prelude.{◌≡◌, ◌⊎◌, List, [], ◌∷◌, ◌++◌, if◌then◌else◌, Option, Some, None, Result, Ok, Err}
+use Rattle.std.specs.Prelude.{◌≡◌, List, [], ◌∷◌, ◌++◌, if◌then◌else◌, Option, Some, None, Result, Ok, Err}
+use Rattle.std.specs.Int.{int_max}
+use Rattle.ghost_xform.specs.GhostTime.{ghost_of}
 use Rattle.lk_base.specs.declared.ids.NodeId.{NodeId}
 use Rattle.lk_base.specs.declared.timeline.Timeline.{Timeline}
-use Rattle.link_payload.specs.declared.fields.PeerFields.{PeerFields}
 use Rattle.asdp_messages.specs.Datagram.{MessageValue}
 use Rattle.asdp_messages.specs.Datagram as message
 use Rattle.asdp_messages.specs.Reading.{reading_of}
@@ -16,7 +17,7 @@ use Rattle.timeline_math.specs.Tidying.{tidy_of}
 use Rattle.client_state.specs.Timelines.{session_from_client_of}
 use Rattle.client_state.specs.declared.commit.Commit.{Commit}
 use Rattle.link_node.specs.Event.{EventValue, Rx, Tick, App, Audio, End, SendingValue, moment_of}
-use Rattle.link_node.specs.Machine.{Machine, session_in, timeline_in, offset_in}
+use Rattle.link_node.specs.Machine.{Machine, session_in, timeline_in, offset_in, start_in}
 use Rattle.link_node.specs.Settling.{id_drawn, founding_timeline_in, is_left}
 use Rattle.link_node.specs.Step.{at_moment, taken, before_broadcast}
 
@@ -71,17 +72,23 @@ Brings (End now) session tl = ⊥
 
 -- ---- told
 
--- the session and the timeline of a node
-abbrev pub TellsOf : Machine → StateMsg → Type 0
-TellsOf m msg = (msg.fields.session ≡ session_in m) × (msg.fields.timeline ≡ timeline_in m)
+-- the state of a node, from it and in the group 0
+pub record TellsOf (m : Machine) (msg : StateMsg) : Type 0 where
+  pub from : msg.from ≡ m.id
+  pub group : msg.group ≡ 0
+  pub session : msg.fields.session ≡ session_in m
+  pub timeline : msg.fields.timeline ≡ timeline_in m
+  pub start : msg.fields.start ≡ start_in m
 
--- a response tells those of before the event, and an alive those of after settling
+-- A response tells the state of before the event, and an alive that of after settling. A bye is the node's own, and a pong
+-- tells the session of before the event and its ghost time at the event's moment.
 abbrev pub TellsBest : Machine → EventValue → Written → Type 0
 TellsBest m e (written.Alive msg) = TellsOf (before_broadcast e m) msg
 TellsBest m e (written.Response msg) = TellsOf m msg
-TellsBest m e (written.Bye id ttl group) = Unit {0}
+TellsBest m e (written.Bye id ttl group) = id ≡ m.id
 TellsBest m e (written.Ping ping) = Unit {0}
-TellsBest m e (written.Pong session ghost_time echo) = Unit {0}
+TellsBest m e (written.Pong session ghost_time echo) =
+    (session ≡ session_in m) × (ghost_time ≡ ghost_of (offset_in m) (int_max m.moment (moment_of e)))
 
 abbrev pub IsToldIn : Machine → EventValue → SendingValue → Type 0
 IsToldIn m e sending = (message : Written) × (sending.bytes ≡ spelled_of message) × TellsBest m e message

@@ -18,3 +18,7 @@ pub mod Runs
 pub mod WellFormed
 pub mod Brought
 pub mod Standing
+pub mod Staying
+pub mod News
+pub mod Starting
+pub mod Measured

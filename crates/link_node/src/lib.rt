@@ -3,16 +3,18 @@
 //!
 //! In reading order: `config`, `event`, `sends`, `node`, and then a file a rule, in the order in which the rules of an event run:
 //! `node/arrival`, `node/taking`, `node/measuring`, `node/client`, `node/commits`, `node/tick`, `node/settling`,
-//! `node/telling`, `node/broadcast`, `node/publishing`, `node/due`; last `laws` and
-//! `lasting`.
+//! `node/telling`, `node/broadcast`, `node/publishing`, `node/due`; last `laws`, `news`, `staying`
+//! and `lasting`.
 #![tactic(auto)]
 
 mod config;
 mod event;
 mod lasting;
 mod laws;
+mod news;
 mod node;
 mod sends;
+mod staying;
 #[cfg(test)]
 mod tests;
 
@@ -26,5 +28,13 @@ pub use laws::{
     best_timelines_are_told, commits_are_counted, commits_send_nothing, moments_never_fall,
     runs_go_on, timelines_are_brought,
 };
+pub use news::{
+    alives_are_answered, broadcasts_reach_all, ends_say_goodbye, news_is_noted, pings_are_answered,
+};
 pub use node::Node;
 pub use sends::{Sending, Sends};
+pub use staying::{
+    clients_follow_sessions, commits_count, heard_timelines_are_taken, offsets_are_measured,
+    sessions_are_left_for_winners, starts_are_brought, states_are_published, timelines_stay,
+    who_is_left_founds,
+};
