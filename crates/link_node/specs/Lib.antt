@@ -18,3 +18,4 @@ pub mod Runs
 pub mod WellFormed
 pub mod Brought
 pub mod Standing
+pub mod Beginning

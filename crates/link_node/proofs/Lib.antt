@@ -1,0 +1,4 @@
+pub mod PartLemmas
+pub mod MeasuringLemmas
+pub mod SessionsLemmas
+pub mod TakingLemmas
