@@ -3,6 +3,8 @@ pub mod SessionsLemmas
 pub mod RuleLemmas
 pub mod TidyLemmas
 pub mod WellFormedLemmas
+pub mod NumberLemmas
+pub mod GateLemmas
 pub mod PartLemmas
 pub mod MeasuringLemmas
 pub mod TakingLemmas

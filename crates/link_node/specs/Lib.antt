@@ -2,6 +2,7 @@ pub mod Config
 pub mod Event
 pub mod Machine
 pub mod Opening
+pub mod Sent
 pub mod Telling
 pub mod Client
 pub mod Taking

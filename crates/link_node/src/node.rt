@@ -22,6 +22,7 @@ mod tick;
 
 use crate::config::{Config, copied};
 use crate::event::{Change, Event};
+use crate::lasting::states_tell_the_counts;
 use crate::sends::Sends;
 use arrayvec::ArrayVec;
 use client_state::State;
@@ -177,6 +178,8 @@ impl Node {
         ensures counts { (m : Machine) → StandsFor self.now m → (result.app ≡ app_of self.now) × (result.audio ≡ audio_of self.now) }
         ensures tidy { IsTidyState result }
     {
+        // A law, for the proof: the state published last tells the counts.
+        states_tell_the_counts();
         self.published
     }
 

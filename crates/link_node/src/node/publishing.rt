@@ -1,11 +1,13 @@
 //! The state that clients are shown.
 
-ghost use Rattle.std.specs.Prelude.{◌≡◌};
-ghost use Rattle.link_node.specs.Publishing.{alike};
+ghost use Rattle.std.specs.Prelude.{◌≡◌, ◌==◌, ◌&&◌};
+ghost use Rattle.client_state.specs.Commit.{same_bool};
+ghost use Rattle.link_node.specs.Publishing.{alike, same_client_start};
 
 use crate::event::Change;
 use crate::node::Node;
 use client_state::State;
+use lk_base::ClientStart;
 
 impl Node {
     ghost use Rattle.std.specs.Prelude.{◌≡◌};
@@ -45,13 +47,24 @@ impl Node {
 }
 
 // Whether two states are the same in all but the moment.
+#[tactic(auto, unfolding(crate::specs::Publishing::alike))]
 fn is_alike(a: &State, b: &State) -> bool
     ensures { result ≡ alike a.now b.now }
 {
-    a.timeline == b.timeline
-        && a.start == b.start
-        && a.sync == b.sync
-        && a.peers == b.peers
-        && a.app == b.app
-        && a.audio == b.audio
+    a.timeline == b.timeline && is_same_start(&a.start, &b.start) && has_same_counts(a, b)
+}
+
+fn is_same_start(a: &ClientStart, b: &ClientStart) -> bool
+    ensures { result ≡ same_client_start a.now b.now }
+{
+    a.playing == b.playing && a.time == b.time && a.stamp == b.stamp
+}
+
+// Whether two states have the same sync, peers and commits.
+fn has_same_counts(a: &State, b: &State) -> bool
+    ensures { result ≡
+        (same_bool a.now.sync b.now.sync
+        && ((a.now.peers == b.now.peers) && ((a.now.app == b.now.app) && (a.now.audio == b.now.audio)))) }
+{
+    a.sync == b.sync && a.peers == b.peers && a.app == b.app && a.audio == b.audio
 }

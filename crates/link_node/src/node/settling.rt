@@ -1,5 +1,8 @@
 //! The end of every event: peers are counted, and who has lost them all founds a session.
 
+ghost use Rattle.std.specs.Prelude.{◌≡◌, ◌||◌, not};
+ghost use Rattle.link_node.specs.Settling.{same_held};
+
 use crate::node::Node;
 use ghost_xform::XForm;
 use lk_base::{NodeId, SessionStart, Timeline};
@@ -83,6 +86,13 @@ impl Node {
     pub(super) fn note(&mut self, before: &Held)
         ensures stands { (m : Machine) → HasParts self.old m → HasParts self.new (noted before.now m) }
     {
-        self.changed = self.changed || self.held() != *before;
+        self.changed = is_changed(self.changed, before, &self.held());
     }
+}
+
+// Whether something had changed, or what is held differs from what was held before.
+fn is_changed(changed: bool, before: &Held, now: &Held) -> bool
+    ensures { result ≡ (changed || not (same_held before.now now.now)) }
+{
+    changed || before != now
 }

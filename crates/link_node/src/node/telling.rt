@@ -1,6 +1,7 @@
 //! What a node tells its peers of itself.
 
-ghost use Rattle.std.specs.Prelude.{◌≤◌, ◌+◌, length};
+ghost use Rattle.std.specs.Prelude.{◌≡◌, ◌≤◌, ◌+◌, ◌++◌, length, map, option_map, slice_get};
+ghost use Rattle.link_node.specs.Sent.{sent_on};
 
 use crate::config::Config;
 use crate::node::Node;
@@ -71,7 +72,9 @@ impl Node {
 }
 
 // The local endpoint of a gate.
-fn local_of(config: &Config, gate: Gate) -> Option<Endpoint> {
+fn local_of(config: &Config, gate: Gate) -> Option<Endpoint>
+    ensures { result ≡ option_map (λ setup. setup.local) (slice_get config.now.gates.items gate.0) }
+{
     match config.gates.get(usize::from(gate.0)) {
         Some(setup) => Some(setup.local),
         None => None,
@@ -81,6 +84,8 @@ fn local_of(config: &Config, gate: Gate) -> Option<Endpoint> {
 // The bytes from a gate to each destination, in order.
 fn send_to_each(gate: Gate, peers: &ArrayVec<Endpoint, 32>, bytes: &Wire, sends: &mut Sends)
     requires { length sends.old + 32 ≤ 160 }
+    ensures sends { sends.new ≡ sends.old ++ map (sent_on gate bytes.now.items) peers.now.items }
+    ensures len { length sends.new ≡ length sends.old + length peers.now.items }
 {
     for to in peers.as_slice() {
         let mut copy = Wire::new();

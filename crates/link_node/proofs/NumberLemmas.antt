@@ -1,0 +1,23 @@
+-- Moments are numbers of 64 bits.
+use Rattle.std.proofs.Common.{arith, ◌≡◌, ◌≤◌, ℕ, ℤ, pos, ◌+ℤ◌, w64, to_z, of_z}
+use Rattle.std.proofs.lemmas.Int.{ints, clamps, to_z-of_z}
+use Rattle.std.specs.Int.{int_max}
+use Rattle.std.specs.Int.RustNames.{FitsSigned}
+use Rattle.lk_base.specs.Ranges.{IsMoment}
+
+pub moment-fits : (z : ℤ) → IsMoment z → FitsSigned w64 z
+moment-fits z inside = grind (arith, ints)
+
+-- what comes back of a moment is it
+pub moment-back : (z : ℤ) → IsMoment z → to_z w64 (of_z w64 z) ≡ z
+moment-back z inside = to_z-of_z w64 z (moment-fits z inside)
+
+pub greater-is : (a b r : ℤ) → IsMoment a → IsMoment b → r ≡ int_max (to_z w64 (of_z w64 a)) (to_z w64 (of_z w64 b)) → r ≡ int_max a b
+greater-is a b r of_a of_b e = simp (moment-back a of_a, moment-back b of_b) at e
+
+pub greater-moment : (a b r : ℤ) → IsMoment a → IsMoment b → r ≡ int_max a b → IsMoment r
+greater-moment a b r of_a of_b e = omega (arith, ints, clamps, of_a, of_b, e)
+
+-- and of one that is a little later
+pub later-back : (z : ℤ) (n : ℕ) → IsMoment z → n ≤ 250_000 → to_z w64 (of_z w64 (to_z w64 (of_z w64 z) +ℤ pos n)) ≡ z +ℤ pos n
+later-back z n inside few = rw (moment-back z inside) (to_z-of_z w64 (z +ℤ pos n) (grind (arith, ints)))
