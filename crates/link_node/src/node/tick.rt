@@ -13,7 +13,7 @@ impl Node {
     ghost use Rattle.link_node.specs.Beginning.{IsNext, left_of};
     ghost use Rattle.link_node.specs.Machine.{Machine, session_in};
     ghost use Rattle.link_node.specs.Standing.{HasParts, gates_of, app_of, audio_of};
-    ghost use Rattle.link_node.specs.Tick.{is_measured, is_needed, is_waiting, waiting_with, pruned, idle_forgotten, remeasure_queued, begun, begun_one, pings_at, pings_begun, ticked, pings_of_tick};
+    ghost use Rattle.link_node.specs.Tick.{is_measured, is_needed, is_remeasured, is_waiting, waiting_with, pruned, idle_forgotten, remeasure_queued, begun, begun_one, pings_at, pings_begun, ticked, pings_of_tick};
     ghost use Rattle.link_node.specs.WellFormed.{AreSessions};
 
     // In this order.
@@ -87,14 +87,20 @@ impl Node {
         ensures app { app_of self.new ≡ app_of self.old }
         ensures audio { audio_of self.new ≡ audio_of self.old }
     {
-        let Some(at) = self.remeasure_at else {
-            return;
-        };
-        if self.moment < at {
-            return;
+        if self.is_remeasured() {
+            self.remeasure_at = None;
+            self.wait_once();
         }
-        self.remeasure_at = None;
-        self.wait_once();
+    }
+
+    // Whether it is time to measure the current session anew.
+    fn is_remeasured(&self) -> bool
+        ensures { (m : Machine) → HasParts self.now m → result ≡ is_remeasured m.remeasure_at m.moment }
+    {
+        match self.remeasure_at {
+            Some(at) => at <= self.moment,
+            None => false,
+        }
     }
 
     // The current session waits, after all others, unless it does already.

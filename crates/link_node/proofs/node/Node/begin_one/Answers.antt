@@ -9,8 +9,10 @@ use Rattle.link_node.proofs.node.Node.begin_one.Goals as goal
 
 pub returns-in-Some-clause-stands : goal.returns-in-Some-clause-stands
 unfolding begun_one
-returns-in-Some-clause-stands c m stands = let h = c.in-Some in
-    rw (sym (c.target.ensures m.life stands.life) ∙ c.in-Some.is) ?
+returns-in-Some-clause-stands c m stands =
+    let begun : measure.StandsFor c.start-measure.result.0 (opening c.in-Some.target c.args.session m.moment) =
+    rw (now_in _ m stands) at c.start-measure.ensures.stands in
+    rw (sym (c.target.ensures m.life stands.life) ∙ c.in-Some.is) (search rules)
 
 pub returns-in-None-clause-stands : goal.returns-in-None-clause-stands
 unfolding begun_one

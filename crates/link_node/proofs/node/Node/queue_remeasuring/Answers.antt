@@ -1,23 +1,16 @@
-use Rattle.std.proofs.Common.{rules, ◌≡◌, ◌∙◌, ◌≤ℤ◌, ◌<ℤ◌, sym, ℤ, Bool, true, false, Option, Some, None, arith}
-use Rattle.std.proofs.lemmas.Int.{ints}
+use Rattle.std.proofs.Common.{rules, ◌≡◌, ◌∙◌, sym, None}
 use Rattle.link_node.specs.Machine.{Machine}
 use Rattle.link_node.specs.Standing.{HasParts}
-use Rattle.link_node.specs.Tick.{remeasure_queued, is_remeasured}
+use Rattle.link_node.specs.Tick.{remeasure_queued}
 use Rattle.link_node.proofs.node.Node.queue_remeasuring.Goals as goal
 
-pub returns-in_default-clause-stands : goal.returns-in_default-clause-stands
+pub returns-then-is_remeasured-clause-stands : goal.returns-then-is_remeasured-clause-stands
 unfolding remeasure_queued
-returns-in_default-clause-stands c m room stands =
-    rw (sym stands.remeasure_at ∙ c.in_default.is) (search rules)
+returns-then-is_remeasured-clause-stands c m room stands =
+    rw (sym (c.is_remeasured.ensures m stands) ∙ c.if-is_remeasured.true)
+    (c.wait_once.ensures.stands (record m { remeasure_at = None }) room (search rules))
 
-pub returns-then-self-at-clause-stands : goal.returns-then-self-at-clause-stands
+pub returns-else-is_remeasured-clause-stands : goal.returns-else-is_remeasured-clause-stands
 unfolding remeasure_queued
-returns-then-self-at-clause-stands c m room stands =
-    let h = c.if-self-at.true in
-    rw (sym stands.remeasure_at ∙ c.in-Some.is) ?
-
-pub returns-clause-stands : goal.returns-clause-stands
-unfolding remeasure_queued
-returns-clause-stands c m room stands =
-    let h = c.if-self-at.false in
-    rw (sym stands.remeasure_at ∙ c.in-Some.is) ?
+returns-else-is_remeasured-clause-stands c m room stands =
+    rw (sym (c.is_remeasured.ensures m stands) ∙ c.if-is_remeasured.false) (search rules)
