@@ -8,3 +8,5 @@ pub mod GateLemmas
 pub mod PartLemmas
 pub mod MeasuringLemmas
 pub mod TakingLemmas
+pub mod CommitLemmas
+pub mod ArrivalLemmas
