@@ -10,3 +10,4 @@ pub mod MeasuringLemmas
 pub mod TakingLemmas
 pub mod CommitLemmas
 pub mod ArrivalLemmas
+pub mod BeginLemmas
