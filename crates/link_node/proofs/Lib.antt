@@ -11,3 +11,4 @@ pub mod TakingLemmas
 pub mod CommitLemmas
 pub mod ArrivalLemmas
 pub mod BeginLemmas
+pub mod ForgetLemmas
