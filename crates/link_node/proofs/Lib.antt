@@ -1,2 +1,3 @@
 pub mod NumberLemmas
 pub mod GateLemmas
+pub mod SourceLemmas

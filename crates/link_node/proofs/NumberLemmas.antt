@@ -1,9 +1,13 @@
--- Moments are numbers of 64 bits.
-use Rattle.std.proofs.Common.{arith, ◌≡◌, ◌≤◌, ℕ, ℤ, pos, ◌+ℤ◌, w64, to_z, of_z}
+-- Numbers of 64 bits, and moments among them.
+use Rattle.std.proofs.Common.{arith, ◌≡◌, ◌≤◌, ◌<◌, ℕ, ℤ, pos, ◌+ℤ◌, w64, to_z, of_z}
+use lib.Signed.{mag}
 use Rattle.std.proofs.lemmas.Int.{ints, clamps, to_z-of_z}
 use Rattle.std.specs.Int.{int_max}
 use Rattle.std.specs.Int.RustNames.{FitsSigned}
 use Rattle.lk_base.specs.Ranges.{IsMoment}
+
+pub number-back : (z : ℤ) → mag z < 9_223_372_036_854_775_808 → to_z w64 (of_z w64 z) ≡ z
+number-back z less = to_z-of_z w64 z (record { sfits = less })
 
 pub moment-fits : (z : ℤ) → IsMoment z → FitsSigned w64 z
 moment-fits z inside = grind (arith, ints)

@@ -26,7 +26,6 @@ use crate::lasting::states_tell_the_counts;
 use crate::sends::Sends;
 use arrayvec::ArrayVec;
 use client_state::State;
-use ghost_xform::XForm;
 use lk_base::{ClientStart, IdSource, NodeId, SessionStart, Timeline};
 use peer_gateway::Peers;
 use ping_measure::Measure;
@@ -121,7 +120,7 @@ impl Node {
             moment: now,
             ids: IdSource::new(config.seed, 0),
             id: config.id,
-            sessions: Sessions::new(alloc, config.id, session, XForm { offset: -now })?,
+            sessions: Sessions::new(alloc, config.id, session, settling::beginning_at(now))?,
             session_start: settling::STILL,
             peers: Peers::new(alloc, config.gates.len() as u8)?,
             peer_count: 0,
