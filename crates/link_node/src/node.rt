@@ -1,12 +1,15 @@
 //! A node: its opening, its step, and what it tells of itself.
 
-ghost use Rattle.std.specs.Prelude.{◌≡◌, ◌≤◌, ◌^◌, IfSome, length};
+ghost use Rattle.std.specs.Prelude.{◌≡◌, ◌≤◌, ◌≤ℤ◌, ◌^◌, pos, IfSome, length};
 ghost use Rattle.std.proofs.Props.{props};
 ghost use Rattle.lk_base.specs.Ranges.{IsMoment, IsWithin, IsWithinLimit};
 ghost use Rattle.lk_base.specs.Timeline.{IsTidy};
 ghost use Rattle.session_choice.specs.Table.{HasTidyTimelines};
 ghost use Rattle.client_state.specs.Commit.{IsTidyStart};
+ghost use Rattle.client_state.specs.Edits.{timeline_at};
 ghost use Rattle.client_state.specs.State.{IsTidyState};
+ghost use Rattle.link_node.specs.Config.{config_value, IsConfig};
+ghost use Rattle.link_node.specs.Opening.{opening_state_of};
 
 mod arrival;
 mod broadcast;
@@ -22,7 +25,7 @@ mod tick;
 
 use crate::config::{Config, copied};
 use crate::event::{Change, Event};
-use crate::lasting::states_tell_the_counts;
+use crate::lasting::{nodes_are_well_formed, states_tell_the_counts};
 use crate::sends::Sends;
 use arrayvec::ArrayVec;
 use client_state::State;
@@ -100,21 +103,10 @@ impl Node {
         ensures app { IfOk result (λ node. app_of node ≡ 0) }
         ensures audio { IfOk result (λ node. audio_of node ≡ 0) }
     {
-        let session = Timeline {
-            mpb: config.mpb,
-            beat: 0,
-            time: 0,
-        };
-        let client = Timeline {
-            mpb: config.mpb,
-            beat: 0,
-            time: now,
-        };
-        let client_start = ClientStart {
-            playing: false,
-            time: 0,
-            stamp: 0,
-        };
+        // A law, for the proof: a node is well formed at its opening.
+        nodes_are_well_formed();
+        let published = opening_state(config, now);
+        let session = timeline_from(config.mpb, 0);
         Ok(Node {
             config: copied(config),
             moment: now,
@@ -129,19 +121,11 @@ impl Node {
             measure: None,
             last_broadcast: None,
             changed: false,
-            client,
-            client_start,
+            client: published.timeline,
+            client_start: published.start,
             app: 0,
             audio: 0,
-            published: State {
-                timeline: client,
-                start: client_start,
-                sync: config.sync,
-                peers: 0,
-                moment: now,
-                app: 0,
-                audio: 0,
-            },
+            published,
         })
     }
 
@@ -261,6 +245,38 @@ impl Node {
     {
         self.moment = self.moment.max(now);
     }
+}
+
+// The state at the opening: beat 0 is then, and nothing plays.
+fn opening_state(config: &Config, now: i64) -> State
+    requires config { IsConfig (config_value config.now) }
+    requires moment { IsMoment now }
+    ensures value { result ≡ opening_state_of (config_value config.now) now }
+    ensures tidy { IsTidyState result }
+{
+    State {
+        timeline: timeline_from(config.mpb, now),
+        start: ClientStart {
+            playing: false,
+            time: 0,
+            stamp: 0,
+        },
+        sync: config.sync,
+        peers: 0,
+        moment: now,
+        app: 0,
+        audio: 0,
+    }
+}
+
+// Beat 0 at a time.
+fn timeline_from(mpb: i64, time: i64) -> Timeline
+    requires mpb { (pos 60_060 ≤ℤ mpb) × (mpb ≤ℤ pos 3_000_000) }
+    requires time { IsMoment time }
+    ensures value { result ≡ timeline_at mpb (pos 0) time }
+    ensures tidy { IsTidy result }
+{
+    Timeline { mpb, beat: 0, time }
 }
 
 // Whether the event is time alone.
