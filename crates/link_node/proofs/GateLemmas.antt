@@ -45,12 +45,14 @@ sent-next spelled gates k =
     let same : 0 + k ≡ k = omega arith in
     simp (next, same) at more
 
+pub gate-count : (config : Config) (value : ConfigValue) → config_value config ≡ value → length config.gates.items ≡ length value.gates
+gate-count config value e = sym (length-map config.gates.items gate_value) ∙ ap (λ (v : ConfigValue). length v.gates) e
+
 -- once all gates had their turn, everything is sent
 pub sent-all : (spelled : GateValue → List ℕ) (config : Config) (value : ConfigValue) (k : ℕ) → config_value config ≡ value
     → length config.gates.items ≤ k → sent_from spelled 0 (take k value.gates) ≡ sent_from spelled 0 value.gates
 sent-all spelled config value k e past =
-    let count : length value.gates ≡ length config.gates.items =
-        ap (λ (v : ConfigValue). length v.gates) (sym e) ∙ length-map config.gates.items gate_value in
+    let count = gate-count config value e in
     ap (λ gates. sent_from spelled 0 gates) (take_all k value.gates (omega (arith, count, past)))
 
 pub sent-on : (spelled : GateValue → List ℕ) (gates : List GateValue) (k : ℕ) (old before new : List SendingValue)

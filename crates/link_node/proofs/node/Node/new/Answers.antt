@@ -1,15 +1,33 @@
-use Rattle.std.proofs.Common.{◌≡◌, ◌∙◌, ap, subst, refl, ℤ, pos, rules}
+use Rattle.std.proofs.Common.{◌≡◌, ◌∙◌, ap, sym, subst, refl, arith, ℤ, pos, rules}
 use Rattle.std.specs.Prelude.{neg_ℤ}
 use Rattle.client_state.specs.Edits.{timeline_at}
 use Rattle.client_state.specs.declared.state.State.{State}
 use Rattle.client_state.specs.Starts.{latest_start_of}
+use Rattle.lk_base.specs.Ranges.{IsMoment}
 use Rattle.lk_base.specs.Ids.{source_after}
 use Rattle.session_choice.specs.History.{History, StandsFor, opening}
 use Rattle.lk_base.specs.declared.timeline.Timeline.{Timeline}
-use Rattle.link_node.specs.Config.{config_value}
+use Rattle.link_node.specs.Config.{ConfigValue, config_value}
 use Rattle.link_node.specs.Opening.{opened, opening_state_of}
+use Rattle.link_node.proofs.GateLemmas.{gate-count}
 use Rattle.link_node.proofs.NumberLemmas.{moment-back, mpb-back}
 use Rattle.link_node.proofs.node.Node.new.Goals as goal
+
+pub invariant_of-result-clause-in_time : goal.invariant_of-result-clause-in_time
+invariant_of-result-clause-in_time c = subst (λ (z : ℤ). IsMoment z) (sym (moment-back c.args.now c.requires.moment)) c.requires.moment
+
+pub invariant_of-result-clause-gates : goal.invariant_of-result-clause-gates
+invariant_of-result-clause-gates c =
+    let value : ConfigValue = config_value c.args.config.now in
+    let copied = gate-count c.copied.result value c.copied.ensures in
+    let passed = gate-count c.args.config.now value refl in
+    let some = c.requires.config.some_gate in
+    let few = c.requires.config.few_gates in
+    let peers = c.in_ok-new-2.ensures.gates in
+    (omega (arith, copied, some), omega (arith, copied, few), peers ∙ c.len.ensures.value ∙ passed ∙ sym copied)
+
+pub invariant_of-result-clause-timelines : goal.invariant_of-result-clause-timelines
+invariant_of-result-clause-timelines c = c.in_ok-new.ensures.tidy c.timeline_from-session.ensures.tidy
 
 pub returns-clause-stands : goal.returns-clause-stands
 unfolding opened latest_start_of source_after
