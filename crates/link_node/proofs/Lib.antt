@@ -1,3 +1,11 @@
+pub mod IdLemmas
+pub mod SessionsLemmas
+pub mod RuleLemmas
+pub mod TidyLemmas
+pub mod WellFormedLemmas
 pub mod NumberLemmas
 pub mod GateLemmas
 pub mod SourceLemmas
+pub mod PartLemmas
+pub mod MeasuringLemmas
+pub mod TakingLemmas

@@ -14,8 +14,10 @@ pub mod Settling
 pub mod Broadcast
 pub mod Publishing
 pub mod Due
+pub mod Kinds
 pub mod Step
 pub mod Runs
 pub mod WellFormed
 pub mod Brought
 pub mod Standing
+pub mod Beginning

@@ -15,6 +15,8 @@ ghost use Rattle.link_node.specs.Runs.{machine_after, published_by, AreFitting};
 ghost use Rattle.link_node.specs.Step.{step_of};
 ghost use Rattle.link_node.specs.WellFormed.{IsMachine};
 
+use crate::laws::{commits_are_counted, moments_never_fall};
+
 /// A node is well formed at its opening and stays so: no session is known twice, each waits once and is known, and all
 /// timelines and all states published are tidy.
 pub fn nodes_are_well_formed()
@@ -25,7 +27,10 @@ pub fn nodes_are_well_formed()
         → IsMachine (machine_after m es) }
     ensures published { (m : Machine) (es : List EventValue) → IsMachine m → AreFitting (length m.config.gates) m.app m.audio es
         → AllByRecursion IsTidyState (published_by m es) }
-{}
+{
+    moments_never_fall();
+    commits_are_counted();
+}
 
 /// The state published last tells the peers and the commits taken.
 pub fn states_tell_the_counts()

@@ -9,6 +9,8 @@ ghost use Rattle.client_state.specs.Commit.{IsTidyStart};
 ghost use Rattle.client_state.specs.Edits.{timeline_at};
 ghost use Rattle.client_state.specs.State.{IsTidyState};
 ghost use Rattle.link_node.specs.Config.{config_value, IsConfig};
+ghost use Rattle.link_node.specs.Event.{event_value};
+ghost use Rattle.link_node.specs.Kinds.{is_tick};
 ghost use Rattle.link_node.specs.Opening.{opening_state_of};
 
 mod arrival;
@@ -80,7 +82,7 @@ pub struct Node {
 }
 
 impl Node {
-    ghost use Rattle.std.specs.Prelude.{◌≡◌, ◌≤◌, ◌+◌, ◌++◌, length, IfOk};
+    ghost use Rattle.std.specs.Prelude.{◌≡◌, ◌≤◌, ◌+◌, ◌++◌, true, false, length, IfOk};
     ghost use Rattle.lk_base.specs.Ranges.{IsMoment};
     ghost use Rattle.lk_base.specs.Timeline.{IsTidy};
     ghost use Rattle.client_state.specs.State.{IsTidyState};
@@ -90,7 +92,8 @@ impl Node {
     ghost use Rattle.link_node.specs.Machine.{Machine, session_in, timeline_in};
     ghost use Rattle.link_node.specs.Opening.{opened};
     ghost use Rattle.link_node.specs.Standing.{StandsFor, HasParts, gates_of, app_of, audio_of};
-    ghost use Rattle.link_node.specs.Step.{step_of, sends_of, change_of, taken, answers, at_moment};
+    ghost use Rattle.link_node.specs.Step.{step_of, sends_of, change_of, taken, answers, at_moment, broadcast_by, alives_by};
+    ghost use Rattle.link_node.specs.Kinds.{is_tick};
     ghost use Rattle.link_node.specs.WellFormed.{AreSessions};
 
     /// Opens a node at a moment, alone in a session of its own that begins then with beat 0. Memory: room for the tables
@@ -145,13 +148,13 @@ impl Node {
         ensures app { app_of self.new ≡ app_after (app_of self.old) (event_value event.now) }
         ensures audio { audio_of self.new ≡ audio_after (audio_of self.old) (event_value event.now) }
     {
+        // A law, for the proof: what is well formed stays so.
+        nodes_are_well_formed();
         let before = self.held();
         self.take(event, sends);
         self.settle();
         self.note(&before);
-        if is_tick(event) {
-            self.broadcast(sends);
-        }
+        self.broadcast_by(event, sends);
         self.publish()
     }
 
@@ -202,8 +205,13 @@ impl Node {
         requires room { length sends.old + 129 ≤ 160 }
         ensures stands { (m : Machine) → AreSessions m → HasParts self.old m
             → HasParts self.new (taken (event_value event.now) (at_moment (moment_of (event_value event.now)) m)) }
-        ensures sends { (m : Machine) → HasParts self.old m
+        ensures sends { (m : Machine) → AreSessions m → HasParts self.old m
             → sends.new ≡ sends.old ++ answers (event_value event.now) (at_moment (moment_of (event_value event.now)) m) }
+        ensures tick { is_tick (event_value event.now) ≡ true → length sends.new ≤ length sends.old + 1 }
+        ensures len { length sends.new ≤ length sends.old + 128 }
+        ensures gates { gates_of self.new ≡ gates_of self.old }
+        ensures app { app_of self.new ≡ app_after (app_of self.old) (event_value event.now) }
+        ensures audio { audio_of self.new ≡ audio_after (audio_of self.old) (event_value event.now) }
     {
         match event {
             Event::Rx {
@@ -238,10 +246,29 @@ impl Node {
         }
     }
 
+    // A broadcast, in ticks alone.
+    fn broadcast_by(&mut self, event: &Event, sends: &mut Sends)
+        requires room { is_tick (event_value event.now) ≡ true → length sends.old + 128 ≤ 160 }
+        ensures stands { (m : Machine) → HasParts self.old m → HasParts self.new (broadcast_by (event_value event.now) m) }
+        ensures sends { (m : Machine) → HasParts self.old m → sends.new ≡ sends.old ++ alives_by (event_value event.now) m }
+        ensures tick { is_tick (event_value event.now) ≡ true → length sends.new ≤ length sends.old + 128 }
+        ensures other { is_tick (event_value event.now) ≡ false → sends.new ≡ sends.old }
+        ensures gates { gates_of self.new ≡ gates_of self.old }
+        ensures app { app_of self.new ≡ app_of self.old }
+        ensures audio { audio_of self.new ≡ audio_of self.old }
+    {
+        if is_tick(event) {
+            self.broadcast(sends);
+        }
+    }
+
     // The moment never falls.
     fn advance(&mut self, now: i64)
         requires { IsMoment now }
         ensures stands { (m : Machine) → HasParts self.old m → HasParts self.new (at_moment now m) }
+        ensures gates { gates_of self.new ≡ gates_of self.old }
+        ensures app { app_of self.new ≡ app_of self.old }
+        ensures audio { audio_of self.new ≡ audio_of self.old }
     {
         self.moment = self.moment.max(now);
     }
@@ -280,6 +307,8 @@ fn timeline_from(mpb: i64, time: i64) -> Timeline
 }
 
 // Whether the event is time alone.
-fn is_tick(event: &Event) -> bool {
+fn is_tick(event: &Event) -> bool
+    ensures { result ≡ is_tick (event_value event.now) }
+{
     matches!(event, Event::Tick { .. })
 }

@@ -12,14 +12,16 @@ impl Node {
     ghost use Rattle.client_state.specs.Timelines.{session_from_client_of};
     ghost use Rattle.link_node.specs.Commits.{app_taken, audio_taken, commit_taken, start_committed, client_taken};
     ghost use Rattle.link_node.specs.Machine.{Machine, timeline_in, offset_in};
-    ghost use Rattle.link_node.specs.Standing.{HasParts, app_of, audio_of};
+    ghost use Rattle.link_node.specs.Standing.{HasParts, gates_of, app_of, audio_of};
 
     // A commit of an application.
     pub(super) fn take_app(&mut self, commit: &Commit)
         requires tidy { IsTidyCommit commit.now }
         requires few { app_of self.old < 2 ^ 60 }
         ensures stands { (m : Machine) → HasParts self.old m → HasParts self.new (app_taken commit.now m) }
+        ensures gates { gates_of self.new ≡ gates_of self.old }
         ensures app { app_of self.new ≡ app_of self.old + 1 }
+        ensures audio { audio_of self.new ≡ audio_of self.old }
     {
         self.app += 1;
         self.take_commit(commit);
@@ -29,6 +31,8 @@ impl Node {
     pub(super) fn take_audio(&mut self, number: u64, commit: &Commit)
         requires tidy { IsTidyCommit commit.now }
         ensures stands { (m : Machine) → HasParts self.old m → HasParts self.new (audio_taken number commit.now m) }
+        ensures gates { gates_of self.new ≡ gates_of self.old }
+        ensures app { app_of self.new ≡ app_of self.old }
         ensures audio { audio_of self.new ≡ number }
     {
         self.audio = number;
@@ -39,6 +43,9 @@ impl Node {
     fn take_commit(&mut self, commit: &Commit)
         requires tidy { IsTidyCommit commit.now }
         ensures stands { (m : Machine) → HasParts self.old m → HasParts self.new (commit_taken commit.now m) }
+        ensures gates { gates_of self.new ≡ gates_of self.old }
+        ensures app { app_of self.new ≡ app_of self.old }
+        ensures audio { audio_of self.new ≡ audio_of self.old }
     {
         match commit.timeline {
             Some(client) => {
@@ -59,6 +66,9 @@ impl Node {
             → result ≡ is_some (session_from_client_of (timeline_in m) client at (offset_in m)) }
         ensures stands { (m : Machine) → HasParts self.old m
             → HasParts self.new (client_taken (session_from_client_of (timeline_in m) client at (offset_in m)) client m) }
+        ensures gates { gates_of self.new ≡ gates_of self.old }
+        ensures app { app_of self.new ≡ app_of self.old }
+        ensures audio { audio_of self.new ≡ audio_of self.old }
     {
         let current = self.sessions.current();
         let Ok(session) = session_from_client(&current.timeline, &client, at, current.xform) else {
@@ -73,6 +83,9 @@ impl Node {
     // A start counts where it is later than the client's; with sync, one that is later than the session's is the session's too.
     fn take_client_start(&mut self, start: &Option<ClientStart>)
         ensures stands { (m : Machine) → HasParts self.old m → HasParts self.new (start_committed start.now m) }
+        ensures gates { gates_of self.new ≡ gates_of self.old }
+        ensures app { app_of self.new ≡ app_of self.old }
+        ensures audio { audio_of self.new ≡ audio_of self.old }
     {
         let Some(start) = start else {
             return;

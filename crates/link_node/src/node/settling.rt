@@ -30,11 +30,14 @@ impl Node {
     ghost use Rattle.link_node.specs.Machine.{Machine};
     ghost use Rattle.link_node.specs.Settling.{settled, counted, is_left, founded, founding_timeline_in, held_in, noted};
     ghost use Rattle.lk_base.specs.Timeline.{IsTidy};
-    ghost use Rattle.link_node.specs.Standing.{HasParts};
+    ghost use Rattle.link_node.specs.Standing.{HasParts, gates_of, app_of, audio_of};
 
     // Peers are counted. Where there were some and there are none, a session is founded.
     pub(super) fn settle(&mut self)
         ensures stands { (m : Machine) → HasParts self.old m → HasParts self.new (settled m) }
+        ensures gates { gates_of self.new ≡ gates_of self.old }
+        ensures app { app_of self.new ≡ app_of self.old }
+        ensures audio { audio_of self.new ≡ audio_of self.old }
     {
         if self.recount() {
             self.found();
@@ -45,6 +48,9 @@ impl Node {
     fn recount(&mut self) -> bool
         ensures answer { (m : Machine) → HasParts self.old m → result ≡ is_left m }
         ensures stands { (m : Machine) → HasParts self.old m → HasParts self.new (counted m) }
+        ensures gates { gates_of self.new ≡ gates_of self.old }
+        ensures app { app_of self.new ≡ app_of self.old }
+        ensures audio { audio_of self.new ≡ audio_of self.old }
     {
         let before = self.peer_count;
         let session = self.sessions.current().session;
@@ -56,6 +62,9 @@ impl Node {
     // before.
     fn found(&mut self)
         ensures stands { (m : Machine) → HasParts self.old m → HasParts self.new (founded m) }
+        ensures gates { gates_of self.new ≡ gates_of self.old }
+        ensures app { app_of self.new ≡ app_of self.old }
+        ensures audio { audio_of self.new ≡ audio_of self.old }
     {
         let timeline = self.founding_timeline();
         self.id = self.ids.draw();
@@ -99,6 +108,9 @@ impl Node {
     // Whether there is something new to tell since before the event.
     pub(super) fn note(&mut self, before: &Held)
         ensures stands { (m : Machine) → HasParts self.old m → HasParts self.new (noted before.now m) }
+        ensures gates { gates_of self.new ≡ gates_of self.old }
+        ensures app { app_of self.new ≡ app_of self.old }
+        ensures audio { audio_of self.new ≡ audio_of self.old }
     {
         self.changed = is_changed(self.changed, before, &self.held());
     }
