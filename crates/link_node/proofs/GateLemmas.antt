@@ -33,8 +33,8 @@ sent-more spelled j (gate ∷ gates) zero =
 sent-more spelled j (gate ∷ gates) (suc k) =
     let same : j + 1 + k ≡ j + suc k = omega arith in
     let more : sent_from spelled (j + 1) (take (suc k) gates) ≡ sent_from spelled (j + 1) (take k gates) ++ sent_at spelled (j + suc k) (slice_get gates k) =
-        subst (λ (i : ℕ). sent_from spelled (j + 1) (take (suc k) gates) ≡ sent_from spelled (j + 1) (take k gates) ++ sent_at spelled i (slice_get gates k))
-        same (sent-more spelled (j + 1) gates k) in
+    subst (λ (i : ℕ). sent_from spelled (j + 1) (take (suc k) gates) ≡ sent_from spelled (j + 1) (take k gates) ++ sent_at spelled i (slice_get gates k))
+    same (sent-more spelled (j + 1) gates k) in
     rw more (sym (append_assoc (sent_at spelled j (Some gate)) (sent_from spelled (j + 1) (take k gates)) (sent_at spelled (j + suc k) (slice_get gates k))))
 
 sent-next : (spelled : GateValue → List ℕ) (gates : List GateValue) (k : ℕ)

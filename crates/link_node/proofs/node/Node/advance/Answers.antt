@@ -16,5 +16,5 @@ returns-clause-stands c m stands =
     let is = greater-is c.args.self.now.moment c.args.now c.max-self.result c.args.self.now.in_time c.requires c.max-self.ensures.value in
     let inside = greater-moment c.args.self.now.moment c.args.now c.max-self.result c.args.self.now.in_time c.requires is in
     let moment : to_z w64 (of_z w64 c.max-self.result) ≡ int_max m.moment c.args.now =
-        moment-back c.max-self.result inside ∙ is ∙ ap (λ (z : ℤ). int_max z c.args.now) stands.moment in
+    moment-back c.max-self.result inside ∙ is ∙ ap (λ (z : ℤ). int_max z c.args.now) stands.moment in
     search rules

@@ -30,13 +30,13 @@ returns-clause-stands c m stands =
       remeasure_at = None;
     } in
     let offset : c.beginning_at.result.offset ≡ neg_ℤ m.moment =
-        c.beginning_at.ensures ∙ ap (λ (z : ℤ). neg_ℤ z) (moment-back c.args.self.now.moment c.args.self.now.in_time ∙ stands.moment) in
+    c.beginning_at.ensures ∙ ap (λ (z : ℤ). neg_ℤ z) (moment-back c.args.self.now.moment c.args.self.now.in_time ∙ stands.moment) in
     c.renew.ensures.stands before (record {
       config = stands.config;
       moment = stands.moment;
       ids = c.draw-self.ensures.source ∙ ap (λ (source : Lcg). source_after 8 source) stands.ids ∙ source-next m.drawn _;
       id = c.draw-self.ensures.id ∙ ap (λ (source : Lcg). drawn_id source) stands.ids;
-      sessions = 
+      sessions =
           subst (λ (h : History). StandsFor c.reset.new.self h)
           (ap (λ (id : NodeId). opening id c.founding_timeline-timeline.result c.beginning_at.result.offset) (c.draw-self.ensures.id ∙ ap (λ (source : Lcg). drawn_id source) stands.ids)
           ∙ ap (λ (tl : Timeline). opening (id_drawn m.config.seed m.drawn) tl c.beginning_at.result.offset) (c.founding_timeline-timeline.ensures.value m stands)

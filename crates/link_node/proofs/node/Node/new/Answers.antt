@@ -35,8 +35,8 @@ returns-clause-stands c =
     let moment = moment-back c.args.now c.requires.moment in
     let published = c.opening_state-published.ensures.value ∙ ap (λ (z : ℤ). opening_state_of (config_value c.args.config.now) z) moment in
     let session : c.timeline_from-session.result ≡ timeline_at c.args.config.now.mpb (pos 0) (pos 0) =
-        c.timeline_from-session.ensures.value
-        ∙ ap (λ (z : ℤ). timeline_at z (pos 0) (pos 0)) (mpb-back c.args.config.now.mpb c.requires.config.fastest c.requires.config.slowest) in
+    c.timeline_from-session.ensures.value
+    ∙ ap (λ (z : ℤ). timeline_at z (pos 0) (pos 0)) (mpb-back c.args.config.now.mpb c.requires.config.fastest c.requires.config.slowest) in
     let offset : c.beginning_at.result.offset ≡ neg_ℤ c.args.now = c.beginning_at.ensures ∙ ap (λ (z : ℤ). neg_ℤ z) moment in
     record {
       parts = record {
