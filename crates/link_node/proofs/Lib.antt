@@ -9,3 +9,6 @@ pub mod SourceLemmas
 pub mod PartLemmas
 pub mod MeasuringLemmas
 pub mod TakingLemmas
+pub mod CommitLemmas
+pub mod ArrivalLemmas
+pub mod BeginLemmas
