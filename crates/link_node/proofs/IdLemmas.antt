@@ -165,13 +165,13 @@ module _ (current id : NodeId) where
       (λ _ same.
       let e = same-equal first id same in (
         (λ k. elim k as (λ _. ⊥)
-        [ inl is ↦ all.0 (inl (e ∙ sym is)) | inr q ↦ all.1.0 (subst (λ (z : NodeId). Has ids z) (sym e) q) ]),
+            [ inl is ↦ all.0 (inl (e ∙ sym is)) | inr q ↦ all.1.0 (subst (λ (z : NodeId). Has ids z) (sym e) q) ]),
         ((λ k. all.0 (inr k)), all.1.1),
       ))
       (λ _ other.
       let later : Has ids id = elim h as (λ _. Has ids id) [ inl e ↦ absurd (false≢true (sym other ∙ equal-same first id e)) | inr k ↦ k ] in
       let rest : Distinct (id ∷ replaced ids) = distinct-replaced ids (λ k. all.0 (inr k), all.1.1) later in (
         (λ k. elim k as (λ _. ⊥)
-        [ inl is ↦ false≢true (sym other ∙ equal-same first id is) | inr q ↦ rest.0 q ]),
+            [ inl is ↦ false≢true (sym other ∙ equal-same first id is) | inr q ↦ rest.0 q ]),
         ((λ k. elim (replaced-has ids first k) as (λ _. ⊥) [ inl e ↦ all.0 (inl (sym e)) | inr q ↦ all.1.0 q ]), rest.1),
       )) refl

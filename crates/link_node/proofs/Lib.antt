@@ -5,6 +5,7 @@ pub mod TidyLemmas
 pub mod WellFormedLemmas
 pub mod NumberLemmas
 pub mod GateLemmas
+pub mod SourceLemmas
 pub mod PartLemmas
 pub mod MeasuringLemmas
 pub mod TakingLemmas

@@ -46,6 +46,6 @@ no_pong life gate from pong m is = rw is
 pub sent_or_on : (outcome : Outcome) (target : Target) (old new : List SendingValue) (after : Option Measure) (kept : Measure) → new ≡ old ++ pings_of outcome target → ((ping : PingFields) → outcome ≡ Again ping → after ≡ Some kept) → (new ≡ old) ⊎ IsSome after
 sent_or_on outcome target old new after kept sent again =
     elim (sends_again outcome target) [
-      inl none ↦ inl (sent ∙ ap (λ (pings : List SendingValue). old ++ pings) none ∙ append-nil old)
-    | inr some ↦ inr (rw (again some.0 some.1) (search rules))
+      | inl none ↦ inl (sent ∙ ap (λ (pings : List SendingValue). old ++ pings) none ∙ append-nil old)
+      | inr some ↦ inr (rw (again some.0 some.1) (search rules))
     ]

@@ -63,14 +63,14 @@ pushed-parts current new others waiting later measuring unknown room h = record 
   distinct = distinct-last (current ∷ others) new h.distinct unknown;
   few = omega (arith, length-append others (new ∷ []));
   known = λ id w. elim (has_parts waiting (new ∷ []) id w) as (λ _. Has (current ∷ others ++ new ∷ []) id) [
-      | inl k ↦ has_left (current ∷ others) (new ∷ []) id (h.known id k)
-      | inr k ↦ has_right (current ∷ others) (new ∷ []) id k
-    ];
+    | inl k ↦ has_left (current ∷ others) (new ∷ []) id (h.known id k)
+    | inr k ↦ has_right (current ∷ others) (new ∷ []) id k
+  ];
   once = distinct-last waiting new h.once (λ w. unknown (h.known new w));
   current_waits = λ is w. elim (has_parts waiting (new ∷ []) current w) as (λ _. ⊥) [
-      | inl k ↦ h.current_waits is k
-      | inr k ↦ elim k as (λ _. ⊥) [ inl e ↦ unknown (inl (sym e)) | inr none ↦ none ]
-    ];
+    | inl k ↦ h.current_waits is k
+    | inr k ↦ elim k as (λ _. ⊥) [ inl e ↦ unknown (inl (sym e)) | inr none ↦ none ]
+  ];
   measured = alone-pushed measuring h.measured;
   going_on = h.going_on;
 }
@@ -81,9 +81,9 @@ pushed-parts current new others waiting later measuring unknown room h = record 
     alone-pushed (Some life) alone = record {
       known = has_left (current ∷ others) (new ∷ []) life.session alone.known;
       alone = λ w. elim (has_parts waiting (new ∷ []) life.session w) as (λ _. ⊥) [
-          | inl k ↦ alone.alone k
-          | inr k ↦ elim k as (λ _. ⊥) [ inl e ↦ unknown (subst (λ (z : NodeId). Has (current ∷ others) z) (sym e) alone.known) | inr none ↦ none ]
-        ];
+        | inl k ↦ alone.alone k
+        | inr k ↦ elim k as (λ _. ⊥) [ inl e ↦ unknown (subst (λ (z : NodeId). Has (current ∷ others) z) (sym e) alone.known) | inr none ↦ none ]
+      ];
       other = alone.other;
     }
 

@@ -279,9 +279,9 @@ replaced-parts current session others waiting later at there none h = record {
   distinct = distinct-replaced current session others h.distinct there;
   few = omega (arith, h.few, few-replaced current session others);
   known = λ id w. elim (h.known id w) as (λ _. Has (session ∷ replaced current session others) id) [
-      | inl e ↦ inr (subst (λ (z : NodeId). Has (replaced current session others) z) e (replaced-current current session others there))
-      | inr k ↦ has-replaced current session others id k
-    ];
+    | inl e ↦ inr (subst (λ (z : NodeId). Has (replaced current session others) z) e (replaced-current current session others there))
+    | inr k ↦ has-replaced current session others id k
+  ];
   once = h.once;
   current_waits = λ is. none;
   measured = tt;

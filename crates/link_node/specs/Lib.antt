@@ -14,6 +14,7 @@ pub mod Settling
 pub mod Broadcast
 pub mod Publishing
 pub mod Due
+pub mod Kinds
 pub mod Step
 pub mod Runs
 pub mod WellFormed

@@ -14,12 +14,15 @@ impl Node {
     ghost use Rattle.client_state.specs.State.{IsTidyState};
     ghost use Rattle.link_node.specs.Machine.{Machine};
     ghost use Rattle.link_node.specs.Publishing.{state_in, change_in, shown};
-    ghost use Rattle.link_node.specs.Standing.{HasParts};
+    ghost use Rattle.link_node.specs.Standing.{HasParts, gates_of, app_of, audio_of};
 
     // The state is published where it differs from the last one in more than the moment.
     pub(super) fn publish(&mut self) -> Change
         ensures change { (m : Machine) → HasParts self.old m → result ≡ change_in m }
         ensures stands { (m : Machine) → HasParts self.old m → HasParts self.new (shown m) }
+        ensures gates { gates_of self.new ≡ gates_of self.old }
+        ensures app { app_of self.new ≡ app_of self.old }
+        ensures audio { audio_of self.new ≡ audio_of self.old }
     {
         let state = self.formed();
         if is_alike(&state, &self.published) {

@@ -11,12 +11,10 @@ invariant_of-self-clause-in_time c =
     let inside = greater-moment c.args.self.now.moment c.args.now c.max-self.result c.args.self.now.in_time c.requires is in
     subst (λ (z : ℤ). IsMoment z) (sym (moment-back c.max-self.result inside)) inside
 
-pub returns : goal.returns
-returns c = record {
-  stands = λ m stands.
-      let is = greater-is c.args.self.now.moment c.args.now c.max-self.result c.args.self.now.in_time c.requires c.max-self.ensures.value in
-      let inside = greater-moment c.args.self.now.moment c.args.now c.max-self.result c.args.self.now.in_time c.requires is in
-      let moment : to_z w64 (of_z w64 c.max-self.result) ≡ int_max m.moment c.args.now =
-          moment-back c.max-self.result inside ∙ is ∙ ap (λ (z : ℤ). int_max z c.args.now) stands.moment in
-      search rules;
-}
+pub returns-clause-stands : goal.returns-clause-stands
+returns-clause-stands c m stands =
+    let is = greater-is c.args.self.now.moment c.args.now c.max-self.result c.args.self.now.in_time c.requires c.max-self.ensures.value in
+    let inside = greater-moment c.args.self.now.moment c.args.now c.max-self.result c.args.self.now.in_time c.requires is in
+    let moment : to_z w64 (of_z w64 c.max-self.result) ≡ int_max m.moment c.args.now =
+    moment-back c.max-self.result inside ∙ is ∙ ap (λ (z : ℤ). int_max z c.args.now) stands.moment in
+    search rules

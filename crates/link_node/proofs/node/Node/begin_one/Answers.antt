@@ -16,5 +16,5 @@ returns-in-Some-clause-stands c m stands =
 
 pub returns-in-None-clause-stands : goal.returns-in-None-clause-stands
 unfolding begun_one
-returns-in-None-clause-stands c m stands = 
+returns-in-None-clause-stands c m stands =
     rw (sym (c.target.ensures m.life stands.life) ∙ c.in-None.is) (c.give_up.ensures.stands m stands)

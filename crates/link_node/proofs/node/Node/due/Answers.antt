@@ -1,11 +1,24 @@
-use Rattle.std.proofs.Common.{rules, ◌≡◌, option_map, ℕ, ◌+◌, ◌-◌, ◌*◌, ◌<◌, ◌≤◌, length, ◌/◌, ◌%◌, Bool, true, false, nat_eq, nat_lt, List, [], ◌∷◌, ◌++◌, slice_index_or, slice_set, bit_and, bit_or, Fits, w8, w32, w64, Bor, MutBor, ℤ, pos, ◌+ℤ◌, ◌-ℤ◌, ◌*ℤ◌, ◌≤ℤ◌, ◌<ℤ◌, FitsSigned, to_z, of_z}
-use Rattle.link_node.specs.Due as spec
-use Rattle.link_node.specs.Due.{due_of, broadcast_due, waiting_due}
-use Rattle.ping_measure.specs.Life.{deadline_of}
-use Rattle.link_node.specs.Machine.{Machine}
-use Rattle.link_node.specs.Standing.{StandsFor, HasParts}
+use Rattle.std.proofs.Common.{refl, rules}
+use Rattle.link_node.specs.Due.{due_of}
+use Rattle.link_node.proofs.NumberLemmas.{number-back}
 use Rattle.link_node.proofs.node.Node.due.Goals as goal
 
--- src/node/due.rt:19:5
 pub returns : goal.returns
-returns c = ?
+unfolding due_of
+returns c m stands =
+    rw (
+      number-back c.earlier_of.result c.earlier_of.type_inv,
+      c.earlier_of.ensures,
+      number-back c.earlier_of-due-3.result c.earlier_of-due-3.type_inv,
+      c.earlier_of-due-3.ensures,
+      number-back c.earlier_of-due-2.result c.earlier_of-due-2.type_inv,
+      c.earlier_of-due-2.ensures,
+      number-back c.earlier_of-due.result c.earlier_of-due.type_inv,
+      c.earlier_of-due.ensures,
+      number-back c.broadcast_due-due.result c.broadcast_due-due.type_inv,
+      c.broadcast_due-due.ensures m stands.parts,
+      c.least_limit.ensures m.life stands.parts.life,
+      c.deadline.ensures m stands.parts,
+      stands.parts.remeasure_at,
+      c.waiting_due.ensures m stands.parts,
+    ) refl

@@ -11,7 +11,7 @@ pub returns-then-is_alike-clause-stands : goal.returns-then-is_alike-clause-stan
 unfolding shown
 returns-then-is_alike-clause-stands c m stands =
     let same : alike (state_in m) m.published ≡ true =
-        rw (sym (c.formed-state.ensures.value m stands), sym stands.published) (sym c.is_alike.ensures ∙ c.if-is_alike.true) in
+    rw (sym (c.formed-state.ensures.value m stands), sym stands.published) (sym c.is_alike.ensures ∙ c.if-is_alike.true) in
     rw same stands
 
 pub returns-clause-change : goal.returns-clause-change
@@ -23,6 +23,6 @@ pub returns-clause-stands : goal.returns-clause-stands
 unfolding shown
 returns-clause-stands c m stands =
     let same : alike (state_in m) m.published ≡ false =
-        rw (sym (c.formed-state.ensures.value m stands), sym stands.published) (sym c.is_alike.ensures ∙ c.if-is_alike.false) in
+    rw (sym (c.formed-state.ensures.value m stands), sym stands.published) (sym c.is_alike.ensures ∙ c.if-is_alike.false) in
     let value = c.formed-state.ensures.value m stands in
     rw same (search rules)

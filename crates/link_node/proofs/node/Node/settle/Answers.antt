@@ -1,13 +1,13 @@
-use Rattle.std.proofs.Common.{rules, ◌≡◌, ℕ, ◌+◌, ◌-◌, ◌*◌, ◌<◌, ◌≤◌, length, ◌/◌, ◌%◌, Bool, true, false, nat_eq, nat_lt, List, [], ◌∷◌, ◌++◌, slice_index_or, slice_set, bit_and, bit_or, Fits, w8, w32, w64, Bor, MutBor}
-use Rattle.link_node.specs.Machine.{Machine}
-use Rattle.link_node.specs.Settling.{settled, founded, held_in, noted}
-use Rattle.link_node.specs.Standing.{HasParts}
+use Rattle.std.proofs.Common.{◌∙◌, sym}
+use Rattle.link_node.specs.Settling.{settled, counted}
 use Rattle.link_node.proofs.node.Node.settle.Goals as goal
 
--- src/node/settling.rt:31:5
-pub returns-then-self-eq0 : goal.returns-then-self-eq0
-returns-then-self-eq0 c = ?
+pub returns-then-recount-clause-stands : goal.returns-then-recount-clause-stands
+unfolding settled
+returns-then-recount-clause-stands c m stands =
+    rw (sym (c.recount.ensures.answer m stands) ∙ c.if-recount.true) (c.found.ensures.stands (counted m) (c.recount.ensures.stands m stands))
 
--- src/node/settling.rt:31:5
-pub returns-else-before-gt0 : goal.returns-else-before-gt0
-returns-else-before-gt0 c = ?
+pub returns-else-recount-clause-stands : goal.returns-else-recount-clause-stands
+unfolding settled
+returns-else-recount-clause-stands c m stands =
+    rw (sym (c.recount.ensures.answer m stands) ∙ c.if-recount.false) (c.recount.ensures.stands m stands)
