@@ -12,3 +12,4 @@ pub mod TakingLemmas
 pub mod CommitLemmas
 pub mod ArrivalLemmas
 pub mod BeginLemmas
+pub mod StepLemmas
