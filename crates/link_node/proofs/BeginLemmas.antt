@@ -122,3 +122,10 @@ silent_more more sends before running same (inr runs) = inr runs
 
 pub not_running : {A : Type 0} (running : Option Measure) (session : NodeId) → IsSome running → (IsSome running → Some session ≡ None) → A
 not_running running session runs none = let no = none runs in cc
+
+-- a ping of the measurement that runs and one that begins another are never both sent
+pub one_at_most : (before sends after : Sends) (running left : Option Measure) → length sends ≤ length before + 1 → (sends ≡ before) ⊎ IsSome running → left ≡ running → (IsSome left → after ≡ sends) → length after ≤ length sends + 1 → length after ≤ length before + 1
+one_at_most before sends after running left few (inl still) same none more = rw still at more
+one_at_most before sends after running left few (inr runs) same none more =
+    let silent : after ≡ sends = none (rw same runs) in
+    rw silent few

@@ -13,3 +13,4 @@ pub mod CommitLemmas
 pub mod ArrivalLemmas
 pub mod BeginLemmas
 pub mod StepLemmas
+pub mod ForgetLemmas

@@ -9,7 +9,8 @@ use ping_measure::Measure;
 impl Node {
     ghost use Rattle.std.specs.Prelude.{◌≡◌, ◌⊎◌, ◌≤◌, ◌<◌, ◌+◌, ◌++◌, length, false, IsSome, None};
     ghost use Rattle.peer_gateway.specs.Answers.{target_of};
-    ghost use Rattle.session_choice.specs.History.{Taking};
+    ghost use Rattle.session_choice.specs.History.{History, Taking, forgotten};
+    ghost use Rattle.session_choice.specs.History as sessions;
     ghost use Rattle.link_node.specs.Beginning.{IsNext, left_of};
     ghost use Rattle.link_node.specs.Machine.{Machine, session_in};
     ghost use Rattle.link_node.specs.Standing.{HasParts, gates_of, app_of, audio_of};
@@ -18,7 +19,7 @@ impl Node {
 
     // In this order.
     pub(super) fn tick(&mut self, sends: &mut Sends)
-        requires room { length sends.old < 160 }
+        requires room { length sends.old + 2 ≤ 160 }
         ensures stands { (m : Machine) → AreSessions m → HasParts self.old m → HasParts self.new (ticked m) }
         ensures sends { (m : Machine) → AreSessions m → HasParts self.old m → sends.new ≡ sends.old ++ pings_of_tick m }
         ensures len { length sends.new ≤ length sends.old + 1 }
@@ -56,9 +57,22 @@ impl Node {
             if self.is_needed(session) {
                 k += 1;
             } else {
-                let _was_known = self.sessions.forget(session);
+                self.forget(session);
             }
         }
+    }
+
+    // Another session is forgotten.
+    fn forget(&mut self, session: NodeId)
+        ensures stands { (m : Machine) → HasParts self.old m
+            → HasParts self.new (record m { sessions = forgotten session m.sessions }) }
+        ensures sessions { (h : History) → sessions.StandsFor self.old.sessions h
+            → sessions.StandsFor self.new.sessions (forgotten session h) }
+        ensures gates { gates_of self.new ≡ gates_of self.old }
+        ensures app { app_of self.new ≡ app_of self.old }
+        ensures audio { audio_of self.new ≡ audio_of self.old }
+    {
+        let _was_known = self.sessions.forget(session);
     }
 
     // Whether another session has a row, is measured, or waits.
