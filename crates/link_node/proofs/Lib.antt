@@ -12,4 +12,11 @@ pub mod TakingLemmas
 pub mod CommitLemmas
 pub mod ArrivalLemmas
 pub mod BeginLemmas
+pub mod StepLemmas
 pub mod ForgetLemmas
+pub mod Lists
+pub mod MomentLemmas
+pub mod RunLemmas
+pub mod TakenLemmas
+pub mod BroughtLemmas
+pub mod ToldLemmas

@@ -1,8 +1,7 @@
 -- Where timelines come from, and what state messages tell.
-use Rattle.std.specs.Prelude.{◌≡◌, ◌⊎◌, List, [], ◌∷◌, ◌++◌, if◌then◌else◌, Option, Some, None, Result, Ok, Err}
+use Rattle.std.specs.Prelude.{◌≡◌, List, [], ◌∷◌, ◌++◌, if◌then◌else◌, Option, Some, None, Result, Ok, Err}
 use Rattle.lk_base.specs.declared.ids.NodeId.{NodeId}
 use Rattle.lk_base.specs.declared.timeline.Timeline.{Timeline}
-use Rattle.link_payload.specs.declared.fields.PeerFields.{PeerFields}
 use Rattle.asdp_messages.specs.Datagram.{MessageValue}
 use Rattle.asdp_messages.specs.Datagram as message
 use Rattle.asdp_messages.specs.Reading.{reading_of}

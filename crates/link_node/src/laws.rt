@@ -15,6 +15,8 @@ ghost use Rattle.link_node.specs.Machine.{Machine, timeline_in};
 ghost use Rattle.link_node.specs.Runs.{machine_after, sent_by, published_by};
 ghost use Rattle.link_node.specs.Step.{step_of, sends_of};
 
+use session_choice::one_best;
+
 /// A step leads to the greater of the moment before and the event's, so moments never fall. The config stays.
 pub fn moments_never_fall()
     ensures moment { (m : Machine) (e : EventValue) → (step_of m e).moment ≡ int_max m.moment (moment_of e) }
@@ -49,7 +51,10 @@ pub fn timelines_are_brought()
 pub fn best_timelines_are_told()
     ensures told { (m : Machine) (e : EventValue) → AllByRecursion (IsToldIn m e) (sends_of m e) }
     ensures best { (m : Machine) → IsBest (m.sessions.current.first ∷ m.sessions.current.later) (timeline_in m) }
-{}
+{
+    // A law, for the proof: the timeline that counts is the first of greatest beat origin.
+    one_best();
+}
 
 /// A run of two lists of events is the run of the second from where the first has led.
 pub fn runs_go_on()

@@ -1,6 +1,7 @@
 //! Scripts worked out by hand from the rules: what a node tells and sends, event by event.
 
 ghost use Rattle.std.specs.Prelude.{◌≡◌, ◌≤◌, ◌<◌, length, IfOk};
+ghost use Rattle.link_payload.specs.Entries.{AreBytes};
 ghost use Rattle.link_node.specs.Config.{config_value, IsConfig};
 ghost use Rattle.link_node.specs.Standing.{gates_of};
 
@@ -17,7 +18,7 @@ use crate::{Change, Config, Event, GateSetup, Node, Sends};
 use arrayvec::ArrayVec;
 use asdp_messages::{write_alive, write_bye};
 use link_payload::PeerFields;
-use lk_base::{Endpoint, Gate, NodeId, SessionStart, Timeline, Wire};
+use lk_base::{Endpoint, Gate, NodeId, SessionStart, Timeline, Wire, append};
 use std::alloc::{AllocError, Global};
 
 // The host time at which each node opens.
@@ -102,6 +103,17 @@ fn leave(node: &mut Node, sends: &mut Sends, after: u32) -> Change
     node.step(&Event::End { now }, sends)
 }
 
+// The same bytes.
+fn wire_of(bytes: &[u8]) -> Wire
+    requires { length bytes.now ≤ 513 }
+    ensures bytes { AreBytes result.items }
+    ensures len { length result.items ≤ 513 }
+{
+    let mut wire = Wire::new();
+    append(&mut wire, bytes);
+    wire
+}
+
 // A datagram from the port 9 on a gate.
 fn hear(node: &mut Node, sends: &mut Sends, gate: u8, bytes: Wire, after: u32) -> Change
     requires { gate < gates_of node.old }
@@ -112,7 +124,7 @@ fn hear(node: &mut Node, sends: &mut Sends, gate: u8, bytes: Wire, after: u32) -
     let event = Event::Rx {
         gate: Gate(gate),
         from: endpoint(9),
-        bytes,
+        bytes: wire_of(&bytes),
         now,
     };
     node.step(&event, sends)
