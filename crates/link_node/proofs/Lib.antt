@@ -4,6 +4,17 @@ pub mod RuleLemmas
 pub mod TidyLemmas
 pub mod WellFormedLemmas
 pub mod DueLemmas
+pub mod NumberLemmas
+pub mod GateLemmas
+pub mod SourceLemmas
+pub mod PartLemmas
+pub mod MeasuringLemmas
+pub mod TakingLemmas
+pub mod CommitLemmas
+pub mod ArrivalLemmas
+pub mod BeginLemmas
+pub mod StepLemmas
+pub mod ForgetLemmas
 pub mod Lists
 pub mod MomentLemmas
 pub mod RunLemmas

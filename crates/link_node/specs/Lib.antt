@@ -2,6 +2,7 @@ pub mod Config
 pub mod Event
 pub mod Machine
 pub mod Opening
+pub mod Sent
 pub mod Telling
 pub mod Client
 pub mod Taking
@@ -13,6 +14,7 @@ pub mod Settling
 pub mod Broadcast
 pub mod Publishing
 pub mod Due
+pub mod Kinds
 pub mod Step
 pub mod Runs
 pub mod WellFormed
@@ -22,3 +24,4 @@ pub mod Staying
 pub mod News
 pub mod Starting
 pub mod Measured
+pub mod Beginning

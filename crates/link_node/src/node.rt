@@ -1,12 +1,17 @@
 //! A node: its opening, its step, and what it tells of itself.
 
-ghost use Rattle.std.specs.Prelude.{◌≡◌, ◌≤◌, ◌^◌, IfSome, length};
+ghost use Rattle.std.specs.Prelude.{◌≡◌, ◌≤◌, ◌≤ℤ◌, ◌^◌, pos, IfSome, length};
 ghost use Rattle.std.proofs.Props.{props};
 ghost use Rattle.lk_base.specs.Ranges.{IsMoment, IsWithin, IsWithinLimit};
 ghost use Rattle.lk_base.specs.Timeline.{IsTidy};
 ghost use Rattle.session_choice.specs.Table.{HasTidyTimelines};
 ghost use Rattle.client_state.specs.Commit.{IsTidyStart};
+ghost use Rattle.client_state.specs.Edits.{timeline_at};
 ghost use Rattle.client_state.specs.State.{IsTidyState};
+ghost use Rattle.link_node.specs.Config.{config_value, IsConfig};
+ghost use Rattle.link_node.specs.Event.{event_value};
+ghost use Rattle.link_node.specs.Kinds.{is_tick};
+ghost use Rattle.link_node.specs.Opening.{opening_state_of};
 
 mod arrival;
 mod broadcast;
@@ -22,10 +27,10 @@ mod tick;
 
 use crate::config::{Config, copied};
 use crate::event::{Change, Event};
+use crate::lasting::{nodes_are_well_formed, states_tell_the_counts};
 use crate::sends::Sends;
 use arrayvec::ArrayVec;
 use client_state::State;
-use ghost_xform::XForm;
 use lk_base::{ClientStart, IdSource, NodeId, SessionStart, Timeline};
 use peer_gateway::Peers;
 use ping_measure::Measure;
@@ -77,7 +82,7 @@ pub struct Node {
 }
 
 impl Node {
-    ghost use Rattle.std.specs.Prelude.{◌≡◌, ◌≤◌, ◌+◌, ◌++◌, length, IfOk};
+    ghost use Rattle.std.specs.Prelude.{◌≡◌, ◌≤◌, ◌+◌, ◌++◌, true, false, length, IfOk};
     ghost use Rattle.lk_base.specs.Ranges.{IsMoment};
     ghost use Rattle.lk_base.specs.Timeline.{IsTidy};
     ghost use Rattle.client_state.specs.State.{IsTidyState};
@@ -87,7 +92,8 @@ impl Node {
     ghost use Rattle.link_node.specs.Machine.{Machine, session_in, timeline_in};
     ghost use Rattle.link_node.specs.Opening.{opened};
     ghost use Rattle.link_node.specs.Standing.{StandsFor, HasParts, gates_of, app_of, audio_of};
-    ghost use Rattle.link_node.specs.Step.{step_of, sends_of, change_of, taken, answers, at_moment};
+    ghost use Rattle.link_node.specs.Step.{step_of, sends_of, change_of, taken, answers, at_moment, broadcast_by, alives_by};
+    ghost use Rattle.link_node.specs.Kinds.{is_tick};
     ghost use Rattle.link_node.specs.WellFormed.{AreSessions};
 
     /// Opens a node at a moment, alone in a session of its own that begins then with beat 0. Memory: room for the tables
@@ -100,27 +106,16 @@ impl Node {
         ensures app { IfOk result (λ node. app_of node ≡ 0) }
         ensures audio { IfOk result (λ node. audio_of node ≡ 0) }
     {
-        let session = Timeline {
-            mpb: config.mpb,
-            beat: 0,
-            time: 0,
-        };
-        let client = Timeline {
-            mpb: config.mpb,
-            beat: 0,
-            time: now,
-        };
-        let client_start = ClientStart {
-            playing: false,
-            time: 0,
-            stamp: 0,
-        };
+        // A law, for the proof: a node is well formed at its opening.
+        nodes_are_well_formed();
+        let published = opening_state(config, now);
+        let session = timeline_from(config.mpb, 0);
         Ok(Node {
             config: copied(config),
             moment: now,
             ids: IdSource::new(config.seed, 0),
             id: config.id,
-            sessions: Sessions::new(alloc, config.id, session, XForm { offset: -now })?,
+            sessions: Sessions::new(alloc, config.id, session, settling::beginning_at(now))?,
             session_start: settling::STILL,
             peers: Peers::new(alloc, config.gates.len() as u8)?,
             peer_count: 0,
@@ -129,19 +124,11 @@ impl Node {
             measure: None,
             last_broadcast: None,
             changed: false,
-            client,
-            client_start,
+            client: published.timeline,
+            client_start: published.start,
             app: 0,
             audio: 0,
-            published: State {
-                timeline: client,
-                start: client_start,
-                sync: config.sync,
-                peers: 0,
-                moment: now,
-                app: 0,
-                audio: 0,
-            },
+            published,
         })
     }
 
@@ -161,13 +148,13 @@ impl Node {
         ensures app { app_of self.new ≡ app_after (app_of self.old) (event_value event.now) }
         ensures audio { audio_of self.new ≡ audio_after (audio_of self.old) (event_value event.now) }
     {
+        // A law, for the proof: what is well formed stays so.
+        nodes_are_well_formed();
         let before = self.held();
         self.take(event, sends);
         self.settle();
         self.note(&before);
-        if is_tick(event) {
-            self.broadcast(sends);
-        }
+        self.broadcast_by(event, sends);
         self.publish()
     }
 
@@ -177,6 +164,8 @@ impl Node {
         ensures counts { (m : Machine) → StandsFor self.now m → (result.app ≡ app_of self.now) × (result.audio ≡ audio_of self.now) }
         ensures tidy { IsTidyState result }
     {
+        // A law, for the proof: the state published last tells the counts.
+        states_tell_the_counts();
         self.published
     }
 
@@ -216,8 +205,13 @@ impl Node {
         requires room { length sends.old + 129 ≤ 160 }
         ensures stands { (m : Machine) → AreSessions m → HasParts self.old m
             → HasParts self.new (taken (event_value event.now) (at_moment (moment_of (event_value event.now)) m)) }
-        ensures sends { (m : Machine) → HasParts self.old m
+        ensures sends { (m : Machine) → AreSessions m → HasParts self.old m
             → sends.new ≡ sends.old ++ answers (event_value event.now) (at_moment (moment_of (event_value event.now)) m) }
+        ensures tick { is_tick (event_value event.now) ≡ true → length sends.new ≤ length sends.old + 1 }
+        ensures len { length sends.new ≤ length sends.old + 128 }
+        ensures gates { gates_of self.new ≡ gates_of self.old }
+        ensures app { app_of self.new ≡ app_after (app_of self.old) (event_value event.now) }
+        ensures audio { audio_of self.new ≡ audio_after (audio_of self.old) (event_value event.now) }
     {
         match event {
             Event::Rx {
@@ -252,16 +246,69 @@ impl Node {
         }
     }
 
+    // A broadcast, in ticks alone.
+    fn broadcast_by(&mut self, event: &Event, sends: &mut Sends)
+        requires room { is_tick (event_value event.now) ≡ true → length sends.old + 128 ≤ 160 }
+        ensures stands { (m : Machine) → HasParts self.old m → HasParts self.new (broadcast_by (event_value event.now) m) }
+        ensures sends { (m : Machine) → HasParts self.old m → sends.new ≡ sends.old ++ alives_by (event_value event.now) m }
+        ensures tick { is_tick (event_value event.now) ≡ true → length sends.new ≤ length sends.old + 128 }
+        ensures other { is_tick (event_value event.now) ≡ false → sends.new ≡ sends.old }
+        ensures gates { gates_of self.new ≡ gates_of self.old }
+        ensures app { app_of self.new ≡ app_of self.old }
+        ensures audio { audio_of self.new ≡ audio_of self.old }
+    {
+        if is_tick(event) {
+            self.broadcast(sends);
+        }
+    }
+
     // The moment never falls.
     fn advance(&mut self, now: i64)
         requires { IsMoment now }
         ensures stands { (m : Machine) → HasParts self.old m → HasParts self.new (at_moment now m) }
+        ensures gates { gates_of self.new ≡ gates_of self.old }
+        ensures app { app_of self.new ≡ app_of self.old }
+        ensures audio { audio_of self.new ≡ audio_of self.old }
     {
         self.moment = self.moment.max(now);
     }
 }
 
+// The state at the opening: beat 0 is then, and nothing plays.
+fn opening_state(config: &Config, now: i64) -> State
+    requires config { IsConfig (config_value config.now) }
+    requires moment { IsMoment now }
+    ensures value { result ≡ opening_state_of (config_value config.now) now }
+    ensures tidy { IsTidyState result }
+{
+    State {
+        timeline: timeline_from(config.mpb, now),
+        start: ClientStart {
+            playing: false,
+            time: 0,
+            stamp: 0,
+        },
+        sync: config.sync,
+        peers: 0,
+        moment: now,
+        app: 0,
+        audio: 0,
+    }
+}
+
+// Beat 0 at a time.
+fn timeline_from(mpb: i64, time: i64) -> Timeline
+    requires mpb { (pos 60_060 ≤ℤ mpb) × (mpb ≤ℤ pos 3_000_000) }
+    requires time { IsMoment time }
+    ensures value { result ≡ timeline_at mpb (pos 0) time }
+    ensures tidy { IsTidy result }
+{
+    Timeline { mpb, beat: 0, time }
+}
+
 // Whether the event is time alone.
-fn is_tick(event: &Event) -> bool {
+fn is_tick(event: &Event) -> bool
+    ensures { result ≡ is_tick (event_value event.now) }
+{
     matches!(event, Event::Tick { .. })
 }

@@ -7,11 +7,11 @@ use lk_base::{Endpoint, Gate, NodeId, Wire};
 use ping_measure::answer_ping;
 
 impl Node {
-    ghost use Rattle.std.specs.Prelude.{◌≡◌, ◌<◌, ◌++◌, length};
+    ghost use Rattle.std.specs.Prelude.{◌≡◌, ◌<◌, ◌≤◌, ◌+◌, ◌++◌, length};
     ghost use Rattle.asdp_messages.specs.Reading.{reading_of};
     ghost use Rattle.link_node.specs.Arrival.{arrived, answers_to, is_heard, pongs_to};
     ghost use Rattle.link_node.specs.Machine.{Machine};
-    ghost use Rattle.link_node.specs.Standing.{HasParts, gates_of};
+    ghost use Rattle.link_node.specs.Standing.{HasParts, gates_of, app_of, audio_of};
     ghost use Rattle.link_node.specs.WellFormed.{AreSessions};
 
     // By the message in it. What isn't read does nothing.
@@ -22,6 +22,10 @@ impl Node {
             → HasParts self.new (arrived gate from (reading_of bytes.now.items) m) }
         ensures sends { (m : Machine) → HasParts self.old m
             → sends.new ≡ sends.old ++ answers_to gate from (reading_of bytes.now.items) m }
+        ensures len { length sends.new ≤ length sends.old + 1 }
+        ensures gates { gates_of self.new ≡ gates_of self.old }
+        ensures app { app_of self.new ≡ app_of self.old }
+        ensures audio { audio_of self.new ≡ audio_of self.old }
     {
         match read_datagram(bytes) {
             Ok(Message::Alive(msg)) => {
@@ -64,6 +68,7 @@ impl Node {
     fn answer(&self, gate: Gate, to: Endpoint, payload: &[u8], sends: &mut Sends)
         requires { length sends.old < 160 }
         ensures sends { (m : Machine) → HasParts self.now m → sends.new ≡ sends.old ++ pongs_to gate to payload.now m }
+        ensures len { length sends.new ≤ length sends.old + 1 }
     {
         let current = self.sessions.current();
         let ghost_time = current.xform.to_ghost(self.moment);

@@ -1,25 +1,30 @@
 //! Taking a commit.
 
 use crate::node::Node;
-use client_state::{Commit, session_from_client, start_to_session};
-use lk_base::{ClientStart, Timeline};
+use client_state::{Commit, later_start, session_from_client, start_to_session};
+use lk_base::{ClientStart, SessionStart, Timeline};
 
 impl Node {
-    ghost use Rattle.std.specs.Prelude.{◌≡◌, ◌<◌, ◌+◌, ◌^◌, is_some};
+    ghost use Rattle.std.specs.Prelude.{◌≡◌, ◌⊎◌, ◌<◌, ◌<ℤ◌, ◌+◌, ◌^◌, is_some, int_lt, IfSome};
+    ghost use Rattle.std.specs.Option.{ForSome};
     ghost use Rattle.lk_base.specs.Ranges.{IsWithinLimit};
     ghost use Rattle.lk_base.specs.Timeline.{IsTidy};
+    ghost use Rattle.session_choice.specs.History.{committed};
     ghost use Rattle.client_state.specs.Commit.{IsTidyCommit, IsTidyStart};
     ghost use Rattle.client_state.specs.Timelines.{session_from_client_of};
-    ghost use Rattle.link_node.specs.Commits.{app_taken, audio_taken, commit_taken, start_committed, client_taken};
-    ghost use Rattle.link_node.specs.Machine.{Machine, timeline_in, offset_in};
-    ghost use Rattle.link_node.specs.Standing.{HasParts, app_of, audio_of};
+    ghost use Rattle.link_node.specs.Commits.{app_taken, audio_taken, commit_taken, start_committed, with_client_start, client_taken};
+    ghost use Rattle.link_node.specs.Machine.{Machine, timeline_in, offset_in, start_in};
+    ghost use Rattle.link_node.specs.Standing.{HasParts, gates_of, app_of, audio_of};
+    ghost use Rattle.link_node.specs.WellFormed.{IsInLimits};
 
     // A commit of an application.
     pub(super) fn take_app(&mut self, commit: &Commit)
         requires tidy { IsTidyCommit commit.now }
         requires few { app_of self.old < 2 ^ 60 }
         ensures stands { (m : Machine) → HasParts self.old m → HasParts self.new (app_taken commit.now m) }
+        ensures gates { gates_of self.new ≡ gates_of self.old }
         ensures app { app_of self.new ≡ app_of self.old + 1 }
+        ensures audio { audio_of self.new ≡ audio_of self.old }
     {
         self.app += 1;
         self.take_commit(commit);
@@ -29,6 +34,8 @@ impl Node {
     pub(super) fn take_audio(&mut self, number: u64, commit: &Commit)
         requires tidy { IsTidyCommit commit.now }
         ensures stands { (m : Machine) → HasParts self.old m → HasParts self.new (audio_taken number commit.now m) }
+        ensures gates { gates_of self.new ≡ gates_of self.old }
+        ensures app { app_of self.new ≡ app_of self.old }
         ensures audio { audio_of self.new ≡ number }
     {
         self.audio = number;
@@ -39,6 +46,9 @@ impl Node {
     fn take_commit(&mut self, commit: &Commit)
         requires tidy { IsTidyCommit commit.now }
         ensures stands { (m : Machine) → HasParts self.old m → HasParts self.new (commit_taken commit.now m) }
+        ensures gates { gates_of self.new ≡ gates_of self.old }
+        ensures app { app_of self.new ≡ app_of self.old }
+        ensures audio { audio_of self.new ≡ audio_of self.old }
     {
         match commit.timeline {
             Some(client) => {
@@ -59,31 +69,96 @@ impl Node {
             → result ≡ is_some (session_from_client_of (timeline_in m) client at (offset_in m)) }
         ensures stands { (m : Machine) → HasParts self.old m
             → HasParts self.new (client_taken (session_from_client_of (timeline_in m) client at (offset_in m)) client m) }
+        ensures gates { gates_of self.new ≡ gates_of self.old }
+        ensures app { app_of self.new ≡ app_of self.old }
+        ensures audio { audio_of self.new ≡ audio_of self.old }
     {
-        let current = self.sessions.current();
-        let Ok(session) = session_from_client(&current.timeline, &client, at, current.xform) else {
+        let Some(session) = self.session_by(&client, at) else {
             return false;
         };
         self.client = client;
-        self.sessions.commit(session);
+        self.give_session(session);
         self.renew();
         true
     }
 
+    // The session's timeline that is made of a client's. None where its beat origin can't grow.
+    fn session_by(&self, client: &Timeline, at: i64) -> Option<Timeline>
+        requires client { IsTidy client.now }
+        requires at { IsWithinLimit at }
+        ensures value { (m : Machine) → HasParts self.now m
+            → result ≡ session_from_client_of (timeline_in m) client.now at (offset_in m) }
+        ensures tidy { IfSome result IsTidy }
+        ensures later { IfSome result (λ tl. (tl ≡ self.now.sessions.current.timeline)
+            ⊎ (self.now.sessions.current.timeline.beat <ℤ tl.beat)) }
+    {
+        let current = self.sessions.current();
+        match session_from_client(&current.timeline, client, at, current.xform) {
+            Ok(session) => Some(session),
+            Err(_) => None,
+        }
+    }
+
+    // The session takes a timeline.
+    fn give_session(&mut self, session: Timeline)
+        requires tidy { IsTidy session }
+        requires later { (session ≡ self.old.sessions.current.timeline)
+            ⊎ (self.old.sessions.current.timeline.beat <ℤ session.beat) }
+        ensures stands { (m : Machine) → HasParts self.old m
+            → HasParts self.new (record m { sessions = committed session m.sessions }) }
+        ensures gates { gates_of self.new ≡ gates_of self.old }
+        ensures app { app_of self.new ≡ app_of self.old }
+        ensures audio { audio_of self.new ≡ audio_of self.old }
+    {
+        self.sessions.commit(session);
+    }
+
     // A start counts where it is later than the client's; with sync, one that is later than the session's is the session's too.
     fn take_client_start(&mut self, start: &Option<ClientStart>)
+        requires { ForSome start.now IsTidyStart }
         ensures stands { (m : Machine) → HasParts self.old m → HasParts self.new (start_committed start.now m) }
+        ensures gates { gates_of self.new ≡ gates_of self.old }
+        ensures app { app_of self.new ≡ app_of self.old }
+        ensures audio { audio_of self.new ≡ audio_of self.old }
     {
-        let Some(start) = start else {
-            return;
-        };
-        if start.stamp <= self.client_start.stamp {
-            return;
+        if let Some(start) = start {
+            if self.is_earlier(start) {
+                self.hold_client_start(start);
+            }
         }
+    }
+
+    // Whether the client's start is earlier than this one.
+    fn is_earlier(&self, start: &ClientStart) -> bool
+        ensures { (m : Machine) → HasParts self.now m → result ≡ int_lt m.client_start.stamp start.now.stamp }
+    {
+        self.client_start.stamp < start.stamp
+    }
+
+    fn hold_client_start(&mut self, start: &ClientStart)
+        requires { IsTidyStart start.now }
+        ensures stands { (m : Machine) → HasParts self.old m → HasParts self.new (with_client_start start.now m) }
+        ensures gates { gates_of self.new ≡ gates_of self.old }
+        ensures app { app_of self.new ≡ app_of self.old }
+        ensures audio { audio_of self.new ≡ audio_of self.old }
+    {
+        self.session_start = self.session_start_by(start);
         self.client_start = *start;
+    }
+
+    // The session's start, where the client has this one: with sync the later of the two.
+    fn session_start_by(&self, start: &ClientStart) -> SessionStart
+        ensures value { (m : Machine) → HasParts self.now m → result ≡ start_in (with_client_start start.now m) }
+        ensures range { IsInLimits result }
+    {
+        if !self.config.sync {
+            return self.session_start;
+        }
         let current = self.sessions.current();
-        if self.config.sync && self.session_start.stamp < current.xform.to_ghost(start.stamp) {
-            self.session_start = start_to_session(start, &current.timeline, current.xform);
+        let seen = start_to_session(start, &current.timeline, current.xform);
+        match later_start(&self.session_start, &seen) {
+            Some(later) => later,
+            None => self.session_start,
         }
     }
 }

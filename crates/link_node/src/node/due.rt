@@ -31,7 +31,13 @@ impl Node {
         ensures { (m : Machine) → HasParts self.now m → result ≡ broadcast_due m.last_broadcast m.changed m.moment }
     {
         match self.last_broadcast {
-            Some(last) => last + if self.changed { SHORT_PERIOD } else { PERIOD },
+            Some(last) => {
+                if self.changed {
+                    last + SHORT_PERIOD
+                } else {
+                    last + PERIOD
+                }
+            }
             None => self.moment,
         }
     }

@@ -1,23 +1,28 @@
 //! The state that clients are shown.
 
-ghost use Rattle.std.specs.Prelude.{◌≡◌};
-ghost use Rattle.link_node.specs.Publishing.{alike};
+ghost use Rattle.std.specs.Prelude.{◌≡◌, ◌==◌, ◌&&◌};
+ghost use Rattle.client_state.specs.Commit.{same_bool};
+ghost use Rattle.link_node.specs.Publishing.{alike, same_client_start};
 
 use crate::event::Change;
 use crate::node::Node;
 use client_state::State;
+use lk_base::ClientStart;
 
 impl Node {
     ghost use Rattle.std.specs.Prelude.{◌≡◌};
     ghost use Rattle.client_state.specs.State.{IsTidyState};
     ghost use Rattle.link_node.specs.Machine.{Machine};
     ghost use Rattle.link_node.specs.Publishing.{state_in, change_in, shown};
-    ghost use Rattle.link_node.specs.Standing.{HasParts};
+    ghost use Rattle.link_node.specs.Standing.{HasParts, gates_of, app_of, audio_of};
 
     // The state is published where it differs from the last one in more than the moment.
     pub(super) fn publish(&mut self) -> Change
         ensures change { (m : Machine) → HasParts self.old m → result ≡ change_in m }
         ensures stands { (m : Machine) → HasParts self.old m → HasParts self.new (shown m) }
+        ensures gates { gates_of self.new ≡ gates_of self.old }
+        ensures app { app_of self.new ≡ app_of self.old }
+        ensures audio { audio_of self.new ≡ audio_of self.old }
     {
         let state = self.formed();
         if is_alike(&state, &self.published) {
@@ -45,13 +50,24 @@ impl Node {
 }
 
 // Whether two states are the same in all but the moment.
+#[tactic(auto, unfolding(crate::specs::Publishing::alike))]
 fn is_alike(a: &State, b: &State) -> bool
     ensures { result ≡ alike a.now b.now }
 {
-    a.timeline == b.timeline
-        && a.start == b.start
-        && a.sync == b.sync
-        && a.peers == b.peers
-        && a.app == b.app
-        && a.audio == b.audio
+    a.timeline == b.timeline && is_same_start(&a.start, &b.start) && has_same_counts(a, b)
+}
+
+fn is_same_start(a: &ClientStart, b: &ClientStart) -> bool
+    ensures { result ≡ same_client_start a.now b.now }
+{
+    a.playing == b.playing && a.time == b.time && a.stamp == b.stamp
+}
+
+// Whether two states have the same sync, peers and commits.
+fn has_same_counts(a: &State, b: &State) -> bool
+    ensures { result ≡
+        (same_bool a.now.sync b.now.sync
+        && ((a.now.peers == b.now.peers) && ((a.now.app == b.now.app) && (a.now.audio == b.now.audio)))) }
+{
+    a.sync == b.sync && a.peers == b.peers && a.app == b.app && a.audio == b.audio
 }

@@ -1,8 +1,9 @@
 //! What a node tells its peers of itself.
 
-ghost use Rattle.std.specs.Prelude.{◌≤◌, ◌+◌, length};
+ghost use Rattle.std.specs.Prelude.{◌≡◌, ◌≤◌, ◌<◌, ◌+◌, ◌++◌, length, map, option_map, slice_get, Some};
+ghost use Rattle.link_node.specs.Sent.{sent_on};
 
-use crate::config::Config;
+use crate::config::{Config, GateSetup};
 use crate::node::Node;
 use crate::sends::{Sending, Sends};
 use arrayvec::ArrayVec;
@@ -14,11 +15,12 @@ use lk_base::{Endpoint, Gate, Wire, append};
 const GROUP: u16 = 0;
 
 impl Node {
-    ghost use Rattle.std.specs.Prelude.{◌≡◌, ◌≤◌, ◌<◌, ◌+◌, ◌∷◌, [], ◌++◌, length, Option};
+    ghost use Rattle.std.specs.Prelude.{◌≡◌, ◌≤◌, ◌<◌, ◌+◌, ◌∷◌, [], ◌++◌, length, Option, slice_get};
     ghost use Rattle.lk_base.specs.declared.endpoint.Endpoint.{Endpoint};
     ghost use Rattle.link_node.specs.Machine.{Machine};
     ghost use Rattle.link_node.specs.Standing.{HasParts, gates_of};
-    ghost use Rattle.link_node.specs.Telling.{fields_in, response_to, alives_in, byes_in};
+    ghost use Rattle.link_node.specs.Telling.{fields_in, response_to, alives_in, byes_in, alive_of, bye_of};
+    ghost use Rattle.link_node.specs.Sent.{sent_at};
 
     // The state of the current session.
     fn fields(&self, endpoint: Option<Endpoint>) -> PeerFields
@@ -51,10 +53,21 @@ impl Node {
         ensures len { length sends.new ≤ length sends.old + 128 }
     {
         for k in 0..self.config.gates.len() {
-            let gate = &self.config.gates[k];
-            let alive = write_alive(self.id, GROUP, &self.fields(Some(gate.local)));
-            send_to_each(Gate(k as u8), &gate.peers, &alive, sends);
+            self.send_alive(k, sends);
         }
+    }
+
+    // An alive from one gate to each of its destinations.
+    fn send_alive(&self, k: usize, sends: &mut Sends)
+        requires gate { k < gates_of self.now }
+        requires room { length sends.old + 32 ≤ 160 }
+        ensures sends { (m : Machine) → HasParts self.now m
+            → sends.new ≡ sends.old ++ sent_at (alive_of m) k (slice_get m.config.gates k) }
+        ensures len { length sends.new ≤ length sends.old + 32 }
+    {
+        let gate = gate_at(&self.config, k);
+        let alive = write_alive(self.id, GROUP, &self.fields(Some(gate.local)));
+        send_to_each(Gate(k as u8), &gate.peers, &alive, sends);
     }
 
     // A bye from each gate to each of its destinations, in order.
@@ -63,15 +76,37 @@ impl Node {
         ensures sends { (m : Machine) → HasParts self.now m → sends.new ≡ sends.old ++ byes_in m }
         ensures len { length sends.new ≤ length sends.old + 128 }
     {
-        let bye = write_bye(self.id, GROUP);
         for k in 0..self.config.gates.len() {
-            send_to_each(Gate(k as u8), &self.config.gates[k].peers, &bye, sends);
+            self.send_bye(k, sends);
         }
+    }
+
+    // A bye from one gate to each of its destinations.
+    fn send_bye(&self, k: usize, sends: &mut Sends)
+        requires gate { k < gates_of self.now }
+        requires room { length sends.old + 32 ≤ 160 }
+        ensures sends { (m : Machine) → HasParts self.now m
+            → sends.new ≡ sends.old ++ sent_at (bye_of m) k (slice_get m.config.gates k) }
+        ensures len { length sends.new ≤ length sends.old + 32 }
+    {
+        let gate = gate_at(&self.config, k);
+        let bye = write_bye(self.id, GROUP);
+        send_to_each(Gate(k as u8), &gate.peers, &bye, sends);
     }
 }
 
+// The gate of a number.
+fn gate_at(config: &Config, k: usize) -> &GateSetup
+    requires { k < length config.now.gates.items }
+    ensures { slice_get config.now.gates.items k ≡ Some result.now }
+{
+    &config.gates[k]
+}
+
 // The local endpoint of a gate.
-fn local_of(config: &Config, gate: Gate) -> Option<Endpoint> {
+fn local_of(config: &Config, gate: Gate) -> Option<Endpoint>
+    ensures { result ≡ option_map (λ setup. setup.local) (slice_get config.now.gates.items gate.0) }
+{
     match config.gates.get(usize::from(gate.0)) {
         Some(setup) => Some(setup.local),
         None => None,
@@ -81,6 +116,8 @@ fn local_of(config: &Config, gate: Gate) -> Option<Endpoint> {
 // The bytes from a gate to each destination, in order.
 fn send_to_each(gate: Gate, peers: &ArrayVec<Endpoint, 32>, bytes: &Wire, sends: &mut Sends)
     requires { length sends.old + 32 ≤ 160 }
+    ensures sends { sends.new ≡ sends.old ++ map (sent_on gate bytes.now.items) peers.now.items }
+    ensures len { length sends.new ≤ length sends.old + 32 }
 {
     for to in peers.as_slice() {
         let mut copy = Wire::new();

@@ -1,0 +1,35 @@
+use Rattle.std.proofs.Common.{rules, ◌≡◌, ◌⊎◌, inl, inr, ◌∙◌, ◌++◌, [], sym, ap, append-nil}
+use Rattle.ping_measure.specs.Life.{pong_outcome, pong_after}
+use Rattle.ping_measure.specs.Life as measure
+use Rattle.ping_measure.specs.declared.outcome.Outcome.{Outcome}
+use Rattle.link_node.specs.Machine.{Machine}
+use Rattle.link_node.specs.Measuring.{pong_heard, pings_after_pong, judged, pings_of}
+use Rattle.link_node.specs.Standing.{HasParts}
+use Rattle.link_node.proofs.MeasuringLemmas.{Runs, runs, none_runs, no_pong}
+use Rattle.link_node.proofs.PartLemmas.{now_in}
+use Rattle.link_node.proofs.node.Node.hear_pong.Goals as goal
+
+pub returns-in_default-clause-stands : goal.returns-in_default-clause-stands
+unfolding pong_heard
+returns-in_default-clause-stands c m stands = rw (no_pong _ _ _ _ m (none_runs _ _ c.in_default.is stands.measuring)) (search rules)
+
+pub returns-in_default-clause-sends : goal.returns-in_default-clause-sends
+unfolding pings_after_pong
+returns-in_default-clause-sends c m stands = rw (none_runs _ _ c.in_default.is stands.measuring) (search rules)
+
+pub returns-clause-stands : goal.returns-clause-stands
+unfolding pong_heard
+returns-clause-stands c m stands =
+    let life = runs _ _ _ c.in-Some.is stands.measuring in
+    let told = rw (now_in _ m stands) at (c.pong-outcome.ensures.answer life.value life.stands) in
+    let kept = rw (now_in _ m stands) at (c.pong-outcome.ensures.stands life.value life.stands) in
+    let session = c.session-session.ensures life.value life.stands in
+    rw (life.is, sym told, sym session) (c.judge.ensures.stands _ (search rules))
+
+pub returns-clause-sends : goal.returns-clause-sends
+unfolding pings_after_pong
+returns-clause-sends c m stands =
+    let life = runs _ _ _ c.in-Some.is stands.measuring in
+    let told = rw (now_in _ m stands) at (c.pong-outcome.ensures.answer life.value life.stands) in
+    let target = c.target-target.ensures life.value life.stands in
+    rw (life.is, sym told, sym target) c.send_ping.ensures.sends

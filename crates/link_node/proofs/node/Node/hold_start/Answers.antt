@@ -1,0 +1,9 @@
+use Rattle.std.proofs.Common.{rules, ◌≡◌, ◌∙◌, sym}
+use Rattle.link_node.specs.Machine.{Machine}
+use Rattle.link_node.specs.Standing.{HasParts}
+use Rattle.link_node.proofs.PartLemmas.{some_if}
+use Rattle.link_node.proofs.node.Node.hold_start.Goals as goal
+
+pub invariant_of-self-clause-start : goal.invariant_of-self-clause-start
+invariant_of-self-clause-start c =
+    rw (some_if _ _ _ (sym c.later_start.ensures.value ∙ c.in-Some.is)) c.requires.range
