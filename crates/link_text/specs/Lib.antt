@@ -1,3 +1,12 @@
+pub mod Lines
 pub mod Words
+pub mod LineWords
 pub mod Line
+pub mod Spaced
+pub mod GateLines
 pub mod ReadingLine
+pub mod ReplayScript
+pub mod EventDetails
+pub mod HeadParts
+pub mod Places
+pub mod ReplayText

@@ -1,5 +1,5 @@
 -- The line that tells how a datagram is read: words parted by single spaces.
-use Rattle.std.specs.Prelude.{ℕ, List, [], ◌∷◌, codes, Option, Some, None, Result, Ok, Err}
+use Rattle.std.specs.Prelude.{ℕ, List, [], ◌∷◌, ◌≤◌, length, codes, Option, Some, None, Result, Ok, Err}
 use Rattle.std.specs.Fmt.{decimal, signed_decimal}
 use Rattle.std.specs.Int.{w32, to_be_bytes}
 use Rattle.hex.specs.Hex.{encode_lower}
@@ -69,3 +69,17 @@ reading_words_of (Err fault) = codes "fault" ∷ fault_words_of fault
 
 unfoldable pub reading_line_of : Result MessageValue WireFault → List ℕ
 reading_line_of reading = line_of (reading_words_of reading)
+
+-- a ping's payload has at most 503 bytes, as that of a datagram of at most 512 has
+abbrev pub IsShortMessage : MessageValue → Type 0
+IsShortMessage (Ping bytes) = length bytes ≤ 503
+IsShortMessage (Alive m) = Unit {0}
+IsShortMessage (Response m) = Unit {0}
+IsShortMessage (Bye from ttl group) = Unit {0}
+IsShortMessage (Pong f) = Unit {0}
+IsShortMessage (OtherDiscovery kind) = Unit {0}
+IsShortMessage (OtherLink kind) = Unit {0}
+
+abbrev pub IsShortReading : Result MessageValue WireFault → Type 0
+IsShortReading (Ok m) = IsShortMessage m
+IsShortReading (Err fault) = Unit {0}

@@ -1,8 +1,14 @@
--- How the words of a line are spelled: truth values, endpoints. (Numbers are std's `decimal` and
+-- How lines are spelled by their words, and the words: truth values, endpoints. (Numbers are std's `decimal` and
 -- `signed_decimal`, hex is `decode_of` of the crate `hex`.)
 use Rattle.std.specs.Prelude.{ℕ, ◌/◌, ◌%◌, ◌^◌, Bool, true, false, List, [], ◌∷◌, ◌++◌}
 use Rattle.std.specs.Fmt.{decimal}
 use Rattle.lk_base.specs.declared.endpoint.Endpoint.{Endpoint}
+
+-- words parted by single spaces
+abbrev pub joined : List (List ℕ) → List ℕ
+joined [] = []
+joined (word ∷ []) = word
+joined (word ∷ next ∷ words) = word ++ 32 ∷ joined (next ∷ words)
 
 -- 1 for what holds, 0 for what doesn't
 unfoldable pub truth_text_of : Bool → List ℕ

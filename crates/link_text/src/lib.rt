@@ -1,12 +1,44 @@
-//! The texts that the program writes.
+//! The texts that the program reads and writes.
 //!
-//! In reading order: `line` (a line and its words), `reading_line` (how a datagram is read).
+//! In reading order: `line` (a line that is put together), `text_line` (the lines of a text), `word`, `number`, `truth`, `node_id`,
+//! `endpoint`, `hex_word` (what a word says), `words`, `values` (a line word by word), `fault`, `head`,
+//! `replay_script`, `head_line`, `event_line`, `sending_line`, `state_line`, `reading_line`; last `laws`.
 #![tactic(auto)]
 
+mod commit_read;
+mod endpoint;
+mod event_line;
+mod event_read;
+mod fault;
+mod head;
+mod head_line;
+mod head_read;
+mod hex_word;
+mod laws;
 mod line;
+mod node_id;
+mod number;
+mod place;
 mod reading_line;
+mod replay_script;
+mod sending_line;
+mod state_line;
 #[cfg(test)]
 mod tests;
+mod text_line;
+mod truth;
+mod values;
+mod word;
+mod words;
 
+pub use event_line::write_event;
+pub use fault::BadLine;
+pub use head::Head;
+pub use head_line::write_head;
+pub use laws::{one_script, scripts_fit_nodes, written_scripts_are_read};
 pub use line::{LineBuf, put, put_decimal, put_endpoint, put_signed, put_truth};
 pub use reading_line::write_reading;
+pub use replay_script::{check_replay, next_event};
+pub use sending_line::write_sending;
+pub use state_line::{write_done_line, write_state_line};
+pub use text_line::line_at;

@@ -7,7 +7,7 @@ ghost use Rattle.hex.specs.Hex.{encode_lower};
 ghost use Rattle.link_text.specs.Words.{endpoint_text_of, truth_text_of};
 
 use arrayvec::ArrayVec;
-use lk_base::Endpoint;
+use lk_base::{ClientStart, Endpoint, Timeline};
 
 /// A line with its line feed: the longest has 1,100 bytes or so, a datagram in hex among them.
 pub type LineBuf = ArrayVec<u8, 1200>;
@@ -66,6 +66,34 @@ pub fn put_truth(line: &mut LineBuf, holds: bool)
     }
 }
 
+/// Appends tempo, beat origin and time origin, parted by spaces.
+pub fn put_timeline(line: &mut LineBuf, timeline: Timeline)
+    requires { array_vec_len line.old ≤ 1000 }
+    ensures items { line.new.items ≡ line.old.items
+        ++ (signed_decimal timeline.mpb ++ 32 ∷ (signed_decimal timeline.beat ++ 32 ∷ signed_decimal timeline.time)) }
+    ensures len { array_vec_len line.new ≤ array_vec_len line.old + 65 }
+{
+    put_signed(line, timeline.mpb);
+    put(line, b" ");
+    put_signed(line, timeline.beat);
+    put(line, b" ");
+    put_signed(line, timeline.time);
+}
+
+/// Appends whether it plays, the time and the stamp, parted by spaces.
+pub fn put_client_start(line: &mut LineBuf, start: ClientStart)
+    requires { array_vec_len line.old ≤ 1000 }
+    ensures items { line.new.items ≡ line.old.items
+        ++ (truth_text_of start.playing ++ 32 ∷ (signed_decimal start.time ++ 32 ∷ signed_decimal start.stamp)) }
+    ensures len { array_vec_len line.new ≤ array_vec_len line.old + 45 }
+{
+    put_truth(line, start.playing);
+    put(line, b" ");
+    put_signed(line, start.time);
+    put(line, b" ");
+    put_signed(line, start.stamp);
+}
+
 /// Appends an address and a port, as `127.0.0.1:20808`.
 #[tactic(auto, unfolding(crate::specs::Words::endpoint_text_of, crate::specs::Words::dotted))]
 pub fn put_endpoint(line: &mut LineBuf, endpoint: Endpoint)
@@ -85,17 +113,15 @@ pub fn put_endpoint(line: &mut LineBuf, endpoint: Endpoint)
     put_decimal(line, u64::from(port));
 }
 
-/// Appends at most 503 bytes in hex digits of lower case.
+/// Appends at most 513 bytes in hex digits of lower case.
 pub fn put_hex(line: &mut LineBuf, bytes: &[u8])
-    requires short { length bytes.now ≤ 503 }
+    requires short { length bytes.now ≤ 513 }
     requires room { array_vec_len line.old + 2 * length bytes.now ≤ 1200 }
     ensures items { line.new.items ≡ line.old.items ++ encode_lower bytes.now }
     ensures len { array_vec_len line.new ≡ array_vec_len line.old + 2 * length bytes.now }
 {
-    let mut digits = [0u8; 1006];
-    let room = &mut digits[..2 * bytes.len()];
-    hex::encode_to_slice(bytes, room).unwrap();
-    put(line, room);
+    let mut digits = [0u8; 1026];
+    put_hex_by(line, bytes, &mut digits[..2 * bytes.len()]);
 }
 
 /// Appends at most 8 bytes in hex digits of lower case.
@@ -106,7 +132,16 @@ pub fn put_short_hex(line: &mut LineBuf, bytes: &[u8])
     ensures len { array_vec_len line.new ≡ array_vec_len line.old + 2 * length bytes.now }
 {
     let mut digits = [0u8; 16];
-    let room = &mut digits[..2 * bytes.len()];
-    hex::encode_to_slice(bytes, room).unwrap();
-    put(line, room);
+    put_hex_by(line, bytes, &mut digits[..2 * bytes.len()]);
+}
+
+// Appends bytes in hex digits of lower case, by way of room for just those.
+fn put_hex_by(line: &mut LineBuf, bytes: &[u8], digits: &mut [u8])
+    requires digits { length digits.old ≡ 2 * length bytes.now }
+    requires room { array_vec_len line.old + 2 * length bytes.now ≤ 1200 }
+    ensures items { line.new.items ≡ line.old.items ++ encode_lower bytes.now }
+    ensures len { array_vec_len line.new ≡ array_vec_len line.old + 2 * length bytes.now }
+{
+    hex::encode_to_slice(bytes, digits).unwrap();
+    put(line, digits);
 }

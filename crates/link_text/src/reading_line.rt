@@ -9,11 +9,12 @@ ghost use Rattle.link_text.specs.Line.{line_of};
 ghost use Rattle.link_text.specs.ReadingLine.{fault_words_of, id_text_of, key_text_of, maybe_endpoint_text_of, message_words_of, payload_fault_words_of, payload_text_of, reading_line_of, state_words_of};
 
 use crate::line::{
-    LineBuf, put, put_decimal, put_endpoint, put_hex, put_short_hex, put_signed, put_truth,
+    LineBuf, put, put_decimal, put_endpoint, put_hex, put_short_hex, put_signed, put_timeline,
+    put_truth,
 };
 use asdp_messages::{Message, StateMsg, WireFault};
 use link_payload::{PayloadFault, PongFields};
-use lk_base::{Endpoint, NodeId, SessionStart, Timeline};
+use lk_base::{Endpoint, NodeId, SessionStart};
 
 /// Writes the line of a datagram's message or of its fault, with its line feed, in place of what the buffer held. Ids and keys are
 /// hex digits of lower case, numbers are decimal, and an absent endpoint or an empty payload is `-`.
@@ -157,20 +158,6 @@ fn put_sender(line: &mut LineBuf, from: NodeId, ttl: u8, group: u16)
     put_decimal(line, u64::from(ttl));
     put(line, b" ");
     put_decimal(line, u64::from(group));
-}
-
-// Tempo, beat origin and time origin.
-fn put_timeline(line: &mut LineBuf, timeline: Timeline)
-    requires { array_vec_len line.old ≤ 1000 }
-    ensures items { line.new.items ≡ line.old.items
-        ++ (signed_decimal timeline.mpb ++ 32 ∷ (signed_decimal timeline.beat ++ 32 ∷ signed_decimal timeline.time)) }
-    ensures len { array_vec_len line.new ≤ array_vec_len line.old + 65 }
-{
-    put_signed(line, timeline.mpb);
-    put(line, b" ");
-    put_signed(line, timeline.beat);
-    put(line, b" ");
-    put_signed(line, timeline.time);
 }
 
 // Whether it plays, the beats and the stamp.

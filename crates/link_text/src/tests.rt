@@ -1,3 +1,5 @@
+mod writing;
+
 use crate::{LineBuf, write_reading};
 use asdp_messages::{Message, StateMsg, WireFault};
 use link_payload::{PayloadFault, PeerFields, PongFields};

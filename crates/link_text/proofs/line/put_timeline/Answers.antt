@@ -1,6 +1,6 @@
 use Rattle.std.proofs.Common.{rules, append_assoc, FitsSigned, w64}
 use Rattle.std.proofs.lemmas.Int.{to_z-of_z}
-use Rattle.link_text.proofs.reading_line.put_timeline.Goals as goal
+use Rattle.link_text.proofs.line.put_timeline.Goals as goal
 
 pub returns-clause-items : goal.returns-clause-items
 returns-clause-items c =

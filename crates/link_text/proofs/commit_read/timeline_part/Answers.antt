@@ -1,0 +1,6 @@
+use Rattle.link_text.proofs.CommitLemmas.{no_timeline}
+use Rattle.link_text.proofs.commit_read.timeline_part.Goals as goal
+
+pub returns-in_default-timeline_in-clause-none : goal.returns-in_default-timeline_in-clause-none
+returns-in_default-timeline_in-clause-none c =
+    no_timeline _ _ _ c.in-Some.ensures.some (c.is_word.ensures.0 c.if-not-is_word.false) c.in_default-timeline_in.ensures.none

@@ -1,0 +1,15 @@
+use Rattle.std.proofs.Common.{◌≤◌, ◌-◌, ◌∙◌, ap, sym, arith, List, map}
+use Rattle.std.specs.Prelude.{slice_get}
+use Rattle.std.specs.List.{flat_map}
+use Rattle.link_node.specs.Config.{gate_value}
+use Rattle.link_node.specs.declared.config.GateSetup.{GateSetup}
+use Rattle.link_text.specs.ReplayScript.{gate_lines, head_lines}
+use Rattle.link_text.proofs.WrittenHeadLemmas.{slice_get_third}
+use Rattle.link_text.proofs.head_line.write_head.Goals as goal
+
+pub returns-clause-there : goal.returns-clause-there
+unfolding head_lines
+returns-clause-there c l e =
+    let two : 2 ≤ c.args.k = omega arith in
+    c.write_gates.ensures.there l
+    (ap (λ (gs : List GateSetup). slice_get (flat_map gate_lines (map gate_value gs)) (c.args.k - 2)) c.deref.ensures.0 ∙ (sym (slice_get_third _ _ _ c.args.k two) ∙ e))

@@ -1,0 +1,12 @@
+use Rattle.link_text.proofs.ScriptLemmas.{no_script}
+use Rattle.link_text.proofs.OneScriptLemmas.{one_config, one_fault}
+use Rattle.link_text.proofs.laws.one_script.Goals as goal
+
+pub returns-clause-config : goal.returns-clause-config
+returns-clause-config c = one_config
+
+pub returns-clause-fault : goal.returns-clause-fault
+returns-clause-fault c = one_fault
+
+pub returns-clause-no_fault : goal.returns-clause-no_fault
+returns-clause-no_fault c = λ text k config now es first is. no_script text k first config now es is

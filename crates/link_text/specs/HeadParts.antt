@@ -1,0 +1,57 @@
+-- Only for proofs: the lines of a head, one after the other.
+use Rattle.std.specs.Prelude.{◌≡◌, ◌≤◌, ◌<◌, ◌^◌, ◌⊎◌, ◌+◌, ℕ, ℤ, pos, ◌≤ℤ◌, List, [], ◌∷◌, ◌++◌, length, map, codes, All}
+use Rattle.std.specs.List.{flat_map}
+use Rattle.lk_base.specs.Endpoint.{IsEndpoint}
+use Rattle.lk_base.specs.Ranges.{IsMoment}
+use Rattle.lk_base.specs.declared.endpoint.Endpoint.{Endpoint}
+use Rattle.link_node.specs.Config.{ConfigValue, GateValue}
+use Rattle.link_text.specs.Words.{joined, endpoint_text_of}
+use Rattle.link_text.specs.ReplayScript.{IsVisibleId, IsGate, gate_lines, node_line}
+use Rattle.link_text.specs.declared.head_read.Node.{Node}
+
+abbrev pub gate_line : Endpoint → List ℕ
+gate_line e = joined (codes "gate" ∷ endpoint_text_of e ∷ [])
+
+abbrev pub to_line : Endpoint → List ℕ
+to_line e = joined (codes "to" ∷ endpoint_text_of e ∷ [])
+
+-- the setup that a node's line begins
+abbrev pub config_of : Node → List GateValue → ConfigValue
+config_of node gates = record { id = node.id; seed = node.seed; mpb = node.mpb; sync = node.sync; gates = gates }
+
+pub record IsNode (config : ConfigValue) (now : ℤ) : Type 0 where
+  pub id : IsVisibleId config.id
+  pub seed : config.seed < 2 ^ 64
+  pub fastest : pos 60_060 ≤ℤ config.mpb
+  pub slowest : config.mpb ≤ℤ pos 3_000_000
+  pub moment : IsMoment now
+
+pub record IsNodeLine (line : List ℕ) (node : Node) : Type 0 where
+  pub range : IsNode (config_of node []) node.now
+  pub said : line ≡ node_line (config_of node []) node.now
+
+-- lines that begin with no destination, or there is no room for one
+abbrev pub LacksTo : ℕ → List (List ℕ) → Type 0
+LacksTo count lines = ((e : Endpoint) (more : List (List ℕ)) → IsEndpoint e → lines ≡ to_line e ∷ more → ⊥) ⊎ (32 ≤ count)
+
+-- lines that begin with no gate, or there is no room for one
+abbrev pub LacksGate : ℕ → List (List ℕ) → Type 0
+LacksGate count lines = ((e : Endpoint) (more : List (List ℕ)) → IsEndpoint e → lines ≡ gate_line e ∷ more → ⊥) ⊎ (4 ≤ count)
+
+-- each gate has all the destinations that it can have
+abbrev pub AreFull : List GateValue → List (List ℕ) → Type 0
+AreFull [] rest = Unit {0}
+AreFull (gate ∷ gates) rest = LacksTo (length gate.destinations) (flat_map gate_lines gates ++ rest) × AreFull gates rest
+
+-- the lines are those of destinations, and then others
+pub record HasDestinations (lines : List (List ℕ)) (destinations : List Endpoint) (rest : List (List ℕ)) : Type 0 where
+  pub each : All IsEndpoint destinations
+  pub few : length destinations ≤ 32
+  pub said : lines ≡ map (λ to. to_line to) destinations ++ rest
+
+-- the lines are those of gates with all their destinations, and then others
+pub record HasGates (lines : List (List ℕ)) (gates : List GateValue) (rest : List (List ℕ)) : Type 0 where
+  pub each : All IsGate gates
+  pub few : length gates ≤ 4
+  pub said : lines ≡ flat_map gate_lines gates ++ rest
+  pub full : AreFull gates rest

@@ -1,0 +1,208 @@
+-- Replay scripts: a head that says how a node is opened, and then a line for each of its events.
+use Rattle.std.specs.Prelude.{◌≡◌, ◌≤◌, ◌<◌, ◌^◌, ◌⊎◌, ◌+◌, ℕ, ℤ, List, [], ◌∷◌, ◌++◌, length, map, codes, All, drop, Ok, Option, Some, None}
+use Rattle.std.specs.List.{flat_map}
+use Rattle.std.specs.Fmt.{decimal, signed_decimal}
+use Rattle.hex.specs.Hex.{decode_of, encode_lower}
+use Rattle.lk_base.specs.Endpoint.{IsEndpoint}
+use Rattle.lk_base.specs.Ranges.{IsMoment}
+use Rattle.lk_base.specs.declared.ids.NodeId.{NodeId}
+use Rattle.lk_base.specs.declared.start.ClientStart.{ClientStart}
+use Rattle.lk_base.specs.declared.timeline.Timeline.{Timeline}
+use Rattle.link_payload.specs.Entries.{AreBytes}
+use Rattle.client_state.specs.Commit.{IsTidyCommit}
+use Rattle.client_state.specs.declared.commit.Commit.{Commit}
+use Rattle.link_node.specs.Config.{ConfigValue, GateValue, IsConfig}
+use Rattle.link_node.specs.Event.{EventValue, Rx, Tick, App, Audio, End, moment_of, audio_after}
+use Rattle.link_text.specs.Lines.{lines_of, counting_in}
+use Rattle.link_text.specs.Words.{joined, truth_text_of, endpoint_text_of}
+
+-- ---- the head
+
+-- an id can be spelled where it is eight characters from `!` to `~`
+pub record IsVisibleId (id : NodeId) : Type 0 where
+  pub eight : length id.0 ≡ 8
+  pub visible : All (λ c. (33 ≤ c) × (c ≤ 126)) id.0
+
+-- at most 32 destinations
+pub record IsGate (gate : GateValue) : Type 0 where
+  pub local : IsEndpoint gate.local
+  pub few : length gate.destinations ≤ 32
+  pub destinations : All IsEndpoint gate.destinations
+
+-- what a head can say: the seed is a number of 64 bits
+pub record IsHead (config : ConfigValue) (now : ℤ) : Type 0 where
+  pub id : IsVisibleId config.id
+  pub seed : config.seed < 2 ^ 64
+  pub opens : IsConfig config
+  pub gates : All IsGate config.gates
+  pub moment : IsMoment now
+
+abbrev pub version_line : List ℕ
+version_line = joined (codes "replay" ∷ codes "1" ∷ [])
+
+abbrev pub node_line : ConfigValue → ℤ → List ℕ
+node_line config now =
+    joined (codes "node" ∷ config.id.0 ∷ decimal config.seed ∷ signed_decimal config.mpb ∷ truth_text_of config.sync ∷ signed_decimal now ∷ [])
+
+-- a gate's line, and those of its destinations
+abbrev pub gate_lines : GateValue → List (List ℕ)
+gate_lines gate =
+    joined (codes "gate" ∷ endpoint_text_of gate.local ∷ [])
+    ∷ map (λ to. joined (codes "to" ∷ endpoint_text_of to ∷ [])) gate.destinations
+
+unfoldable pub head_lines : ConfigValue → ℤ → List (List ℕ)
+head_lines config now = version_line ∷ node_line config now ∷ flat_map gate_lines config.gates
+
+-- ---- an event
+
+-- the words of a timeline and of a start, where they are there
+abbrev pub timeline_words : Option Timeline → List (List ℕ)
+timeline_words None = []
+timeline_words (Some tl) = codes "t" ∷ signed_decimal tl.mpb ∷ signed_decimal tl.beat ∷ signed_decimal tl.time ∷ []
+
+abbrev pub start_words : Option ClientStart → List (List ℕ)
+start_words None = []
+start_words (Some start) = codes "s" ∷ truth_text_of start.playing ∷ signed_decimal start.time ∷ signed_decimal start.stamp ∷ []
+
+abbrev pub commit_words : Commit → List (List ℕ)
+commit_words commit = signed_decimal commit.at ∷ (timeline_words commit.timeline ++ start_words commit.start)
+
+-- the words of an event, with a word for the bytes of a datagram
+unfoldable pub event_words : List ℕ → EventValue → List (List ℕ)
+event_words hex (Rx gate from bytes now) = codes "rx" ∷ signed_decimal now ∷ decimal gate.0 ∷ endpoint_text_of from ∷ hex ∷ []
+event_words hex (Tick now) = codes "tick" ∷ signed_decimal now ∷ []
+event_words hex (App commit now) = codes "app" ∷ signed_decimal now ∷ commit_words commit
+event_words hex (Audio number commit now) = codes "audio" ∷ signed_decimal now ∷ decimal number ∷ commit_words commit
+event_words hex (End now) = codes "end" ∷ signed_decimal now ∷ []
+
+-- hex digits of either case, two for each byte; no bytes are a hyphen
+abbrev pub IsHexOf : List ℕ → List ℕ → Type 0
+IsHexOf word [] = word ≡ 45 ∷ []
+IsHexOf word (b ∷ bytes) = decode_of word ≡ Ok (b ∷ bytes)
+
+abbrev pub IsHexIn : List ℕ → EventValue → Type 0
+IsHexIn hex (Rx gate from bytes now) = IsHexOf hex bytes
+IsHexIn hex (Tick now) = Unit {0}
+IsHexIn hex (App commit now) = Unit {0}
+IsHexIn hex (Audio number commit now) = Unit {0}
+IsHexIn hex (End now) = Unit {0}
+
+-- what an event line can say, where there are so many gates and the last audio commit had this number
+abbrev pub IsEventKind : ℕ → ℕ → EventValue → Type 0
+IsEventKind gates audio (Rx gate from bytes now) = (gate.0 < gates) × IsEndpoint from × AreBytes bytes × (length bytes ≤ 513)
+IsEventKind gates audio (Tick now) = Unit {0}
+IsEventKind gates audio (App commit now) = IsTidyCommit commit
+IsEventKind gates audio (Audio number commit now) = IsTidyCommit commit × (audio < number) × (number < 2 ^ 60)
+IsEventKind gates audio (End now) = Unit {0}
+
+pub record IsEventLine (gates audio : ℕ) (line : List ℕ) (e : EventValue) : Type 0 where
+  pub moment : IsMoment (moment_of e)
+  pub kind : IsEventKind gates audio e
+  pub hex : List ℕ
+  pub hex_is : IsHexIn hex e
+  pub said : line ≡ joined (event_words hex e)
+
+-- each line says its event
+abbrev pub AreEventLines : ℕ → ℕ → List (List ℕ) → List EventValue → Type 0
+AreEventLines gates audio [] [] = Unit {0}
+AreEventLines gates audio (line ∷ lines) (e ∷ es) =
+    IsEventLine gates audio line e × AreEventLines gates (audio_after audio e) lines es
+AreEventLines gates audio [] (e ∷ es) = ⊥
+AreEventLines gates audio (line ∷ lines) [] = ⊥
+
+-- ---- a script
+
+-- the lines that count are those of the head and then those of the events
+pub record IsScript (lines : List (List ℕ)) (config : ConfigValue) (now : ℤ) (es : List EventValue) : Type 0 where
+  pub head : IsHead config now
+  pub rest : List (List ℕ)
+  pub said : counting_in lines ≡ head_lines config now ++ rest
+  pub events : AreEventLines (length config.gates) 0 rest es
+
+abbrev pub IsScriptOf : List ℕ → ConfigValue → ℤ → List EventValue → Type 0
+IsScriptOf text config now es = IsScript (lines_of text) config now es
+
+-- the text is no script
+abbrev pub IsNoScript : List ℕ → Type 0
+IsNoScript text = (config : ConfigValue) (now : ℤ) (es : List EventValue) → IsScriptOf text config now es → ⊥
+
+-- ---- the first line at fault
+
+-- some script begins with these lines
+pub record BeginsScript (lines : List (List ℕ)) : Type 0 where
+  pub config : ConfigValue
+  pub now : ℤ
+  pub es : List EventValue
+  pub rest : List (List ℕ)
+  pub script : IsScript (lines ++ rest) config now es
+
+-- the lines before begin a script, and with this line they begin none
+pub record IsFaultAt (lines : List (List ℕ)) (k : ℕ) : Type 0 where
+  pub before : List (List ℕ)
+  pub line : List ℕ
+  pub after : List (List ℕ)
+  pub split : lines ≡ before ++ line ∷ after
+  pub number : k ≡ length before + 1
+  pub begins : BeginsScript before
+  pub fault : BeginsScript (before ++ line ∷ []) → ⊥
+
+-- the lines begin a script, and a line that it needs is absent
+pub record IsCutShort (lines : List (List ℕ)) (k : ℕ) : Type 0 where
+  pub number : k ≡ length lines + 1
+  pub begins : BeginsScript lines
+  pub fault : (config : ConfigValue) (now : ℤ) (es : List EventValue) → IsScript lines config now es → ⊥
+
+-- the first line at fault, counted from 1, those passed over among them
+abbrev pub IsFirstFault : List ℕ → ℕ → Type 0
+IsFirstFault text k = IsFaultAt (lines_of text) k ⊎ IsCutShort (lines_of text) k
+
+pub record IsLineFault (text : List ℕ) (k : ℕ) : Type 0 where
+  pub first : IsFirstFault text k
+  pub none : IsNoScript text
+  pub counted : k < 2 ^ 32
+
+-- ---- from a place on
+
+-- the lines that begin at a place say these events, of the gates that a node may have
+pub record SaysFrom (gates audio : ℕ) (text : List ℕ) (at : ℕ) (es : List EventValue) : Type 0 where
+  pub few : gates ≤ 4
+  pub within : at ≤ length text
+  pub lines : AreEventLines gates audio (counting_in (lines_of (drop at text))) es
+
+-- some events are said from there on
+abbrev pub SaysSome : List ℕ → ℕ → Type 0
+SaysSome text at = (gates audio : ℕ) × (es : List EventValue) × SaysFrom gates audio text at es
+
+-- the text is a script with this head, and its events are said from the place on
+pub record IsChecked (text : List ℕ) (config : ConfigValue) (now : ℤ) (first : ℕ) : Type 0 where
+  pub es : List EventValue
+  pub script : IsScriptOf text config now es
+  pub from : SaysFrom (length config.gates) 0 text first es
+
+-- what is written for a node and its events: hex in lower case
+abbrev pub hex_word : List ℕ → List ℕ
+hex_word [] = 45 ∷ []
+hex_word (b ∷ bytes) = encode_lower (b ∷ bytes)
+
+abbrev pub hex_of : EventValue → List ℕ
+hex_of (Rx gate from bytes now) = hex_word bytes
+hex_of (Tick now) = []
+hex_of (App commit now) = []
+hex_of (Audio number commit now) = []
+hex_of (End now) = []
+
+abbrev pub event_line : EventValue → List ℕ
+event_line e = joined (event_words (hex_of e) e)
+
+-- the whole text that is written, each line with its line feed
+abbrev pub ended : List ℕ → List ℕ
+ended line = line ++ 10 ∷ []
+
+unfoldable pub written_script_of : ConfigValue → ℤ → List EventValue → List ℕ
+written_script_of config now es = flat_map ended (head_lines config now) ++ flat_map (λ e. ended (event_line e)) es
+
+-- each event can be said after those before it
+abbrev pub AreSayable : ℕ → ℕ → List EventValue → Type 0
+AreSayable gates audio [] = Unit {0}
+AreSayable gates audio (e ∷ es) =
+    (IsMoment (moment_of e) × IsEventKind gates audio e) × AreSayable gates (audio_after audio e) es

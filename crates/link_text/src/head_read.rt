@@ -1,0 +1,168 @@
+//! Reading the lines of a script's head.
+
+ghost use Rattle.std.specs.Prelude.{◌≡◌, ◌≤◌, ◌∷◌, [], ◌↔◌, ℕ, ℤ, List, length, map, codes, IsTrue, IfSome, IfNone};
+ghost use Rattle.std.specs.Fmt.{decimal, signed_decimal};
+ghost use Rattle.lk_base.specs.Endpoint.{IsEndpoint};
+ghost use Rattle.lk_base.specs.declared.endpoint.Endpoint.{Endpoint};
+ghost use Rattle.link_node.specs.Config.{ConfigValue, gate_value};
+ghost use Rattle.link_text.specs.HeadParts.{HasDestinations, HasGates, IsNode, IsNodeLine, config_of, LacksGate, LacksTo, gate_line, to_line};
+ghost use Rattle.link_text.specs.LineWords.{words_of};
+ghost use Rattle.link_text.specs.Places.{IsAhead, counting_from};
+ghost use Rattle.link_text.specs.ReplayScript.{node_line, version_line};
+ghost use Rattle.link_text.specs.Words.{endpoint_text_of, truth_text_of};
+
+use crate::place::{Place, line_from};
+use crate::values::{endpoint_in, id_in, moment_in, number_in, tempo_in, truth_in};
+use crate::words::{first_word, is_end, is_word};
+use arrayvec::ArrayVec;
+use link_node::GateSetup;
+use lk_base::{Endpoint, NodeId};
+
+/// What the line of a node says.
+#[derive(Clone, Copy, Debug)]
+pub(crate) struct Node {
+    pub id: NodeId,
+    pub seed: u64,
+    /// The tempo of its first session, in microseconds per beat.
+    pub mpb: i64,
+    /// Whether starts are shared with the session.
+    pub sync: bool,
+    /// The opening moment, in microseconds.
+    pub now: i64,
+}
+
+/// Whether a line is the first one of a script.
+pub(crate) fn is_version_line(line: &[u8]) -> bool
+    ensures { IsTrue result ↔ (line.now ≡ version_line) }
+{
+    is_word(line, b"replay 1")
+}
+
+/// What the line of a node says.
+pub(crate) fn node_of(line: &[u8]) -> Option<Node>
+    ensures some { IfSome result (IsNodeLine line.now) }
+    ensures none { IfNone result ((config : ConfigValue) (now : ℤ) → IsNode config now
+        → line.now ≡ node_line config now → ⊥) }
+{
+    node_in(line)
+}
+
+// What the words of a node's line say.
+fn node_in(line: &[u8]) -> Option<Node>
+    ensures some { IfSome result (λ node. IsNode (config_of node []) node.now × (words_of line.now
+        ≡ codes "node" ∷ node.id.0 ∷ decimal node.seed ∷ signed_decimal node.mpb ∷ truth_text_of node.sync
+        ∷ signed_decimal node.now ∷ [])) }
+    ensures none { IfNone result ((config : ConfigValue) (now : ℤ) → IsNode config now → words_of line.now
+        ≡ codes "node" ∷ config.id.0 ∷ decimal config.seed ∷ signed_decimal config.mpb ∷ truth_text_of config.sync
+        ∷ signed_decimal now ∷ [] → ⊥) }
+{
+    let (kind, left) = first_word(line);
+    if !is_word(kind, b"node") {
+        return None;
+    }
+    let Some((id, left)) = id_in(left) else {
+        return None;
+    };
+    let Some((seed, left)) = number_in(left, u64::MAX) else {
+        return None;
+    };
+    let Some((mpb, left)) = tempo_in(left) else {
+        return None;
+    };
+    let Some((sync, left)) = truth_in(left) else {
+        return None;
+    };
+    let Some((now, left)) = moment_in(left) else {
+        return None;
+    };
+    if !is_end(left) {
+        return None;
+    }
+    Some(Node {
+        id,
+        seed,
+        mpb,
+        sync,
+        now,
+    })
+}
+
+/// The gates whose lines stand from a place on, at most four, and the place behind them.
+pub(crate) fn gates_from(text: &[u8], start: Place) -> (ArrayVec<GateSetup, 4>, Place)
+    requires { IsAhead text.now start }
+    ensures ahead { IsAhead text.now result.1 }
+    ensures gates { HasGates (counting_from text.now start.at) (map gate_value result.0.items)
+        (counting_from text.now result.1.at) }
+    ensures all { LacksGate (length result.0.items) (counting_from text.now result.1.at) }
+{
+    let mut gates = ArrayVec::new();
+    let mut place = start;
+    while place.at < text.len() && !gates.is_full() {
+        let (line, next) = line_from(text, place);
+        let Some(local) = gate_of(line) else {
+            return (gates, place);
+        };
+        let (peers, behind) = destinations_from(text, next);
+        gates.push(GateSetup { local, peers });
+        place = behind;
+    }
+    (gates, place)
+}
+
+// The destinations whose lines stand from a place on, at most 32, and the place behind them.
+fn destinations_from(text: &[u8], start: Place) -> (ArrayVec<Endpoint, 32>, Place)
+    requires { IsAhead text.now start }
+    ensures ahead { IsAhead text.now result.1 }
+    ensures destinations { HasDestinations (counting_from text.now start.at) result.0.items
+        (counting_from text.now result.1.at) }
+    ensures all { LacksTo (length result.0.items) (counting_from text.now result.1.at) }
+    ensures further { start.at ≤ result.1.at }
+{
+    let mut destinations = ArrayVec::new();
+    let mut place = start;
+    while place.at < text.len() && !destinations.is_full() {
+        let (line, next) = line_from(text, place);
+        let Some(to) = destination_of(line) else {
+            return (destinations, place);
+        };
+        destinations.push(to);
+        place = next;
+    }
+    (destinations, place)
+}
+
+// The endpoint that the line of a gate says.
+fn gate_of(line: &[u8]) -> Option<Endpoint>
+    ensures some { IfSome result (λ e. IsEndpoint e × (line.now ≡ gate_line e)) }
+    ensures none { IfNone result ((e : Endpoint) → IsEndpoint e → line.now ≡ gate_line e → ⊥) }
+{
+    endpoint_behind(line, b"gate")
+}
+
+// The endpoint that the line of a destination says.
+fn destination_of(line: &[u8]) -> Option<Endpoint>
+    ensures some { IfSome result (λ e. IsEndpoint e × (line.now ≡ to_line e)) }
+    ensures none { IfNone result ((e : Endpoint) → IsEndpoint e → line.now ≡ to_line e → ⊥) }
+{
+    endpoint_behind(line, b"to")
+}
+
+// The endpoint that stands behind a word, at the end of the line.
+fn endpoint_behind(line: &[u8], kind: &[u8]) -> Option<Endpoint>
+    ensures some { IfSome result (λ e. IsEndpoint e
+        × (words_of line.now ≡ kind.now ∷ endpoint_text_of e ∷ [])) }
+    ensures none { IfNone result ((e : Endpoint) → IsEndpoint e
+        → words_of line.now ≡ kind.now ∷ endpoint_text_of e ∷ [] → ⊥) }
+{
+    let (word, left) = first_word(line);
+    if !is_word(word, kind) {
+        return None;
+    }
+    let Some((endpoint, left)) = endpoint_in(left) else {
+        return None;
+    };
+    if !is_end(left) {
+        return None;
+    }
+    Some(endpoint)
+}

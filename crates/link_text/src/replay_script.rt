@@ -1,0 +1,159 @@
+//! Replay scripts: checking one, and taking its events.
+
+ghost use Rattle.std.specs.Prelude.{◌≡◌, ◌≤◌, ◌<◌, ◌-◌, ◌^◌, ◌∷◌, [], ℕ, ℤ, List, length, IfOk, IfErr, IfSome, IfNone};
+ghost use Rattle.link_node.specs.Config.{ConfigValue, config_value};
+ghost use Rattle.link_node.specs.Event.{EventValue, event_value, audio_after};
+ghost use Rattle.link_text.specs.HeadParts.{IsNode, config_of};
+ghost use Rattle.link_text.specs.Places.{HasBadEvent, IsAhead, counting_from};
+ghost use Rattle.link_text.specs.ReplayScript.{AreEventLines, IsChecked, IsLineFault, SaysFrom, SaysSome, node_line, version_line};
+
+use crate::event_read::event_of;
+use crate::fault::BadLine;
+use crate::head::Head;
+use crate::head_read::{Node, gates_from, is_version_line, node_of};
+use crate::place::{Place, first_place, line_from, pass};
+use crate::text_line::line_at;
+use link_node::{Config, Event};
+
+/// How many gates a node may have.
+const MOST_GATES: u8 = 4;
+
+/// Reads a replay script to its end: its head, and where its events begin; or the first line at fault. Empty lines and those
+/// that begin with `#` are passed over. Memory: none.
+pub fn check_replay(text: &[u8]) -> Result<Head, BadLine>
+    requires { length text.now ≤ 2 ^ 32 - 2 }
+    ensures script { IfOk result (λ head. IsChecked text.now (config_value head.config) head.now head.first) }
+    ensures fault { IfErr result (λ bad. IsLineFault text.now bad.line) }
+{
+    match read_script(text) {
+        Ok(head) => Ok(head),
+        Err(place) => Err(BadLine {
+            line: place.number as u32,
+        }),
+    }
+}
+
+/// The next event of a script that was checked, and moves on to where the line after it begins. None where no event's line
+/// stands from the place on. Memory: none.
+pub fn next_event(text: &[u8], at: &mut usize) -> Option<Event>
+    requires { SaysSome text.now at.old }
+    ensures some { IfSome result (λ event. (gates audio : ℕ) (es : List EventValue) → SaysFrom gates audio text.now at.old es
+        → (rest : List EventValue) × (es ≡ event_value event ∷ rest) × SaysFrom gates (audio_after audio (event_value event)) text.now at.new rest) }
+    ensures none { IfNone result ((gates audio : ℕ) (es : List EventValue) → SaysFrom gates audio text.now at.old es → es ≡ []) }
+    ensures stays { IfNone result (at.new ≡ at.old) }
+{
+    let start = Place { at: *at, number: 1 };
+    let place = pass(text, start);
+    if place.at == text.len() {
+        return None;
+    }
+    let (line, next) = line_at(text, place.at);
+    let Some(event) = event_of(line, MOST_GATES, 0) else {
+        return None;
+    };
+    *at = next;
+    Some(event)
+}
+
+// The whole script, or the place of the first line at fault.
+fn read_script(text: &[u8]) -> Result<Head, Place>
+    requires { length text.now ≤ 2 ^ 32 - 2 }
+    ensures script { IfOk result (λ head. IsChecked text.now (config_value head.config) head.now head.first) }
+    ensures fault { IfErr result (λ place. IsLineFault text.now place.number) }
+{
+    let first = first_place(text);
+    let Some(second) = version_from(text, first) else {
+        return Err(first);
+    };
+    let Some((node, third)) = node_from(text, second) else {
+        return Err(second);
+    };
+    let (gates, place) = gates_from(text, third);
+    if gates.is_empty() {
+        return Err(third);
+    }
+    if let Err(bad) = events_from(text, place, gates.len() as u8) {
+        return Err(bad);
+    }
+    Ok(Head {
+        config: Config {
+            id: node.id,
+            seed: node.seed,
+            mpb: node.mpb,
+            sync: node.sync,
+            gates,
+        },
+        now: node.now,
+        first: place.at,
+    })
+}
+
+// The place behind the version line, if that is the next one.
+fn version_from(text: &[u8], place: Place) -> Option<Place>
+    requires { IsAhead text.now place }
+    ensures ahead { IfSome result (IsAhead text.now) }
+    ensures some { IfSome result (λ next.
+        counting_from text.now place.at ≡ version_line ∷ counting_from text.now next.at) }
+    ensures none { IfNone result ((rest : List (List ℕ))
+        → counting_from text.now place.at ≡ version_line ∷ rest → ⊥) }
+{
+    if place.at == text.len() {
+        return None;
+    }
+    let (line, next) = line_from(text, place);
+    if !is_version_line(line) {
+        return None;
+    }
+    Some(next)
+}
+
+// What the node's line says and the place behind it, if that is the next one.
+fn node_from(text: &[u8], place: Place) -> Option<(Node, Place)>
+    requires { IsAhead text.now place }
+    ensures ahead { IfSome result (λ found. IsAhead text.now found.1) }
+    ensures some { IfSome result (λ found. IsNode (config_of found.0 []) found.0.now
+        × (counting_from text.now place.at ≡ node_line (config_of found.0 []) found.0.now ∷ counting_from text.now found.1.at)) }
+    ensures none { IfNone result ((config : ConfigValue) (now : ℤ) (rest : List (List ℕ)) → IsNode config now
+        → counting_from text.now place.at ≡ node_line config now ∷ rest → ⊥) }
+{
+    if place.at == text.len() {
+        return None;
+    }
+    let (line, next) = line_from(text, place);
+    let Some(node) = node_of(line) else {
+        return None;
+    };
+    Some((node, next))
+}
+
+// Whether all lines from a place on say events; the error is the first that says none.
+fn events_from(text: &[u8], start: Place, gates: u8) -> Result<(), Place>
+    requires ahead { IsAhead text.now start }
+    requires some_gate { 0 < gates }
+    requires few_gates { gates ≤ 4 }
+    ensures events { IfOk result (λ done. (es : List EventValue)
+        × AreEventLines gates 0 (counting_from text.now start.at) es) }
+    ensures fault { IfErr result (HasBadEvent gates text.now (counting_from text.now start.at)) }
+{
+    let mut place = start;
+    let mut audio = 0;
+    while place.at < text.len() {
+        let (line, next) = line_from(text, place);
+        let Some(event) = event_of(line, gates, audio) else {
+            return Err(place);
+        };
+        audio = audio_behind(&event, audio);
+        place = next;
+    }
+    Ok(())
+}
+
+// The number of the last audio commit, once an event has come.
+fn audio_behind(event: &Event, audio: u64) -> u64
+    ensures { result ≡ audio_after audio (event_value event.now) }
+{
+    match event {
+        Event::Audio { number, .. } => *number,
+        _ => audio,
+    }
+}
