@@ -49,15 +49,21 @@ pub const ORDERS: [&str; 30] = [
     "B00.a1B00.p1B10.ox1p2B21.A21.",
 ];
 
-/// A link with two passes, and how many commits each of them made.
+/// A pass, and the beat of the last commit that it made. Those of the first pass are from 101 on, those of the second from
+/// 201 on.
+#[derive(Drop)]
+struct Client<C: StateCell<9>, N: LinkName> {
+    pass: AppPass<C, N>,
+    beat: u16,
+}
+
+/// A link with two passes, and how many commits were popped.
 #[derive(Drop)]
 struct Bench<C: StateCell<9>, N: LinkName> {
     link: Link<C, N>,
-    first: AppPass<C, N>,
-    second: AppPass<C, N>,
+    first: Client<C, N>,
+    second: Client<C, N>,
     ends: Ends<C, N>,
-    of_first: u16,
-    of_second: u16,
     popped: u64,
 }
 
@@ -82,7 +88,7 @@ fn capture_answer(capture: &Capture, own: u16) -> [u8; 3] {
     }
 }
 
-/// The commits of the first pass have beats from 101 on, those of the second from 201 on.
+/// Whose commit it is, and which one.
 fn pop_answer(item: Option<Item>) -> [u8; 3] {
     match item {
         None => *b"-  ",
@@ -101,6 +107,27 @@ fn pop_answer(item: Option<Item>) -> [u8; 3] {
     }
 }
 
+impl<C: StateCell<9>, N: LinkName> Client<C, N> {
+    fn commit<R: Wait>(&mut self, rt: &R, link: &Link<C, N>) -> [u8; 3] {
+        let Client { pass, beat } = self;
+        *beat = beat.saturating_add(1);
+        let number = link.commit(rt, pass, edit(*beat));
+        [digit(number.unwrap_or(10)), b' ', b' ']
+    }
+
+    fn capture<R: Wait>(
+        &mut self,
+        rt: &R,
+        alloc: Global,
+        way: &C::Way,
+        link: &Link<C, N>,
+    ) -> Result<[u8; 3], AllocError> {
+        let Client { pass, beat } = self;
+        let capture = link.capture(rt, alloc, way, pass)?;
+        Ok(capture_answer(&capture, *beat))
+    }
+}
+
 impl<C: StateCell<9>, N: LinkName> Bench<C, N> {
     fn take_step<R: Wait>(
         &mut self,
@@ -114,23 +141,11 @@ impl<C: StateCell<9>, N: LinkName> Bench<C, N> {
             first,
             second,
             ends,
-            of_first,
-            of_second,
             popped,
         } = self;
-        let own_first = of_first.saturating_add(100);
-        let own_second = of_second.saturating_add(200);
         match step {
-            b'a' => {
-                let number = link.commit(rt, first, edit(own_first.saturating_add(1)));
-                *of_first = of_first.saturating_add(1);
-                Ok([digit(number.unwrap_or(10)), b' ', b' '])
-            }
-            b'b' => {
-                let number = link.commit(rt, second, edit(own_second.saturating_add(1)));
-                *of_second = of_second.saturating_add(1);
-                Ok([digit(number.unwrap_or(10)), b' ', b' '])
-            }
+            b'a' => Ok(first.commit(rt, link)),
+            b'b' => Ok(second.commit(rt, link)),
             b'q' => Ok([if link.quit(rt).is_ok() { b'.' } else { b'*' }, b' ', b' ']),
             b'o' => {
                 let item = ends.pop(rt, link);
@@ -143,14 +158,8 @@ impl<C: StateCell<9>, N: LinkName> Bench<C, N> {
                 let number = ends.publish(link, way, &state_of(*popped));
                 Ok([digit(number), b' ', b' '])
             }
-            b'A' => {
-                let capture = link.capture(rt, alloc, way, first)?;
-                Ok(capture_answer(&capture, own_first))
-            }
-            _ => {
-                let capture = link.capture(rt, alloc, way, second)?;
-                Ok(capture_answer(&capture, own_second))
-            }
+            b'A' => first.capture(rt, alloc, way, link),
+            _ => second.capture(rt, alloc, way, link),
         }
     }
 }
@@ -172,11 +181,15 @@ pub fn play_order<C: StateCell<9>, N: LinkName, R: Wait + Abort>(
     let second = link.app_pass(rt, alloc, way, &mut first)?;
     let mut bench = Bench {
         link,
-        first,
-        second,
+        first: Client {
+            pass: first,
+            beat: 100,
+        },
+        second: Client {
+            pass: second,
+            beat: 200,
+        },
         ends,
-        of_first: 0,
-        of_second: 0,
         popped: 0,
     };
     let mut answer = *b"   ";
