@@ -6,9 +6,13 @@ ghost use Rattle.link_node.specs.Config.{config_value, IsConfig};
 ghost use Rattle.link_node.specs.Standing.{gates_of};
 
 mod broadcasts;
+mod commits;
 mod due;
 mod founding;
+mod measuring;
 mod states;
+mod taking;
+mod ticks;
 
 use crate::{Change, Config, Event, GateSetup, Node, Sends};
 use arrayvec::ArrayVec;
