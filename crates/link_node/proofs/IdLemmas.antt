@@ -1,15 +1,13 @@
 -- Ids in lists: which stand there, and that none does twice.
-use Rattle.std.proofs.Common.{◌≡◌, ◌⊎◌, ◌≤◌, Bool, true, false, List, [], ◌∷◌, ◌++◌, length, map, filter, Option, Some, None, refl, sym, ap, ◌∙◌, subst, inl, inr, suc, arith}
+use Rattle.std.proofs.Common.{◌≡◌, ◌⊎◌, ◌≤◌, true, false, List, [], ◌∷◌, ◌++◌, length, map, Some, refl, sym, ap, ◌∙◌, subst, inl, inr, suc, arith}
 use Rattle.std.specs.Prelude.{if◌then◌else◌, is_some}
-use Rattle.std.specs.List.{AllByRecursion, list_any}
 use Rattle.std.proofs.lemmas.Bool.{false≢true, false_from_ne_true}
 use Rattle.lk_base.specs.IdOrder.{same_id}
 use Rattle.lk_base.specs.declared.ids.NodeId.{NodeId}
 use Rattle.peer_gateway.specs.Happenings.{Has}
-use Rattle.peer_gateway.proofs.MemberLemmas.{Distinct, all_from_has, has_from_all, has_from_any, any_from_has, has_map, map_has, filter_has}
+use Rattle.peer_gateway.proofs.MemberLemmas.{Distinct, all_from_has, has_from_all, has_from_any, any_from_has}
 use Rattle.session_choice.specs.Keyed.{found_by, updated_by, without_by}
 use Rattle.session_choice.proofs.DistinctLemmas.{same-equal, same-itself}
-use Rattle.session_choice.proofs.KeyedLemmas.{map-updated, map-without}
 use Rattle.session_choice.proofs.Lists.{by_test}
 use Rattle.link_node.specs.Tick.{is_waiting}
 use Rattle.link_node.specs.WellFormed.{AreDistinct}

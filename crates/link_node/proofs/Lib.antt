@@ -20,3 +20,4 @@ pub mod RunLemmas
 pub mod TakenLemmas
 pub mod BroughtLemmas
 pub mod ToldLemmas
+pub mod DueLemmas

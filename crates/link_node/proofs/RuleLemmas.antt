@@ -1,5 +1,5 @@
 -- What holds of sessions is kept by each rule of an event.
-use Rattle.std.proofs.Common.{◌≡◌, ◌≤◌, ◌<◌, ◌+◌, ◌||◌, ◌==◌, ℕ, ℤ, pos, ◌+ℤ◌, Bool, true, false, not, List, [], ◌∷◌, ◌++◌, nat_lt, nat_le, int_lt, length, map, Option, Some, None, refl, sym, ap, ◌∙◌, subst, inl, inr, arith}
+use Rattle.std.proofs.Common.{◌≡◌, ◌<◌, ◌+◌, ◌||◌, ◌==◌, ℕ, ℤ, Bool, true, false, not, List, [], ◌∷◌, ◌++◌, nat_lt, int_lt, length, Option, Some, None, refl, sym, ap, ◌∙◌, subst, inl, inr, arith}
 use Rattle.std.proofs.lemmas.Bool.{false≢true}
 use Rattle.std.proofs.lemmas.Bool.Decides.{nat_tests}
 use Rattle.std.proofs.lemmas.List.{length-append, length-map, map-append}
@@ -23,27 +23,23 @@ use Rattle.ghost_xform.specs.Rank.{offset_of}
 use Rattle.ping_measure.specs.Points.{counted, strayed, points_in, points_of}
 use Rattle.ping_measure.specs.Life.{Life, with, is_over, is_from, counted_outcome, opening, pong_outcome, pong_after}
 use Rattle.ping_measure.specs.declared.outcome.MeasureFault.TheVariants.{OtherSession}
-use Rattle.ping_measure.specs.declared.outcome.Outcome.{Outcome}
 use Rattle.ping_measure.specs.declared.outcome.Outcome.TheVariants.{Idle, Again, Done, Failed}
 use Rattle.ping_measure.proofs.LifeLemmas.{over-counted, over-opening}
 use Rattle.peer_gateway.specs.Answers.{seen_of, target_of}
 use Rattle.peer_gateway.specs.Happenings.{Has, said_goodbye}
 use Rattle.peer_gateway.specs.declared.row.Seen.{Seen}
 use Rattle.peer_gateway.specs.declared.row.Seen.TheVariants as seen
-use Rattle.peer_gateway.proofs.MemberLemmas.{Distinct, has_left, has_right, has_parts}
-use Rattle.session_choice.specs.History.{Taking, History, session_of, begun as begun_with, best_in, forgotten, other_in, saw_by, saw_known, saw_of, saw_after, taken_by, with_taken}
-use Rattle.session_choice.specs.Keyed.{found_by, updated_by}
-use Rattle.session_choice.specs.declared.verdict.Saw.{Saw}
+use Rattle.peer_gateway.proofs.MemberLemmas.{has_left, has_right, has_parts}
+use Rattle.session_choice.specs.History.{Taking, session_of, begun as begun_with, best_in, forgotten, other_in, saw_by, saw_known, saw_of, saw_after, taken_by, with_taken}
+use Rattle.session_choice.specs.Keyed.{updated_by}
 use Rattle.session_choice.specs.declared.verdict.Saw.TheVariants.{Taken, Kept, New, Full}
 use Rattle.session_choice.proofs.Lists.{by_test}
-use Rattle.session_choice.proofs.DistinctLemmas.{same-equal}
 use Rattle.client_state.specs.Timelines.{session_from_client_of}
 use Rattle.client_state.specs.declared.commit.Commit.{Commit}
 use Rattle.timeline_math.specs.Tidying.{tidy_of}
 use Rattle.link_node.specs.Arrival.{arrived, is_heard}
-use Rattle.link_node.specs.Broadcast.{broadcast_after, is_broadcast}
 use Rattle.link_node.specs.Client.{renewed}
-use Rattle.link_node.specs.Commits.{app_taken, audio_taken, client_taken, commit_taken, committed_by, start_committed, timeline_committed, with_client_start, with_client_timeline}
+use Rattle.link_node.specs.Commits.{app_taken, audio_taken, commit_taken, committed_by, start_committed, timeline_committed, with_client_start, with_client_timeline}
 use Rattle.link_node.specs.Event.{EventValue, Rx, Tick, App, Audio, End}
 use Rattle.link_node.specs.Machine.{Machine, session_in, timeline_in, offset_in}
 use Rattle.link_node.specs.Measuring.{judged, measurement_ticked, pong_by, pong_heard, remeasured_later, unmeasured}
@@ -51,7 +47,7 @@ use Rattle.link_node.specs.Settling.{counted as recounted, id_drawn, founded, is
 use Rattle.link_node.specs.Step.{taken}
 use Rattle.link_node.specs.Taking.{followed, is_current, listened, sighted, start_taken, state_taken, timeline_taken, with_start}
 use Rattle.link_node.specs.Tick.{begun, begun_at, begun_from, begun_one, cleared, is_remeasured, is_waiting, pruned, remeasure_queued, ticked, waiting_with}
-use Rattle.link_node.proofs.IdLemmas.{differ-other, distinct-last, equal-same, found-has, has-found, ids-updated, waits-has, waits-none}
+use Rattle.link_node.proofs.IdLemmas.{distinct-last, equal-same, has-found, ids-updated, waits-has}
 use Rattle.link_node.proofs.SessionsLemmas.{AreFree, AreIds, GoesOn, HasIds, IsAlone, IsFree, forgotten_parts, free-from, ids_in, judged_parts, running-parts, ticked_parts, unmeasured_parts}
 
 -- ---- a timeline that was told

@@ -1,5 +1,5 @@
 -- Timelines and starts that are made are tidy.
-use Rattle.std.proofs.Common.{◌≡◌, ℤ, pos, ◌^◌, ◌+ℤ◌, ◌-ℤ◌, ◌*ℤ◌, ◌≤ℤ◌, Bool, true, false, List, [], ◌∷◌, ◌++◌, Option, Some, None, refl, sym, ap, ◌∙◌, subst, inl, arith}
+use Rattle.std.proofs.Common.{◌≡◌, ℤ, pos, ◌^◌, ◌+ℤ◌, ◌-ℤ◌, ◌*ℤ◌, ◌≤ℤ◌, false, List, ◌∷◌, Some, None, refl, sym, ◌∙◌, subst, inl, arith}
 use Rattle.std.proofs.lemmas.Int.{ints, clamps}
 use Rattle.std.proofs.lemmas.Bool.{false≢true}
 use Rattle.std.proofs.lemmas.Bool.Decides.{Decides-int_eq}
@@ -17,7 +17,7 @@ use Rattle.lk_base.proofs.RoundingLemmas.{clipped_of-within}
 use Rattle.ghost_xform.specs.GhostTime.{ghost_of, host_of}
 use Rattle.peer_gateway.specs.Happenings.{Has}
 use Rattle.peer_gateway.proofs.MemberLemmas.{has_from_all, has_right}
-use Rattle.session_choice.specs.Best.{IsBest, best_of}
+use Rattle.session_choice.specs.Best.{best_of}
 use Rattle.session_choice.proofs.BestLemmas.{best_of-IsBest}
 use Rattle.session_choice.proofs.Lists.{by_test}
 use Rattle.timeline_math.specs.Beats.{beat_at, time_at}

@@ -1,16 +1,15 @@
 -- A node is well formed at its opening, and a step keeps that.
-use Rattle.std.proofs.Common.{◌≡◌, ◌≤◌, ◌<◌, ◌+◌, ◌||◌, ◌&&◌, ◌==◌, ℕ, ℤ, pos, neg_ℤ, ◌+ℤ◌, Bool, true, false, not, List, [], ◌∷◌, ◌++◌, nat_lt, int_lt, length, drop, filter, Option, Some, None, Result, Ok, Err, refl, sym, ap, ◌∙◌, subst, arith}
+use Rattle.std.proofs.Common.{◌≡◌, ◌+◌, ◌||◌, ◌==◌, ℕ, ℤ, pos, neg_ℤ, Bool, true, false, not, List, [], ◌∷◌, ◌++◌, nat_lt, int_lt, length, drop, filter, Option, Some, None, Result, Ok, Err, refl, sym, ◌∙◌, subst}
 use Rattle.std.proofs.lemmas.Bool.{and_parts, eq-eqb, eqb-true}
-use Rattle.std.proofs.lemmas.Bool.Decides.{nat_tests, Decides-int_eq}
+use Rattle.std.proofs.lemmas.Bool.Decides.{Decides-int_eq}
 use Rattle.std.specs.Prelude.{if◌then◌else◌, is_some}
-use Rattle.std.specs.Int.{int_max}
 use Rattle.std.specs.Result.{result_map_both}
 use Rattle.std.specs.Ordering.{int_eq}
 use Rattle.std.specs.List.{AllByRecursion}
 use Rattle.std.specs.Option.{ForSome}
 use Rattle.ghost_xform.specs.GhostTime.{ghost_of}
 use Rattle.lk_base.specs.IdOrder.{same_id}
-use Rattle.lk_base.specs.Ranges.{IsMoment, IsWithinLimit}
+use Rattle.lk_base.specs.Ranges.{IsMoment}
 use Rattle.lk_base.specs.Timeline.{IsTidy}
 use Rattle.lk_base.specs.declared.endpoint.Endpoint.{Endpoint}
 use Rattle.lk_base.specs.declared.endpoint.Gate.{Gate}
@@ -19,7 +18,6 @@ use Rattle.lk_base.specs.declared.ids.NodeId.{NodeId}
 use Rattle.lk_base.specs.declared.start.ClientStart.{ClientStart}
 use Rattle.lk_base.specs.declared.start.SessionStart.{SessionStart}
 use Rattle.lk_base.specs.declared.timeline.Timeline.{Timeline}
-use Rattle.link_payload.specs.Entries.{EntryValue}
 use Rattle.link_payload.specs.Fields.{AreInRange, AreTimesInRange, pong_answer_of, state_answer_of}
 use Rattle.link_payload.specs.Items.{cut_of, entries_of}
 use Rattle.link_payload.specs.declared.fault.PayloadFault.{PayloadFault}
@@ -36,7 +34,7 @@ use Rattle.peer_gateway.specs.Answers.{peers_in, seen_of, target_of}
 use Rattle.peer_gateway.specs.Happenings.{rows_of, said_goodbye}
 use Rattle.peer_gateway.specs.declared.row.Seen.{Seen}
 use Rattle.peer_gateway.specs.declared.row.Seen.TheVariants as seen
-use Rattle.ping_measure.specs.Life.{Life, opening as measured_from, pong_after, pong_outcome, tick_after, tick_outcome}
+use Rattle.ping_measure.specs.Life.{Life, pong_after, pong_outcome, tick_after, tick_outcome}
 use Rattle.ping_measure.specs.declared.outcome.Outcome.{Outcome}
 use Rattle.ping_measure.specs.declared.outcome.Outcome.TheVariants.{Idle, Again, Done, Failed}
 use Rattle.session_choice.specs.History.{Taking, History, begun as begun_with, committed, forgotten, joined, measured_after, measured_by, measured_of, opening, other_in, saw_after, saw_of, session_of, taken_by, with_taken}
@@ -47,8 +45,7 @@ use Rattle.session_choice.specs.declared.verdict.Saw.TheVariants.{Taken, Kept, N
 use Rattle.session_choice.specs.declared.verdict.Verdict.{Verdict}
 use Rattle.session_choice.specs.declared.verdict.Verdict.TheVariants.{Joined, Stayed, Remeasured, Unknown}
 use Rattle.session_choice.proofs.Lists.{all_append, by_test}
-use Rattle.client_state.specs.Commit.{IsTidyCommit, IsTidyStart, same_bool, same_playing, same_timeline}
-use Rattle.client_state.specs.Edits.{timeline_at}
+use Rattle.client_state.specs.Commit.{IsTidyCommit, IsTidyStart, same_bool, same_timeline}
 use Rattle.client_state.specs.State.{IsTidyState}
 use Rattle.client_state.specs.Starts.{start_to_client_of, start_to_session_of}
 use Rattle.client_state.specs.Timelines.{session_from_client_of}
@@ -64,7 +61,7 @@ use Rattle.link_node.specs.Config.{ConfigValue, IsConfig}
 use Rattle.link_node.specs.Event.{EventValue, Rx, Tick, App, Audio, End, Fits, app_after, audio_after, moment_of}
 use Rattle.link_node.specs.Machine.{Machine, session_in, timeline_in, offset_in}
 use Rattle.link_node.specs.Measuring.{chosen, judged, measured, measurement_ticked, pong_by, pong_heard, remeasured_later, tick_by, unmeasured}
-use Rattle.link_node.specs.Opening.{opened, opening_state_of, still_client}
+use Rattle.link_node.specs.Opening.{opened, opening_state_of}
 use Rattle.link_node.specs.Publishing.{alike, same_client_start, shown, state_in}
 use Rattle.link_node.specs.Runs.{AreFitting, machine_after, published_by, shown_by}
 use Rattle.link_node.specs.Settling.{counted, founded, founding_timeline_in, held_in, id_drawn, is_left, noted, settled}

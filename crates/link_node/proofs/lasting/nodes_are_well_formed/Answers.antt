@@ -1,4 +1,4 @@
-use Rattle.link_node.proofs.WellFormedLemmas.{CountsOn, opened_sound, step_sound, run_sound, published_tidy}
+use Rattle.link_node.proofs.WellFormedLemmas.{opened_sound, step_sound, run_sound, published_tidy}
 use Rattle.link_node.proofs.lasting.nodes_are_well_formed.Goals as goal
 
 pub returns-clause-opening : goal.returns-clause-opening
