@@ -3,7 +3,6 @@ pub mod SessionsLemmas
 pub mod RuleLemmas
 pub mod TidyLemmas
 pub mod WellFormedLemmas
-pub mod DueLemmas
 pub mod NumberLemmas
 pub mod GateLemmas
 pub mod SourceLemmas
@@ -30,3 +29,4 @@ pub mod NewsLemmas
 pub mod StartingLemmas
 pub mod MeasuredLemmas
 pub mod CountingLemmas
+pub mod DueLemmas

@@ -91,8 +91,8 @@ fn alives_tell_where_their_gate_is(rt: HostRuntime) -> Result<(), Fail> {
         (4, 2, 3001),
         (5, 2, 3002),
     ] {
-        let bytes = write_alive(OWN, 0, &told(gate, first_timeline()));
-        assert!(rt; is_sent(&sends, place, gate as u8, port, &bytes), "{place}");
+        let bytes = write_alive(OWN, 0, &told(u16::from(gate), first_timeline()));
+        assert!(rt; is_sent(&sends, place, gate, port, &bytes), "{place}");
     }
     Ok(())
 }
@@ -101,15 +101,26 @@ fn alives_tell_where_their_gate_is(rt: HostRuntime) -> Result<(), Fail> {
 fn a_response_tells_the_state_of_before_on_its_gate(rt: HostRuntime) -> Result<(), Fail> {
     let mut sends = Sends::new(rt.alloc())?;
     let mut node = opened(rt.alloc(), 2, 2)?;
-    for (timeline, told_then) in [
-        (slower_timeline(), first_timeline()),
-        (first_timeline(), slower_timeline()),
-    ] {
-        hear(&mut node, &mut sends, 1, alive(PEER, OWN, timeline), 10);
-        let bytes = write_response(OWN, 0, &told(1, told_then));
-        assert_eq!(rt; sent(&sends), 1);
-        assert!(rt; is_sent(&sends, 0, 1, 9, &bytes));
-    }
+    hear(
+        &mut node,
+        &mut sends,
+        1,
+        alive(PEER, OWN, slower_timeline()),
+        10,
+    );
+    assert_eq!(rt; sent(&sends), 1);
+    let before = write_response(OWN, 0, &told(1, first_timeline()));
+    assert!(rt; is_sent(&sends, 0, 1, 9, &before));
+    hear(
+        &mut node,
+        &mut sends,
+        1,
+        alive(PEER, OWN, first_timeline()),
+        10,
+    );
+    assert_eq!(rt; sent(&sends), 1);
+    let before = write_response(OWN, 0, &told(1, slower_timeline()));
+    assert!(rt; is_sent(&sends, 0, 1, 9, &before));
     // Nobody hears itself.
     hear(
         &mut node,

@@ -3,7 +3,9 @@
 ghost use Rattle.std.specs.Prelude.{◌≡◌, ◌<◌, ◌^◌, IfOk};
 ghost use Rattle.link_node.specs.Standing.{gates_of, app_of, audio_of};
 
-use super::{OPENING, OTHER, OWN, PEER, config, endpoint, first_timeline, is_sent, sent};
+use super::{
+    OPENING, OTHER, OWN, PEER, config, endpoint, first_timeline, is_sent, sent, wire_of,
+};
 use crate::{Change, Event, Node, Sends};
 use asdp_messages::{write_alive, write_bye, write_ping_message, write_response};
 use link_payload::{PeerFields, PingFields, write_ping};
@@ -59,7 +61,7 @@ pub(super) fn hear_from(
     let event = Event::Rx {
         gate: Gate(0),
         from: endpoint(port),
-        bytes,
+        bytes: wire_of(&bytes),
         now,
     };
     node.step(&event, sends)
@@ -139,9 +141,7 @@ fn pongs(
     count: u32,
 ) -> bool
     requires { 0 < gates_of node.old }
-    ensures gates { gates_of node.new ≡ gates_of node.old }
-    ensures app { app_of node.new ≡ app_of node.old }
-    ensures audio { audio_of node.new ≡ audio_of node.old }
+    ensures { gates_of node.new ≡ gates_of node.old }
 {
     let mut went_on = true;
     for _ in 0..count {
@@ -160,9 +160,7 @@ pub(super) fn measured(
     after: u32,
 )
     requires { 0 < gates_of node.old }
-    ensures gates { gates_of node.new ≡ gates_of node.old }
-    ensures app { app_of node.new ≡ app_of node.old }
-    ensures audio { audio_of node.new ≡ audio_of node.old }
+    ensures { gates_of node.new ≡ gates_of node.old }
 {
     let after = after.min(1_000_000_000);
     hear_from(node, sends, 99, founder(session, 99), after);
@@ -172,9 +170,7 @@ pub(super) fn measured(
 
 // The next so many silences of a measurement whose last ping was sent then. Whether a ping followed each.
 pub(super) fn silences(node: &mut Node, sends: &mut Sends, after: u32, count: u32) -> bool
-    ensures gates { gates_of node.new ≡ gates_of node.old }
-    ensures app { app_of node.new ≡ app_of node.old }
-    ensures audio { audio_of node.new ≡ audio_of node.old }
+    ensures { gates_of node.new ≡ gates_of node.old }
 {
     let mut went_on = true;
     let mut now = after.min(1_000_000_000);
