@@ -274,6 +274,7 @@ fn commits_are_counted(rt: HostRuntime) -> Result<(), Fail> {
         commit: commit(None, None, 60),
         now,
     };
+    sends.clear();
     assert_eq!(rt; node.step(&event, &mut sends), Change::Published);
     assert_eq!(rt; node.state().audio, 7);
     let playing = started(true, 1_500_000, 1_000_020);
@@ -282,6 +283,7 @@ fn commits_are_counted(rt: HostRuntime) -> Result<(), Fail> {
         commit: commit(None, Some(playing), 60),
         now,
     };
+    sends.clear();
     assert_eq!(rt; node.step(&event, &mut sends), Change::Published);
     assert_eq!(rt; node.state().audio, 9);
     assert_eq!(rt; node.state().app, 1);

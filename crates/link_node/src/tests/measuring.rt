@@ -3,9 +3,7 @@
 ghost use Rattle.std.specs.Prelude.{◌≡◌, ◌<◌, ◌^◌, IfOk};
 ghost use Rattle.link_node.specs.Standing.{gates_of, app_of, audio_of};
 
-use super::{
-    OPENING, OTHER, OWN, PEER, config, endpoint, first_timeline, is_sent, sent, wire_of,
-};
+use super::{OPENING, OTHER, OWN, PEER, config, endpoint, first_timeline, is_sent, sent, wire_of};
 use crate::{Change, Event, Node, Sends};
 use asdp_messages::{write_alive, write_bye, write_ping_message, write_response};
 use link_payload::{PeerFields, PingFields, write_ping};
@@ -185,26 +183,26 @@ pub(super) fn silences(node: &mut Node, sends: &mut Sends, after: u32, count: u3
 #[test]
 fn a_session_is_joined_where_it_wins(rt: HostRuntime) -> Result<(), Fail> {
     let mut sends = Sends::new(rt.alloc())?;
-    for (session, lead, joined) in [
-        (PEER, 500_001, true),
-        (PEER, 500_000, false),
-        (PEER, 499_999, false),
-        (PEER, 0, false),
-        (PEER, -1, false),
-        (PEER, -500_001, false),
-        (LESSER, 500_001, true),
-        (LESSER, 500_000, false),
-        (LESSER, 499_999, true),
-        (LESSER, 0, true),
-        (LESSER, -499_999, true),
-        (LESSER, -500_000, false),
-        (LESSER, -500_001, false),
+    // The own ghost time at the pongs is 600,020: half a second before it is 100,020, and after it 1,100,020.
+    for (session, ghost_time, joined) in [
+        (PEER, 1_100_021, true),
+        (PEER, 1_100_020, false),
+        (PEER, 1_100_019, false),
+        (PEER, 600_020, false),
+        (PEER, 600_019, false),
+        (PEER, 100_019, false),
+        (LESSER, 1_100_021, true),
+        (LESSER, 1_100_020, false),
+        (LESSER, 1_100_019, true),
+        (LESSER, 600_020, true),
+        (LESSER, 100_021, true),
+        (LESSER, 100_020, false),
+        (LESSER, 100_019, false),
     ] {
         let mut node = quiet(rt.alloc(), true)?;
-        // The own ghost time at the pongs is 600,020.
-        measured(&mut node, &mut sends, session, 600_020 + lead, 600_000);
-        assert_eq!(rt; sent(&sends), 0, "lead {lead}");
-        assert_eq!(rt; node.session() == session, joined, "lead {lead}");
+        measured(&mut node, &mut sends, session, ghost_time, 600_000);
+        assert_eq!(rt; sent(&sends), 0, "{ghost_time}");
+        assert_eq!(rt; node.session() == session, joined, "{ghost_time}");
         assert_eq!(rt; node.id(), OWN);
     }
     Ok(())
