@@ -1,5 +1,5 @@
 -- The words of a commit.
-use Rattle.std.proofs.Common.{◌≡◌, sym, ◌∙◌, ap, refl, ℕ, ℤ, List, [], ◌∷◌, ◌++◌, Option, Some, None, codes, get_or, arith}
+use Rattle.std.proofs.Common.{◌≡◌, ap, refl, ℕ, List, [], ◌∷◌, ◌++◌, Option, Some, None, codes, get_or, arith}
 use Rattle.std.specs.Fmt.{signed_decimal}
 use Rattle.std.specs.Option.{ForSome}
 use Rattle.lk_base.specs.Timeline.{IsTidy}

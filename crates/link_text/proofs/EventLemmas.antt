@@ -1,6 +1,6 @@
 -- The words of an event.
-use Rattle.std.proofs.Common.{◌≡◌, ◌≢◌, ◌⊎◌, inl, inr, refl, sym, ◌∙◌, ap, subst, arith, ℤ, pos, negsuc, ◌≤ℤ◌, ℕ, zero, suc, ◌+◌, ◌<◌, ◌≤◌, ◌^◌, ◌==◌, if◌then◌else◌, true, false, Bool, w64, to_z, of_z, List, [], ◌∷◌, ◌++◌, length, codes, get_or, Option, Some, None, Ok, IfSome, IfNone}
-use Rattle.std.specs.List.{Contains, All, onto_first, slice_index}
+use Rattle.std.proofs.Common.{◌≡◌, ◌≢◌, ◌⊎◌, inl, inr, refl, sym, ◌∙◌, ap, subst, arith, ℤ, pos, negsuc, ◌≤ℤ◌, ℕ, zero, suc, ◌<◌, ◌≤◌, ◌^◌, ◌==◌, if◌then◌else◌, true, false, Bool, w64, to_z, of_z, List, [], ◌∷◌, ◌++◌, length, codes, get_or, Option, Some, None, IfSome, IfNone}
+use Rattle.std.specs.List.{Contains, onto_first, slice_index}
 use Rattle.std.specs.Fmt.{decimal, signed_decimal}
 use Rattle.std.specs.Int.Signed.{mag}
 use Rattle.std.specs.Option.{ForSome}
@@ -10,13 +10,12 @@ use Rattle.std.proofs.lemmas.Bool.{cases_eq}
 use Rattle.std.proofs.lemmas.List.Elements.{Contains-append_cases}
 use Rattle.std.proofs.lemmas.Fmt.{decimal_injective, signed_decimal_injective}
 use Rattle.std.proofs.lemmas.Bool.Decides.{nat_tests}
-use Rattle.hex.specs.Hex.{decode_of, is_hex_digit}
+use Rattle.hex.specs.Hex.{is_hex_digit}
 use Rattle.hex.proofs.HexLemmas.{decode_of-ok}
 use Rattle.lk_base.specs.Endpoint.{IsEndpoint}
-use Rattle.lk_base.specs.Ranges.{IsMoment, IsWithin, IsWithinLimit}
+use Rattle.lk_base.specs.Ranges.{IsMoment, IsWithinLimit}
 use Rattle.lk_base.specs.Timeline.{IsTidy}
 use Rattle.lk_base.specs.declared.endpoint.Endpoint.{Endpoint}
-use Rattle.lk_base.specs.declared.endpoint.Gate.{Gate}
 use Rattle.lk_base.specs.declared.start.ClientStart.{ClientStart}
 use Rattle.lk_base.specs.declared.timeline.Timeline.{Timeline}
 use Rattle.client_state.specs.Commit.{IsTidyCommit, IsTidyStart}
@@ -25,7 +24,7 @@ use Rattle.link_node.specs.Event.{EventValue, Rx, Tick, App, Audio, End, moment_
 use Rattle.link_node.specs.declared.event.Event.{Event}
 use Rattle.link_text.specs.Words.{joined, dotted, truth_text_of, endpoint_text_of}
 use Rattle.link_text.specs.EventDetails.{kind_of, details_of, SaysDetails}
-use Rattle.link_text.specs.LineWords.{words_of, words_left}
+use Rattle.link_text.specs.LineWords.{words_of}
 use Rattle.link_text.specs.ReplayScript.{event_words, commit_words, timeline_words, start_words, IsHexOf, IsHexIn, IsEventKind, IsEventLine}
 use Rattle.link_text.proofs.NumberLemmas.{decimal_lacks, stored}
 use Rattle.link_text.proofs.LineWordLemmas.{words_cut, words_last, words_some}

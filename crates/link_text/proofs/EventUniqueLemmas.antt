@@ -1,12 +1,11 @@
 -- A line says one event at most.
-use Rattle.std.proofs.Common.{◌≡◌, ◌≢◌, refl, sym, ◌∙◌, ap, subst, arith, ℤ, ℕ, ◌+◌, ◌<◌, ◌≤◌, ◌^◌, Bool, List, [], ◌∷◌, ◌++◌, length, codes, Option, Some, None, Ok, Result}
+use Rattle.std.proofs.Common.{◌≡◌, refl, sym, ◌∙◌, ap, subst, arith, ℤ, ℕ, ◌≤◌, ◌^◌, Bool, List, [], ◌∷◌, ◌++◌, codes, Option, Some, None, Ok}
 use Rattle.std.specs.Fmt.{decimal, signed_decimal}
 use Rattle.std.specs.Option.{ForSome}
 use Rattle.std.proofs.lemmas.Fmt.{decimal_injective, signed_decimal_injective}
 use Rattle.hex.specs.Hex.{decode_of}
-use Rattle.hex.proofs.HexLemmas.{decode_of-same, decode_of-odd, decode_of-ok}
-use Rattle.lk_base.specs.Endpoint.{IsEndpoint}
-use Rattle.lk_base.specs.Ranges.{IsMoment, IsWithinLimit}
+use Rattle.hex.proofs.HexLemmas.{decode_of-same, decode_of-ok}
+use Rattle.lk_base.specs.Ranges.{IsWithinLimit}
 use Rattle.lk_base.specs.Timeline.{IsTidy}
 use Rattle.lk_base.specs.declared.endpoint.Endpoint.{Endpoint}
 use Rattle.lk_base.specs.declared.endpoint.Gate.{Gate}
@@ -46,9 +45,11 @@ timeline_one : (a b : Timeline) (xs ys : List (List ℕ)) → IsTidy a → IsTid
 timeline_one a b xs ys tidy_a tidy_b same =
     let mpbs : signed_decimal a.mpb ≡ signed_decimal b.mpb = cc same in
     let beats : signed_decimal a.beat ≡ signed_decimal b.beat = cc same in
-    let times : signed_decimal a.time ≡ signed_decimal b.time = cc same in
-    (timeline_same a b (signed_one a.mpb b.mpb (tempo_within a.mpb tidy_a.fastest tidy_a.slowest) (tempo_within b.mpb tidy_b.fastest tidy_b.slowest) mpbs)
-    (signed_one a.beat b.beat tidy_a.beat tidy_b.beat beats) (signed_one a.time b.time tidy_a.time tidy_b.time times), cc same)
+    let times : signed_decimal a.time ≡ signed_decimal b.time = cc same in (
+      timeline_same a b (signed_one a.mpb b.mpb (tempo_within a.mpb tidy_a.fastest tidy_a.slowest) (tempo_within b.mpb tidy_b.fastest tidy_b.slowest) mpbs)
+          (signed_one a.beat b.beat tidy_a.beat tidy_b.beat beats) (signed_one a.time b.time tidy_a.time tidy_b.time times),
+      cc same,
+    )
 
 start_one : (a b : Option ClientStart) → ForSome a IsTidyStart → ForSome b IsTidyStart → start_words a ≡ start_words b → a ≡ b
 start_one None None tidy_a tidy_b same = refl

@@ -1,11 +1,11 @@
 -- The events of a script are no more than its bytes, and a node can take them.
-use Rattle.std.proofs.Common.{◌≡◌, refl, sym, ◌∙◌, ap, arith, ℕ, suc, ◌+◌, ◌-◌, ◌<◌, ◌≤◌, ◌^◌, ◌==◌, Bool, true, false, not, if◌then◌else◌, List, [], ◌∷◌, length, drop, filter}
+use Rattle.std.proofs.Common.{◌≡◌, refl, arith, ℕ, suc, ◌+◌, ◌<◌, ◌≤◌, ◌^◌, ◌==◌, Bool, true, false, not, if◌then◌else◌, List, [], ◌∷◌, length, drop}
 use Rattle.std.specs.List.{onto_first}
 use Rattle.std.proofs.lemmas.List.{length-drop}
-use Rattle.link_node.specs.Event.{EventValue, Rx, Tick, App, Audio, End, moment_of, FitsKind, app_after, audio_after}
+use Rattle.link_node.specs.Event.{EventValue, Rx, Tick, App, Audio, End, FitsKind, app_after, audio_after}
 use Rattle.link_node.specs.Runs.{AreFitting}
 use Rattle.link_text.specs.Lines.{lines_of, is_passed, counting_in}
-use Rattle.link_text.specs.ReplayScript.{IsEventKind, IsEventLine, AreEventLines, SaysFrom}
+use Rattle.link_text.specs.ReplayScript.{IsEventKind, AreEventLines, SaysFrom}
 
 kind_fits : (gates app audio : ℕ) (e : EventValue) → app < 2 ^ 60 → IsEventKind gates audio e → FitsKind gates app audio e
 kind_fits gates app audio (Rx gate from bytes now) room kind = (kind.0, kind.2, kind.3)
@@ -25,9 +25,10 @@ lines_fit : (gates app audio : ℕ) (lines : List (List ℕ)) (es : List EventVa
     → AreFitting gates app audio es
 lines_fit gates app audio lines [] are room = tt
 lines_fit gates app audio [] (e ∷ es) are room = absurd are
-lines_fit gates app audio (line ∷ lines) (e ∷ es) are room =
-    ((are.0.moment, kind_fits gates app audio e (omega arith) are.0.kind),
-    lines_fit gates (app_after app e) (audio_after audio e) lines es are.1 (omega (arith, app_little app e)))
+lines_fit gates app audio (line ∷ lines) (e ∷ es) are room = (
+  (are.0.moment, kind_fits gates app audio e (omega arith) are.0.kind),
+  lines_fit gates (app_after app e) (audio_after audio e) lines es are.1 (omega (arith, app_little app e)),
+)
 
 pub says_fit : (gates audio app at : ℕ) (text : List ℕ) (es : List EventValue) → SaysFrom gates audio text at es
     → app + length es < 2 ^ 60 → AreFitting gates app audio es

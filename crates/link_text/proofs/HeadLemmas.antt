@@ -1,30 +1,28 @@
 -- The lines of a head.
-use Rattle.std.proofs.Common.{◌≡◌, ◌≢◌, ◌⊎◌, inl, inr, refl, sym, ◌∙◌, ap, subst, arith, ℤ, pos, negsuc, ◌≤ℤ◌, ℕ, zero, suc, ◌+◌, ◌<◌, ◌≤◌, ◌^◌, ◌/◌, ◌%◌, true, false, Bool, List, [], ◌∷◌, ◌++◌, length, map, codes, get_or, Option, Some, None, IfSome, IfNone}
-use Rattle.std.specs.List.{All, Contains, flat_map}
+use Rattle.std.proofs.Common.{◌≡◌, ◌≢◌, ◌⊎◌, inl, inr, refl, sym, ◌∙◌, ap, subst, arith, ℤ, pos, negsuc, ℕ, ◌+◌, ◌<◌, ◌≤◌, ◌^◌, ◌/◌, ◌%◌, true, false, Bool, List, [], ◌∷◌, ◌++◌, length, map, codes, get_or, Option, Some, None, IfSome, IfNone}
+use Rattle.std.specs.List.{All, flat_map}
 use Rattle.std.specs.Fmt.{decimal, signed_decimal}
 use Rattle.std.specs.Int.Signed.{mag}
-use Rattle.std.proofs.lemmas.Int.{ints}
 use Rattle.std.proofs.lemmas.List.{append_assoc, append-nil, length_push, map-append}
 use Rattle.std.proofs.lemmas.List.Concat.{flat_map-cons}
 use Rattle.std.proofs.lemmas.List.Elements.{All-head, All-tail, All-push, All-nil}
 use Rattle.std.proofs.lemmas.Grind.{flat_map-append}
 use Rattle.std.proofs.lemmas.Fmt.{decimal_injective, signed_decimal_injective}
 use Rattle.lk_base.specs.Endpoint.{IsEndpoint}
-use Rattle.lk_base.specs.Ranges.{IsMoment, IsWithinLimit}
+use Rattle.lk_base.specs.Ranges.{IsWithinLimit}
 use Rattle.lk_base.specs.declared.endpoint.Endpoint.{Endpoint}
 use Rattle.lk_base.specs.declared.ids.NodeId.{NodeId}
-use Rattle.link_node.specs.Config.{ConfigValue, GateValue, gate_value}
-use Rattle.link_node.specs.Event.{EventValue, Rx, Tick, App, Audio, End, moment_of, audio_after}
+use Rattle.link_node.specs.Config.{ConfigValue, GateValue}
+use Rattle.link_node.specs.Event.{EventValue, Rx, Tick, App, Audio, End, moment_of}
 use Rattle.link_text.specs.Words.{joined, dotted, truth_text_of, endpoint_text_of}
 use Rattle.link_text.specs.LineWords.{words_of}
 use Rattle.link_text.specs.EventDetails.{kind_of, details_of}
-use Rattle.link_text.specs.ReplayScript.{IsVisibleId, IsGate, IsEventLine, AreEventLines, gate_lines, node_line, event_words}
+use Rattle.link_text.specs.ReplayScript.{IsVisibleId, IsGate, IsEventLine, AreEventLines, gate_lines, node_line}
 use Rattle.link_text.specs.declared.head_read.Node.{Node}
 use Rattle.link_text.specs.HeadParts.{gate_line, to_line, config_of, IsNodeLine, IsNode, LacksTo, LacksGate, AreFull, HasDestinations, HasGates}
 use Rattle.link_text.proofs.WordLemmas.{cut_one}
 use Rattle.link_text.proofs.NumberLemmas.{decimal_lacks}
-use Rattle.link_text.proofs.LineWordLemmas.{words_cut, words_last, words_some}
-use Rattle.link_text.proofs.EventLemmas.{Lacks, AllLack, lacks_by_test, number_lacks, signed_lacks, truth_lacks, endpoint_lacks, moment_within, tempo_within, words_joined, joined_words, words_are}
+use Rattle.link_text.proofs.EventLemmas.{Lacks, lacks_by_test, number_lacks, signed_lacks, truth_lacks, endpoint_lacks, moment_within, tempo_within, words_joined, joined_words, words_are}
 
 -- ---- endpoints
 
@@ -283,9 +281,19 @@ truth_one false true same = absurd (first_differs (48 ∷ []) (49 ∷ []) 48 49 
 pub node_words : (config : ConfigValue) (now : ℤ) → IsNode config now
     → words_of (node_line config now) ≡ codes "node" ∷ config.id.0 ∷ decimal config.seed ∷ signed_decimal config.mpb ∷ truth_text_of config.sync ∷ signed_decimal now ∷ []
 node_words config now is =
-    words_joined (codes "node") (config.id.0 ∷ decimal config.seed ∷ signed_decimal config.mpb ∷ truth_text_of config.sync ∷ signed_decimal now ∷ [])
-    (lacks_by_test (codes "node") refl, (id_lacks config.id is.id, (number_lacks config.seed is.seed, (signed_lacks config.mpb (tempo_within config.mpb is.fastest is.slowest),
-    (truth_lacks config.sync, (signed_lacks now (moment_within now is.moment), tt))))))
+    words_joined (codes "node") (config.id.0 ∷ decimal config.seed ∷ signed_decimal config.mpb ∷ truth_text_of config.sync ∷ signed_decimal now ∷ []) (
+      lacks_by_test (codes "node") refl,
+      (
+        id_lacks config.id is.id,
+        (
+          number_lacks config.seed is.seed,
+          (
+            signed_lacks config.mpb (tempo_within config.mpb is.fastest is.slowest),
+            (truth_lacks config.sync, (signed_lacks now (moment_within now is.moment), tt)),
+          ),
+        ),
+      ),
+    )
 
 pub mag_less : (n : ℤ) → IsWithinLimit n → mag n < 2 ^ 63
 mag_less (pos n) h = omega arith
@@ -317,14 +325,14 @@ node_one c d now at is_c is_d same =
 
 pub some_node : (line : List ℕ) (r : Option Node)
     → IfSome r (λ node. IsNode (config_of node []) node.now × (words_of line
-        ≡ codes "node" ∷ node.id.0 ∷ decimal node.seed ∷ signed_decimal node.mpb ∷ truth_text_of node.sync ∷ signed_decimal node.now ∷ []))
+    ≡ codes "node" ∷ node.id.0 ∷ decimal node.seed ∷ signed_decimal node.mpb ∷ truth_text_of node.sync ∷ signed_decimal node.now ∷ []))
     → IfSome r (IsNodeLine line)
 some_node line (Some node) h = record { range = h.0; said = sym (joined_words line) ∙ ap joined h.1 }
 some_node line None h = tt
 
 pub none_node : (line : List ℕ) (r : Option Node)
     → IfNone r ((config : ConfigValue) (now : ℤ) → IsNode config now → words_of line
-        ≡ codes "node" ∷ config.id.0 ∷ decimal config.seed ∷ signed_decimal config.mpb ∷ truth_text_of config.sync ∷ signed_decimal now ∷ [] → ⊥)
+    ≡ codes "node" ∷ config.id.0 ∷ decimal config.seed ∷ signed_decimal config.mpb ∷ truth_text_of config.sync ∷ signed_decimal now ∷ [] → ⊥)
     → IfNone r ((config : ConfigValue) (now : ℤ) → IsNode config now → line ≡ node_line config now → ⊥)
 none_node line (Some node) h = tt
 none_node line None h = λ config now is same. h config now is (ap words_of same ∙ node_words config now is)

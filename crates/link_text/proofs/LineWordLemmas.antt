@@ -1,10 +1,8 @@
 -- A line and its words.
-use Rattle.std.proofs.Common.{◌≡◌, ◌≢◌, ◌⊎◌, inl, inr, refl, sym, ◌∙◌, ap, arith, ℕ, ◌+◌, ◌-◌, ◌<◌, ◌≤◌, ◌==◌, if◌then◌else◌, true, false, Bool, List, [], ◌∷◌, ◌++◌, length, take, drop, add-one}
+use Rattle.std.proofs.Common.{◌≡◌, refl, sym, ◌∙◌, ap, arith, ℕ, ◌-◌, ◌≤◌, ◌==◌, if◌then◌else◌, true, false, Bool, List, [], ◌∷◌, ◌++◌, length, take, drop}
 use Rattle.std.specs.List.{Contains, onto_first}
-use Rattle.std.proofs.lemmas.List.{drop_at, append-nil, drop_all, take_all, length-drop}
-use Rattle.std.proofs.lemmas.List.Elements.{All-head}
+use Rattle.std.proofs.lemmas.List.{drop_at, drop_all, take_all, length-drop}
 use Rattle.std.proofs.lemmas.Bool.Decides.{nat_tests}
-use Rattle.link_text.specs.Words.{joined}
 use Rattle.link_text.specs.LineWords.{words_of, words_left}
 use Rattle.link_text.proofs.WordLemmas.{lacks_rest, lacks_first}
 
@@ -57,6 +55,7 @@ words_some (b ∷ line) e = step b (words_of line) (words_some line) e
     by_test : (t : Bool) (b : ℕ) (ws : List (List ℕ)) → (ws ≡ [] → ⊥) → (if t then [] ∷ ws else onto_first b ws) ≡ [] → ⊥
     by_test true b ws some e = cc
     by_test false b ws some e = onto_some b ws some e
+
     step : (b : ℕ) (ws : List (List ℕ)) → (ws ≡ [] → ⊥) → (if b == 32 then [] ∷ ws else onto_first b ws) ≡ [] → ⊥
     step b ws some e = by_test (b == 32) b ws some e
 

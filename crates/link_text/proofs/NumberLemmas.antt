@@ -99,6 +99,7 @@ minus_first n digits fits e = decimal_lacks n 45 fits (inl (omega arith)) (0, wi
   where
     within : 0 < length (decimal n)
     within = rw (← e) (omega arith)
+
     first : get_or (decimal n) 0 45 ≡ 45
     first = rw (← e) refl
 

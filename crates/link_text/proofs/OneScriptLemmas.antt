@@ -1,5 +1,5 @@
 -- A text is one script at most, and it has one first line at fault.
-use Rattle.std.proofs.Common.{◌≡◌, ◌⊎◌, inl, inr, refl, sym, ◌∙◌, ap, subst, arith, ℤ, ℕ, ◌+◌, ◌<◌, ◌≤◌, Bool, List, [], ◌∷◌, ◌++◌, length}
+use Rattle.std.proofs.Common.{◌≡◌, inl, inr, sym, ◌∙◌, ap, subst, arith, ℤ, ℕ, ◌<◌, Bool, List, [], ◌∷◌, ◌++◌, length}
 use Rattle.std.proofs.lemmas.List.{append_assoc}
 use Rattle.lk_base.specs.declared.ids.NodeId.{NodeId}
 use Rattle.link_node.specs.Config.{ConfigValue, GateValue}
@@ -8,7 +8,7 @@ use Rattle.link_text.specs.Lines.{lines_of}
 use Rattle.link_text.specs.ReplayScript.{AreEventLines, IsScript, IsScriptOf, BeginsScript, IsFaultAt, IsCutShort, IsFirstFault}
 use Rattle.link_text.proofs.HeadLemmas.{AreOneNode, events_no_to, full_events}
 use Rattle.link_text.proofs.EventUniqueLemmas.{events_one}
-use Rattle.link_text.proofs.ScriptLemmas.{AreOneHead, head_one, events_lack}
+use Rattle.link_text.proofs.ScriptLemmas.{head_one, events_lack}
 
 abbrev config_from : NodeId → ℕ → ℤ → Bool → List GateValue → ConfigValue
 config_from id seed mpb sync gates = record { id = id; seed = seed; mpb = mpb; sync = sync; gates = gates }

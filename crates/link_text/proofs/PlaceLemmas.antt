@@ -1,6 +1,6 @@
 -- Places in a text.
-use Rattle.std.proofs.Common.{◌≡◌, refl, sym, ◌∙◌, ap, subst, arith, ℕ, ◌+◌, ◌-◌, ◌<◌, ◌≤◌, Bool, true, false, not, List, [], ◌∷◌, ◌++◌, if◌then◌else◌, length, drop, filter}
-use Rattle.std.proofs.lemmas.List.{append_assoc, append-nil, length_push, append_cancel_right, length-append}
+use Rattle.std.proofs.Common.{◌≡◌, refl, sym, ◌∙◌, ap, arith, ℕ, ◌+◌, ◌<◌, ◌≤◌, Bool, true, false, not, List, [], ◌∷◌, ◌++◌, if◌then◌else◌, length, drop}
+use Rattle.std.proofs.lemmas.List.{append_assoc, length_push, length-append}
 use Rattle.std.proofs.lemmas.List.Elements.{filter-append}
 use Rattle.link_text.specs.Lines.{lines_of, is_passed, counting_in}
 use Rattle.link_text.specs.Places.{HasWalked, HasPassed, IsAhead, HasLine, StopsAt, counting_from}

@@ -1,23 +1,23 @@
 -- Scripts: how far a text is one, and where it stops to be one.
-use Rattle.std.proofs.Common.{◌≡◌, ◌≢◌, ◌⊎◌, inl, inr, refl, sym, ◌∙◌, ap, subst, arith, rules, ℤ, pos, ◌≤ℤ◌, ℕ, zero, suc, ◌+◌, ◌-◌, ◌<◌, ◌≤◌, ◌^◌, Bool, true, false, List, [], ◌∷◌, ◌++◌, length, map, drop, codes}
+use Rattle.std.proofs.Common.{◌≡◌, ◌⊎◌, inl, inr, refl, sym, ◌∙◌, ap, subst, arith, rules, ℤ, pos, ℕ, ◌+◌, ◌-◌, ◌≤◌, ◌^◌, false, List, [], ◌∷◌, ◌++◌, length, map, drop}
 use Rattle.std.specs.List.{All, flat_map}
 use Rattle.std.proofs.lemmas.Int.{ints}
-use Rattle.std.proofs.lemmas.List.{append_assoc, append-nil, append_cancel_right, append_cancel_left, length_push}
+use Rattle.std.proofs.lemmas.List.{append_assoc, append-nil, append_cancel_right}
 use Rattle.std.proofs.lemmas.List.Concat.{flat_map-cons}
 use Rattle.std.proofs.lemmas.List.Elements.{All-head, All-nil, All-push}
 use Rattle.lk_base.specs.Endpoint.{IsEndpoint}
 use Rattle.lk_base.specs.declared.endpoint.Endpoint.{Endpoint}
-use Rattle.link_node.specs.Config.{ConfigValue, GateValue, IsConfig}
-use Rattle.link_node.specs.Event.{EventValue, Rx, Tick, App, Audio, End, moment_of, audio_after}
-use Rattle.link_text.specs.Lines.{lines_of, is_passed, counting_in}
+use Rattle.link_node.specs.Config.{ConfigValue, GateValue}
+use Rattle.link_node.specs.Event.{EventValue, audio_after}
+use Rattle.link_text.specs.Lines.{lines_of, counting_in}
 use Rattle.link_text.specs.declared.head_read.Node.{Node}
 use Rattle.link_text.specs.declared.place.Place.{Place}
-use Rattle.link_text.specs.HeadParts.{gate_line, to_line, config_of, IsNode, LacksTo, LacksGate, AreFull, HasGates}
-use Rattle.link_text.specs.Places.{IsAhead, HasLine, HasWalked, HasEvents, HasBadEvent, StopsAt, counting_from, audio_of}
-use Rattle.link_text.specs.ReplayScript.{IsVisibleId, IsHead, IsGate, IsEventLine, IsEventKind, AreEventLines, IsScript, IsScriptOf, IsNoScript, BeginsScript, IsFaultAt, IsCutShort, IsFirstFault, IsLineFault, SaysFrom, SaysSome, IsChecked, version_line, node_line, gate_lines, head_lines}
-use Rattle.link_text.proofs.PlaceLemmas.{counting-append, counting_counted, counting_same, counting_end}
+use Rattle.link_text.specs.HeadParts.{gate_line, to_line, config_of, IsNode, LacksTo, LacksGate, AreFull}
+use Rattle.link_text.specs.Places.{IsAhead, HasEvents, HasBadEvent, counting_from, audio_of}
+use Rattle.link_text.specs.ReplayScript.{IsHead, IsGate, IsEventLine, AreEventLines, IsScript, IsNoScript, BeginsScript, IsFirstFault, IsLineFault, IsChecked, version_line, node_line, gate_lines, head_lines}
+use Rattle.link_text.proofs.PlaceLemmas.{counting-append, counting_counted}
 use Rattle.link_text.proofs.HeadLemmas.{lacks_gate_as, AreOneNode, node_one, gates_one, opened, gate_no_to, events_no_gate, events_no_to, full_events}
-use Rattle.link_text.proofs.EventUniqueLemmas.{event_one, events_one, event_among, events_push, audio_push}
+use Rattle.link_text.proofs.EventUniqueLemmas.{event_among, events_push, audio_push}
 
 -- ---- how lines go on to a script
 
@@ -324,6 +324,7 @@ no_event_in c d now at said xs ys rest x es fs is_c is_d full lacks are none sam
     alike_full : (said : List (List ℕ)) → AreFull c.gates (said ++ x ∷ xs) → AreFull c.gates (said ++ x ∷ ys)
     alike_full [] full = full_alike c.gates x xs ys full
     alike_full (l ∷ said) full = full_alike c.gates l (said ++ x ∷ xs) (said ++ x ∷ ys) full
+
     alike_lacks : (said : List (List ℕ)) → LacksGate (length c.gates) (said ++ x ∷ xs) → LacksGate (length c.gates) (said ++ x ∷ ys)
     alike_lacks [] lacks = lacks_gate_alike (length c.gates) x xs ys lacks
     alike_lacks (l ∷ said) lacks = lacks_gate_alike (length c.gates) l (said ++ x ∷ xs) (said ++ x ∷ ys) lacks
@@ -409,6 +410,8 @@ events_more gates lines audio after here rest line e has is says next = record {
 
 pub events_whole : (gates : ℕ) (lines : List (List ℕ)) (audio : ℕ) (rest : List (List ℕ)) → HasEvents gates lines audio rest → rest ≡ []
     → (es : List EventValue) × AreEventLines gates 0 lines es
-events_whole gates lines audio rest has none =
-    (has.es, subst (λ (ls : List (List ℕ)). AreEventLines gates 0 ls has.es)
-    (sym (has.said ∙ ap (λ (ls : List (List ℕ)). has.events_lines ++ ls) none ∙ append-nil has.events_lines)) has.events)
+events_whole gates lines audio rest has none = (
+  has.es,
+  subst (λ (ls : List (List ℕ)). AreEventLines gates 0 ls has.es)
+      (sym (has.said ∙ ap (λ (ls : List (List ℕ)). has.events_lines ++ ls) none ∙ append-nil has.events_lines)) has.events,
+)

@@ -1,5 +1,5 @@
 -- The lines of a text, and those of them that count.
-use Rattle.std.specs.Prelude.{ℕ, ◌==◌, ◌||◌, not, Bool, true, if◌then◌else◌, List, [], ◌∷◌, filter}
+use Rattle.std.specs.Prelude.{ℕ, ◌==◌, not, Bool, true, if◌then◌else◌, List, [], ◌∷◌, filter}
 use Rattle.std.specs.List.{onto_first}
 
 -- A text is lines ended by a line feed, which the last may lack. Carriage returns are part of a line.

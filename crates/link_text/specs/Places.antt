@@ -1,5 +1,5 @@
 -- Only for proofs: how far a text is read.
-use Rattle.std.specs.Prelude.{◌≡◌, ◌≤◌, ◌<◌, ◌+◌, ◌⊎◌, ℕ, Bool, false, List, [], ◌∷◌, ◌++◌, length, drop}
+use Rattle.std.specs.Prelude.{◌≡◌, ◌≤◌, ◌<◌, ◌+◌, ℕ, false, List, [], ◌∷◌, ◌++◌, length, drop}
 use Rattle.link_node.specs.Event.{EventValue, audio_after}
 use Rattle.link_text.specs.Lines.{lines_of, is_passed, counting_in}
 use Rattle.link_text.specs.ReplayScript.{AreEventLines, IsEventLine}

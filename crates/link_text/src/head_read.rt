@@ -132,7 +132,7 @@ fn destinations_from(text: &[u8], start: Place) -> (ArrayVec<Endpoint, 32>, Plac
 }
 
 // The endpoint that the line of a gate says.
-fn gate_of(line: &[u8]) -> Option<Endpoint>
+pub(crate) fn gate_of(line: &[u8]) -> Option<Endpoint>
     ensures some { IfSome result (λ e. IsEndpoint e × (line.now ≡ gate_line e)) }
     ensures none { IfNone result ((e : Endpoint) → IsEndpoint e → line.now ≡ gate_line e → ⊥) }
 {
@@ -140,7 +140,7 @@ fn gate_of(line: &[u8]) -> Option<Endpoint>
 }
 
 // The endpoint that the line of a destination says.
-fn destination_of(line: &[u8]) -> Option<Endpoint>
+pub(crate) fn destination_of(line: &[u8]) -> Option<Endpoint>
     ensures some { IfSome result (λ e. IsEndpoint e × (line.now ≡ to_line e)) }
     ensures none { IfNone result ((e : Endpoint) → IsEndpoint e → line.now ≡ to_line e → ⊥) }
 {

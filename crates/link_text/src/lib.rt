@@ -1,8 +1,9 @@
 //! The texts that the program reads and writes.
 //!
 //! In reading order: `line` (a line that is put together), `text_line` (the lines of a text), `word`, `number`, `truth`, `node_id`,
-//! `endpoint`, `hex_word` (what a word says), `words`, `values` (a line word by word), `fault`, `head`,
-//! `replay_script`, `head_line`, `event_line`, `sending_line`, `state_line`, `reading_line`; last `laws`.
+//! `endpoint`, `hex_word` (what a word says), `words`, `values` (a line word by word), `place` (the lines that count), `commit_read`,
+//! `event_read`, `head_read` (a line of each kind), `fault`, `head`, `replay_script`, `reason`, `head_line`, `event_line`,
+//! `sending_line`, `state_line`, `reading_line`; last `laws`.
 #![tactic(auto)]
 
 mod commit_read;
@@ -20,6 +21,7 @@ mod node_id;
 mod number;
 mod place;
 mod reading_line;
+mod reason;
 mod replay_script;
 mod sending_line;
 mod state_line;
@@ -38,6 +40,7 @@ pub use head_line::write_head;
 pub use laws::{one_script, scripts_fit_nodes, written_scripts_are_read};
 pub use line::{LineBuf, put, put_decimal, put_endpoint, put_signed, put_truth};
 pub use reading_line::write_reading;
+pub use reason::{Excerpt, Expected, Found, Reason, explain};
 pub use replay_script::{check_replay, next_event};
 pub use sending_line::write_sending;
 pub use state_line::{write_done_line, write_state_line};

@@ -149,7 +149,7 @@ fn events_from(text: &[u8], start: Place, gates: u8) -> Result<(), Place>
 }
 
 // The number of the last audio commit, once an event has come.
-fn audio_behind(event: &Event, audio: u64) -> u64
+pub(crate) fn audio_behind(event: &Event, audio: u64) -> u64
     ensures { result ≡ audio_after audio (event_value event.now) }
 {
     match event {

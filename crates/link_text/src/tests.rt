@@ -1,3 +1,5 @@
+mod explanations;
+mod scripts;
 mod writing;
 
 use crate::{LineBuf, write_reading};

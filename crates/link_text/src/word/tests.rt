@@ -1,7 +1,7 @@
 use crate::endpoint::endpoint_of;
-use crate::hex_word::wire_of;
+use crate::hex_word::bytes_of;
 use crate::node_id::id_of;
-use crate::number::{amount_of, number_of};
+use crate::number::{amount_of, number_of, signed_of};
 use crate::truth::truth_of;
 use lk_base::{Endpoint, NodeId};
 
@@ -35,6 +35,24 @@ fn an_amount_is_in_its_range(rt: HostRuntime) {
         (b"-60060", None),
     ] {
         assert_eq!(rt; amount_of(word, 60_060, 3_000_000), want, "{word:?}");
+    }
+}
+
+#[test]
+fn a_signed_number_is_within_2_to_the_60_and_has_no_sign_before_0(rt: HostRuntime) {
+    for (word, want) in [
+        (b"0".as_slice(), Some(0)),
+        (b"-0", None),
+        (b"-", None),
+        (b"--1", None),
+        (b"-01", None),
+        (b"-1", Some(-1)),
+        (b"1152921504606846976", Some(1_152_921_504_606_846_976)),
+        (b"1152921504606846977", None),
+        (b"-1152921504606846976", Some(-1_152_921_504_606_846_976)),
+        (b"-1152921504606846977", None),
+    ] {
+        assert_eq!(rt; signed_of(word), want, "{word:?}");
     }
 }
 
@@ -101,9 +119,10 @@ fn an_endpoint_has_four_numbers_parted_by_dots_a_colon_and_a_port(rt: HostRuntim
 }
 
 #[test]
-fn hex_has_two_digits_of_either_case_for_a_byte(rt: HostRuntime) {
+fn hex_has_two_digits_of_either_case_for_a_byte_and_a_hyphen_for_none(rt: HostRuntime) {
     for (word, want) in [
-        (b"".as_slice(), Some(b"".as_slice())),
+        (b"-".as_slice(), Some(b"".as_slice())),
+        (b"", None),
         (b"00", Some(b"\x00")),
         (b"aB", Some(b"\xab")),
         (b"00ffFF7a", Some(b"\x00\xff\xff\x7a")),
@@ -113,7 +132,7 @@ fn hex_has_two_digits_of_either_case_for_a_byte(rt: HostRuntime) {
         (b"0x", None),
         (b" a", None),
     ] {
-        match wire_of(word) {
+        match bytes_of(word) {
             Some(wire) => assert_eq!(rt; Some(wire.as_slice()), want, "{word:?}"),
             None => assert_eq!(rt; None, want, "{word:?}"),
         }

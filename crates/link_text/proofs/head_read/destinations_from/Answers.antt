@@ -1,4 +1,4 @@
-use Rattle.std.proofs.Common.{arith, inl, inr, length}
+use Rattle.std.proofs.Common.{arith, inr, length}
 use Rattle.std.proofs.lemmas.Bool.Decides.{nat_tests}
 use Rattle.link_text.proofs.PlaceLemmas.{counting_end}
 use Rattle.link_text.proofs.HeadLemmas.{lacks_end}

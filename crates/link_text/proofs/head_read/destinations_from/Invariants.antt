@@ -1,6 +1,5 @@
-use Rattle.std.proofs.Common.{◌-◌, ◌≤◌, length, map}
-use Rattle.link_node.specs.Config.{gate_value}
-use Rattle.link_text.specs.HeadParts.{HasDestinations, HasGates}
+use Rattle.std.proofs.Common.{◌-◌, ◌≤◌, length}
+use Rattle.link_text.specs.HeadParts.{HasDestinations}
 use Rattle.link_text.specs.Places.{IsAhead, counting_from}
 use Rattle.link_text.proofs.head_read.destinations_from.Given as goal
 

@@ -1,4 +1,4 @@
-use Rattle.std.proofs.Common.{arith, inl, inr, length, map, ◌<◌}
+use Rattle.std.proofs.Common.{arith, inr, length, map, ◌<◌}
 use Rattle.std.proofs.lemmas.List.{map-append, length-map}
 use Rattle.link_node.specs.Config.{gate_value}
 use Rattle.std.proofs.lemmas.Bool.Decides.{nat_tests}

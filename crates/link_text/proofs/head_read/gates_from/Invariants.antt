@@ -1,6 +1,6 @@
 use Rattle.std.proofs.Common.{◌-◌, length, map}
 use Rattle.link_node.specs.Config.{gate_value}
-use Rattle.link_text.specs.HeadParts.{HasDestinations, HasGates}
+use Rattle.link_text.specs.HeadParts.{HasGates}
 use Rattle.link_text.specs.Places.{IsAhead, counting_from}
 use Rattle.link_text.proofs.head_read.gates_from.Given as goal
 

@@ -1,4 +1,4 @@
-use Rattle.std.proofs.Common.{arith, refl, ◌+◌}
+use Rattle.std.proofs.Common.{refl, ◌+◌}
 use Rattle.link_text.proofs.PlaceLemmas.{ahead_next, line_next}
 use Rattle.link_text.proofs.place.line_from.Goals as goal
 

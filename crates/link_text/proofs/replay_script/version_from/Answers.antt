@@ -1,4 +1,4 @@
-use Rattle.std.proofs.Common.{arith, sym, ◌∙◌}
+use Rattle.std.proofs.Common.{arith}
 use Rattle.link_text.proofs.PlaceLemmas.{counting_end}
 use Rattle.link_text.proofs.replay_script.version_from.Goals as goal
 

@@ -1,5 +1,4 @@
-use Rattle.std.proofs.Common.{arith, ap, length, []}
-use Rattle.std.proofs.lemmas.Grind.{common_steps}
+use Rattle.std.proofs.Common.{arith, ap, length}
 use Rattle.std.proofs.lemmas.List.{nil_from_length}
 use Rattle.std.proofs.lemmas.Bool.Decides.{nat_tests}
 use Rattle.link_text.specs.LineWords.{words_left}

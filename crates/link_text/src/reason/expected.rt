@@ -1,0 +1,62 @@
+//! What is expected at a place of a line.
+
+/// What is expected at a place of a line.
+#[derive(Clone, Copy, Debug, PartialEq, Eq)]
+pub enum Expected {
+    Version,
+    Node,
+    Gate,
+    GateDestinationOrEvent,
+    GateOrEvent,
+    DestinationOrEvent,
+    Event,
+    Id,
+    Seed,
+    Tempo,
+    Truth,
+    Moment,
+    Endpoint,
+    GateNumber,
+    Bytes,
+    AudioNumber,
+    /// An audio commit's number up to that of the last one.
+    GreaterAudioNumber,
+    Signed,
+    /// A part of a commit, or the end of the line.
+    Parts,
+    /// A start, or the end of the line.
+    Start,
+    LineEnd,
+}
+
+impl Expected {
+    /// What it is in words.
+    pub fn text(self) -> &'static str {
+        match self {
+            Expected::Version => "`replay 1`",
+            Expected::Node => "`node` and a node's id, seed, tempo, sync and opening moment",
+            Expected::Gate => "`gate` and the endpoint of the node's first gate",
+            Expected::GateDestinationOrEvent =>
+                "`gate`, `to` or an event: `rx`, `tick`, `app`, `audio` or `end`",
+            Expected::GateOrEvent =>
+                "`gate` or an event, as the gate has 32 destinations: `rx`, `tick`, `app`, `audio` or `end`",
+            Expected::DestinationOrEvent =>
+                "`to` or an event, as the node has four gates: `rx`, `tick`, `app`, `audio` or `end`",
+            Expected::Event => "an event: `rx`, `tick`, `app`, `audio` or `end`",
+            Expected::Id => "an id of eight characters from ! to ~",
+            Expected::Seed => "a number from 0 to 18446744073709551615",
+            Expected::Tempo => "a tempo from 60060 to 3000000 microseconds per beat",
+            Expected::Truth => "1 or 0",
+            Expected::Moment => "a moment from 0 to 36028797018963968 microseconds",
+            Expected::Endpoint => "an endpoint as in 127.0.0.1:20808",
+            Expected::GateNumber => "the number of a gate, counted from 0",
+            Expected::Bytes => "at most 513 bytes in hex digits, two for each, or `-` for none",
+            Expected::AudioNumber => "a number from 1 to 1152921504606846975",
+            Expected::GreaterAudioNumber => "a greater number than that of the last audio commit",
+            Expected::Signed => "a number from -1152921504606846976 to 1152921504606846976",
+            Expected::Parts => "`t` and a timeline, `s` and a start, or the end of the line",
+            Expected::Start => "`s` and a start, or the end of the line",
+            Expected::LineEnd => "the end of the line",
+        }
+    }
+}

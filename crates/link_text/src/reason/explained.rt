@@ -1,0 +1,204 @@
+//! Where a line stops to be what is expected.
+
+use crate::event_read::AUDIO_MAX;
+use crate::reason::{Excerpt, Expected, Found, Reason, Stage, expected_at};
+use crate::values::{
+    bytes_in, endpoint_in, id_in, moment_in, number_in, signed_in, tempo_in, truth_in,
+};
+use crate::words::{first_word, is_word, next_word};
+
+/// Why a line is at fault at a stage of a script.
+pub(crate) fn explained(line: &[u8], stage: Stage) -> Reason {
+    match stage {
+        Stage::Version => version(line),
+        Stage::Node => node(line),
+        Stage::Gates {
+            gates,
+            destinations,
+        } => head(line, stage, gates, destinations),
+        Stage::Events { gates, audio } => event(line, stage, gates, audio),
+    }
+}
+
+// What is found where a word was expected behind a part of a line.
+fn behind(line: &[u8], left: &[u8], expected: Expected) -> Reason {
+    let start = line.len().saturating_sub(left.len());
+    match next_word(left) {
+        Some((word, rest)) => at(start.saturating_add(1), word, rest, expected),
+        None => Reason {
+            expected,
+            column: column_of(start),
+            found: Found::LineEnd,
+        },
+    }
+}
+
+// What is found where a word stands so many bytes behind the start of the line.
+fn at(start: usize, word: &[u8], rest: &[u8], expected: Expected) -> Reason {
+    if rest.is_empty() && word.last() == Some(&b'\r') {
+        return Reason {
+            expected,
+            column: column_of(start.saturating_add(word.len()).saturating_sub(1)),
+            found: Found::CarriageReturn,
+        };
+    }
+    let found = if word.is_empty() {
+        Found::NoWord
+    } else {
+        Found::Word(Excerpt::new(word))
+    };
+    Reason {
+        expected,
+        column: column_of(start),
+        found,
+    }
+}
+
+fn column_of(start: usize) -> u32 {
+    u32::try_from(start).unwrap_or(u32::MAX).saturating_add(1)
+}
+
+fn version(line: &[u8]) -> Reason {
+    let (word, left) = first_word(line);
+    if !is_word(word, b"replay") {
+        return at(0, word, left, Expected::Version);
+    }
+    let Some((number, rest)) = next_word(left) else {
+        return behind(line, left, Expected::Version);
+    };
+    if !is_word(number, b"1") {
+        return behind(line, left, Expected::Version);
+    }
+    behind(line, rest, Expected::LineEnd)
+}
+
+fn node(line: &[u8]) -> Reason {
+    let (word, left) = first_word(line);
+    if !is_word(word, b"node") {
+        return at(0, word, left, Expected::Node);
+    }
+    let Some((_, seed)) = id_in(left) else {
+        return behind(line, left, Expected::Id);
+    };
+    let Some((_, tempo)) = number_in(seed, u64::MAX) else {
+        return behind(line, seed, Expected::Seed);
+    };
+    let Some((_, sync)) = tempo_in(tempo) else {
+        return behind(line, tempo, Expected::Tempo);
+    };
+    let Some((_, moment)) = truth_in(sync) else {
+        return behind(line, sync, Expected::Truth);
+    };
+    let Some((_, left)) = moment_in(moment) else {
+        return behind(line, moment, Expected::Moment);
+    };
+    behind(line, left, Expected::LineEnd)
+}
+
+fn head(line: &[u8], stage: Stage, gates: u8, destinations: u8) -> Reason {
+    let (word, left) = first_word(line);
+    let first = is_word(word, b"gate") && gates < 4;
+    let further = is_word(word, b"to") && gates > 0 && destinations < 32;
+    if first || further {
+        return match endpoint_in(left) {
+            Some((_, left)) => behind(line, left, Expected::LineEnd),
+            None => behind(line, left, Expected::Endpoint),
+        };
+    }
+    event(line, stage, gates, 0)
+}
+
+fn event(line: &[u8], stage: Stage, gates: u8, audio: u64) -> Reason {
+    let (word, left) = first_word(line);
+    let arrival = is_word(word, b"rx");
+    let app = is_word(word, b"app");
+    let sound = is_word(word, b"audio");
+    let alone = is_word(word, b"tick") || is_word(word, b"end");
+    if gates == 0 || !(arrival || app || sound || alone) {
+        return at(0, word, left, expected_at(stage));
+    }
+    let Some((_, rest)) = moment_in(left) else {
+        return behind(line, left, Expected::Moment);
+    };
+    if arrival {
+        return datagram(line, rest, gates);
+    }
+    if app {
+        return commit(line, rest);
+    }
+    if sound {
+        return audio_commit(line, rest, audio);
+    }
+    behind(line, rest, Expected::LineEnd)
+}
+
+fn datagram(line: &[u8], left: &[u8], gates: u8) -> Reason {
+    let Some((_, from)) = number_in(left, u64::from(gates.saturating_sub(1))) else {
+        return behind(line, left, Expected::GateNumber);
+    };
+    let Some((_, bytes)) = endpoint_in(from) else {
+        return behind(line, from, Expected::Endpoint);
+    };
+    let Some((_, left)) = bytes_in(bytes) else {
+        return behind(line, bytes, Expected::Bytes);
+    };
+    behind(line, left, Expected::LineEnd)
+}
+
+fn audio_commit(line: &[u8], left: &[u8], audio: u64) -> Reason {
+    match number_in(left, AUDIO_MAX) {
+        Some((0, _)) => behind(line, left, Expected::AudioNumber),
+        Some((number, rest)) => {
+            if number <= audio {
+                return behind(line, left, Expected::GreaterAudioNumber);
+            }
+            commit(line, rest)
+        }
+        None => behind(line, left, Expected::AudioNumber),
+    }
+}
+
+fn commit(line: &[u8], left: &[u8]) -> Reason {
+    let Some((_, parts)) = signed_in(left) else {
+        return behind(line, left, Expected::Signed);
+    };
+    let Some((word, tempo)) = next_word(parts) else {
+        return behind(line, parts, Expected::LineEnd);
+    };
+    if is_word(word, b"t") {
+        return timeline(line, tempo);
+    }
+    start(line, parts, Expected::Parts)
+}
+
+fn timeline(line: &[u8], left: &[u8]) -> Reason {
+    let Some((_, beat)) = tempo_in(left) else {
+        return behind(line, left, Expected::Tempo);
+    };
+    let Some((_, time)) = signed_in(beat) else {
+        return behind(line, beat, Expected::Signed);
+    };
+    let Some((_, left)) = signed_in(time) else {
+        return behind(line, time, Expected::Signed);
+    };
+    start(line, left, Expected::Start)
+}
+
+fn start(line: &[u8], left: &[u8], expected: Expected) -> Reason {
+    let Some((word, playing)) = next_word(left) else {
+        return behind(line, left, Expected::LineEnd);
+    };
+    if !is_word(word, b"s") {
+        return behind(line, left, expected);
+    }
+    let Some((_, time)) = truth_in(playing) else {
+        return behind(line, playing, Expected::Truth);
+    };
+    let Some((_, stamp)) = signed_in(time) else {
+        return behind(line, time, Expected::Signed);
+    };
+    let Some((_, left)) = signed_in(stamp) else {
+        return behind(line, stamp, Expected::Signed);
+    };
+    behind(line, left, Expected::LineEnd)
+}
