@@ -20,21 +20,11 @@ INPUT = b"jorazhil: standard input could not be read; nothing was written\n"
 SINK = b"jorazhil: standard output could not be written; what was written is the front of the output\n"
 TOO_LONG = b"jorazhil: the input is longer than 16777216 bytes; nothing was written\n"
 
-VERSION = b"`replay 1`"
-NODE = (
-    b"`node ID SEED MPB SYNC NOW` with single spaces: an id of eight characters from ! to ~, a number below 2^64, "
-    b"60060 to 3000000 microseconds per beat, 0 or 1, and 0 to 2^55 microseconds"
-)
-GATE = b"`gate ENDPOINT`, as in `gate 127.0.0.1:20808`"
-ARRIVAL = (
-    b"`rx NOW 0 ENDPOINT HEX` with single spaces: 0 to 2^55 microseconds, the gate 0, a sender as 127.0.0.1:20808, "
-    b"and the hex digits of a plain alive of another session"
-)
-HEX = b"an even number of hex digits, of either case, and nothing else"
+EVENT = b"an event: `rx`, `tick`, `app`, `audio` or `end`"
 
 
-def at_fault(line, expected):
-    return b"jorazhil: line %d of the input is at fault: expected %s; nothing was written\n" % (line, expected)
+def at_fault(line, column, expected, found):
+    return b"jorazhil: line %d, column %d: expected %s, found %s; nothing was written\n" % (line, column, expected, found)
 
 
 # The words, the bytes on standard input, the status and the text on standard error. Standard output stays empty.
@@ -44,12 +34,20 @@ TEXTS = [
     (["replay", "x"], HEAD, 2, WORDS),
     (["decode", "x"], b"00\n", 2, WORDS),
     ([b"replay\xff"], HEAD, 2, WORDS),
-    (["replay"], b"replay 2\n", 8, at_fault(1, VERSION)),
-    (["replay"], b"replay 1\n", 8, at_fault(2, NODE)),
-    (["replay"], HEAD.replace(b"gate", b"gat"), 8, at_fault(3, GATE)),
-    (["replay"], HEAD + b"tick 5\n", 8, at_fault(4, ARRIVAL)),
-    (["decode"], b"0\n", 8, at_fault(1, HEX)),
-    (["decode"], b"00\n\n0g\n", 8, at_fault(3, HEX)),
+    (["replay"], b"replay 2\n", 8, at_fault(1, 8, b"`replay 1`", b'"2"')),
+    (["replay"], b"replay 1\n", 8, at_fault(2, 1, b"`node` and a node's id, seed, tempo, sync and opening moment", b"the end of the text")),
+    (
+        ["replay"],
+        HEAD.replace(b"500000", b"60059"),
+        8,
+        at_fault(2, 17, b"a tempo from 60060 to 3000000 microseconds per beat", b'"60059"'),
+    ),
+    (["replay"], b"# a comment\n\n" + HEAD.replace(b":20809", b""), 8, at_fault(5, 6, b"an endpoint as in 127.0.0.1:20808", b'"127.0.0.1"')),
+    (["replay"], HEAD + b"tick 5\nwait 5\n", 8, at_fault(5, 1, EVENT, b'"wait"')),
+    (["replay"], HEAD + b"tick 5\r\n", 8, at_fault(4, 7, b"a moment from 0 to 36028797018963968 microseconds", b"a carriage return (lines end in line feeds alone)")),
+    (["decode"], b"0\n", 8, at_fault(1, 2, b"a second hex digit for the last byte", b"the end of the line")),
+    (["decode"], b"00\n\n0g\n", 8, at_fault(3, 2, b"a hex digit", b'"g"')),
+    (["decode"], b"00\n0\xff00\n", 8, at_fault(2, 2, b"a hex digit", b'"\\xff"')),
     (["decode"], b"00" * 8_388_608 + b"\n", 10, TOO_LONG),
 ]
 

@@ -5,16 +5,15 @@ use Rattle.std.proofs.lemmas.List.{append_assoc, append-nil}
 use Rattle.std.proofs.lemmas.List.Elements.{All-head, All-tail, All-same}
 use Rattle.std.proofs.lemmas.List.Folds.{concat-append}
 use Rattle.hex.proofs.HexLemmas.{decode_of-ok, decode_of-same}
-use Rattle.lk_outside.specs.Transfer.{AppendsPrefix}
 use Rattle.asdp_messages.specs.declared.fault.WireFault.{WireFault}
 use Rattle.asdp_messages.specs.Datagram.{AreAllRead, MessageValue, IsReadAs}
 use Rattle.link_text.specs.ReadingLine.{reading_line_of}
-use Rattle.link_daemon.specs.TextLines.{lines_of}
+use Rattle.link_text.specs.Lines.{lines_of}
 use Rattle.link_daemon.specs.HexLines.{IsHexLine, IsDecodable, HasLinesWithin}
 use Rattle.link_daemon.specs.DecodeText.{IsDecodedLine, AreDecodedLines, IsDecodeText, HasOneOutput}
 use Rattle.link_daemon.specs.Outlet.{HandsOver, HandsPart}
-use Rattle.link_daemon.proofs.OutletLemmas.{hands_none, hands_both, hands_whole_part, part_after, part_of_more}
-use Rattle.link_daemon.proofs.ScriptLemmas.{lines_end}
+use Rattle.link_daemon.proofs.OutletLemmas.{hands_none, hands_both, part_after, part_of_more}
+use Rattle.link_daemon.proofs.LineLemmas.{lines_end}
 
 -- ---- one line
 
@@ -136,15 +135,6 @@ decoded_part law text line said at next most start kept now kept' after has line
       },
       rw same longer,
     )
-
--- ---- the whole output
-
--- it was handed over, and the sink failed at what was kept
-pub over_part_last : (text : List ℕ) (before now after : Option (List ℕ)) (kept kept' : List ℕ) → kept ≡ []
-    → ((output : List ℕ) × IsDecodeText text output × HandsOver output before kept now kept') → AppendsPrefix now kept' after
-    → (output : List ℕ) × IsDecodeText text output × AppendsPrefix before output after
-over_part_last text before now after kept kept' none (output, is, over) wrote =
-    (output, is, hands_whole_part before now after output kept' (rw none at over) wrote)
 
 -- ---- one output
 

@@ -6,10 +6,10 @@ use Rattle.std.proofs.lemmas.List.Elements.{All-nil, All-push, All-weaker, All-s
 use Rattle.std.proofs.Math.Nat.{le-max_left, le-max_right, max-le, eq-or-lt_of_le}
 use Rattle.hex.specs.Hex.{decode_of, is_hex_digit}
 use Rattle.hex.proofs.HexLemmas.{decode_of-ok, decode_of-digits}
-use Rattle.link_daemon.specs.TextLines.{lines_of}
+use Rattle.link_text.specs.Lines.{lines_of}
 use Rattle.link_daemon.specs.HexLines.{IsHexLine, IsDecodable, IsBadLine, IsFirstBadLine, HasLineAmong, IsLongestLine}
 use Rattle.link_daemon.specs.DecodeText.{AreDecodedLines, IsDecodeText}
-use Rattle.link_daemon.proofs.ScriptLemmas.{lines_end}
+use Rattle.link_daemon.proofs.LineLemmas.{lines_end}
 
 -- a line outside the grammar says no bytes
 pub bad_line : (line bytes : List ℕ) → IsBadLine line → decode_of line ≡ Ok bytes → ⊥

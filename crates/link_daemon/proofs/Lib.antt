@@ -1,10 +1,4 @@
-mod WordLemmas
 mod LineLemmas
-mod NumberLemmas
-mod EndpointLemmas
-mod HeadLemmas
-mod ArrivalLemmas
-mod ScriptLemmas
 mod OutletLemmas
 mod ReplayLemmas
 mod CommandLemmas

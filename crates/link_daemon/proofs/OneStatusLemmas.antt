@@ -6,13 +6,14 @@ use Rattle.lk_outside.specs.Source.{Takes, IsAtEnd}
 use Rattle.lk_outside.specs.Transfer.{TakesOver}
 use Rattle.std.specs.declared.alloc.Global.{Global}
 use Rattle.std.specs.declared.string.String.{String}
+use Rattle.link_daemon.specs.declared.status.Grammar.{Grammar}
 use Rattle.link_daemon.specs.declared.status.Status.{Status}
 use Rattle.link_daemon.specs.declared.status.Status.TheVariants as status
 use Rattle.link_daemon.specs.Statuses.{Command, Stream, WasRead, ReadsText, ReadsFault, EndsBy, replay_command, decode_command}
-use Rattle.link_daemon.specs.OneStatus.{IsTold, HasOneStatus, HasOneFaultLine}
+use Rattle.link_daemon.specs.OneStatus.{End, end_of, IsTold, HasOneStatus, HasOneFaultLine}
 use Rattle.link_daemon.proofs.StatusLemmas.{not_both}
 use Rattle.link_daemon.proofs.HexLineLemmas.{bad_and_decoded}
-use Rattle.link_daemon.proofs.FaultLineLemmas.{one_script_fault, one_bad_line}
+use Rattle.link_daemon.proofs.FaultLineLemmas.{IsFaultOnce, one_script_fault, one_bad_line}
 
 -- a count that can rise does not both rise and stay
 rose_and_quiet : (before now : ℕ) → before < 2 ^ 64 - 1 → Rose before now → now ≡ before → ⊥
@@ -56,11 +57,19 @@ one_line command once line other input input' tells p q =
     let same : p.bytes ≡ q.bytes = one_text input.told input'.told p.bytes q.bytes tells p.read.whole.taken q.read.whole.taken p.read.whole.ended in
     once q.bytes line other (let P : List ℕ → Type 0 = λ bytes. command.FaultsAt bytes line in subst P same p.fault) q.fault
 
+-- the line at fault and the limit of an end
+end_at : Grammar × ℕ → End
+end_at fault = record { number = 8; fault = Some fault; limit = None }
+
+end_past : ℕ → End
+end_past limit = record { number = 10; fault = None; limit = Some limit }
+
 -- one run of one command
 one_of : (command : Command) → AreExclusive command → HasOneFaultLine command → (words : List (String Global)) (input input' out out' : Stream) (one other : Status)
     → IsTold input → out.faults < 2 ^ 64 - 1 → one ≢ status.Memory → other ≢ status.Memory
     → EndsBy command words input input' out out' one → EndsBy command words input input' out out' other
-    → one ≡ other
+    → end_of one ≡ end_of other
+unfolding end_at end_past
 one_of command exclusive once words input input' out out' status.Done status.Done tells counts not_one not_other (named, (output, reads, wrote)) (named', (output', reads', wrote')) =
     refl
 one_of command exclusive once words input input' out out' status.Done status.Words tells counts not_one not_other (named, (output, reads, wrote)) (unnamed', same_in', same_out') =
@@ -69,7 +78,7 @@ one_of command exclusive once words input input' out out' status.Done status.Inp
     absurd (rose_and_quiet _ _ tells.counts rose' reads.read.quiet)
 one_of command exclusive once words input input' out out' status.Done status.Sink tells counts not_one not_other (named, (output, reads, wrote)) (named', (output', reads', wrote')) =
     absurd (rose_and_quiet _ _ counts wrote'.rose wrote.quiet)
-one_of command exclusive once words input input' out out' status.Done (status.Script g' line') tells counts not_one not_other (named, (output, reads, wrote)) (named', same_grammar', reads', same_out') =
+one_of command exclusive once words input input' out out' status.Done (status.Script g' line' reason') tells counts not_one not_other (named, (output, reads, wrote)) (named', same_grammar', reads', same_out') =
     absurd (fault_and_output command exclusive _ _ _ _ tells.told reads' reads)
 one_of command exclusive once words input input' out out' status.Done status.Memory tells counts not_one not_other (named, (output, reads, wrote)) ends' =
     absurd (not_other refl)
@@ -83,7 +92,7 @@ one_of command exclusive once words input input' out out' status.Words status.In
     absurd (unnamed named')
 one_of command exclusive once words input input' out out' status.Words status.Sink tells counts not_one not_other (unnamed, same_in, same_out) (named', (output', reads', wrote')) =
     absurd (unnamed named')
-one_of command exclusive once words input input' out out' status.Words (status.Script g' line') tells counts not_one not_other (unnamed, same_in, same_out) (named', same_grammar', reads', same_out') =
+one_of command exclusive once words input input' out out' status.Words (status.Script g' line' reason') tells counts not_one not_other (unnamed, same_in, same_out) (named', same_grammar', reads', same_out') =
     absurd (unnamed named')
 one_of command exclusive once words input input' out out' status.Words status.Memory tells counts not_one not_other (unnamed, same_in, same_out) ends' =
     absurd (not_other refl)
@@ -97,7 +106,7 @@ one_of command exclusive once words input input' out out' status.Input status.In
     refl
 one_of command exclusive once words input input' out out' status.Input status.Sink tells counts not_one not_other (named, rose, few, same_out) (named', (output', reads', wrote')) =
     absurd (rose_and_quiet _ _ tells.counts rose reads'.read.quiet)
-one_of command exclusive once words input input' out out' status.Input (status.Script g' line') tells counts not_one not_other (named, rose, few, same_out) (named', same_grammar', reads', same_out') =
+one_of command exclusive once words input input' out out' status.Input (status.Script g' line' reason') tells counts not_one not_other (named, rose, few, same_out) (named', same_grammar', reads', same_out') =
     absurd (rose_and_quiet _ _ tells.counts rose reads'.read.quiet)
 one_of command exclusive once words input input' out out' status.Input status.Memory tells counts not_one not_other (named, rose, few, same_out) ends' =
     absurd (not_other refl)
@@ -111,27 +120,27 @@ one_of command exclusive once words input input' out out' status.Sink status.Inp
     absurd (rose_and_quiet _ _ tells.counts rose' reads.read.quiet)
 one_of command exclusive once words input input' out out' status.Sink status.Sink tells counts not_one not_other (named, (output, reads, wrote)) (named', (output', reads', wrote')) =
     refl
-one_of command exclusive once words input input' out out' status.Sink (status.Script g' line') tells counts not_one not_other (named, (output, reads, wrote)) (named', same_grammar', reads', same_out') =
+one_of command exclusive once words input input' out out' status.Sink (status.Script g' line' reason') tells counts not_one not_other (named, (output, reads, wrote)) (named', same_grammar', reads', same_out') =
     absurd (fault_and_output command exclusive _ _ _ _ tells.told reads' reads)
 one_of command exclusive once words input input' out out' status.Sink status.Memory tells counts not_one not_other (named, (output, reads, wrote)) ends' =
     absurd (not_other refl)
 one_of command exclusive once words input input' out out' status.Sink (status.TooLong limit') tells counts not_one not_other (named, (output, reads, wrote)) (named', same_limit', more', quiet', same_out') =
     absurd (more_and_whole _ _ _ _ tells.told more' reads.read)
-one_of command exclusive once words input input' out out' (status.Script g line) status.Done tells counts not_one not_other (named, same_grammar, reads, same_out) (named', (output', reads', wrote')) =
+one_of command exclusive once words input input' out out' (status.Script g line reason) status.Done tells counts not_one not_other (named, same_grammar, reads, same_out) (named', (output', reads', wrote')) =
     absurd (fault_and_output command exclusive _ _ _ _ tells.told reads reads')
-one_of command exclusive once words input input' out out' (status.Script g line) status.Words tells counts not_one not_other (named, same_grammar, reads, same_out) (unnamed', same_in', same_out') =
+one_of command exclusive once words input input' out out' (status.Script g line reason) status.Words tells counts not_one not_other (named, same_grammar, reads, same_out) (unnamed', same_in', same_out') =
     absurd (unnamed' named)
-one_of command exclusive once words input input' out out' (status.Script g line) status.Input tells counts not_one not_other (named, same_grammar, reads, same_out) (named', rose', few', same_out') =
+one_of command exclusive once words input input' out out' (status.Script g line reason) status.Input tells counts not_one not_other (named, same_grammar, reads, same_out) (named', rose', few', same_out') =
     absurd (rose_and_quiet _ _ tells.counts rose' reads.read.quiet)
-one_of command exclusive once words input input' out out' (status.Script g line) status.Sink tells counts not_one not_other (named, same_grammar, reads, same_out) (named', (output', reads', wrote')) =
+one_of command exclusive once words input input' out out' (status.Script g line reason) status.Sink tells counts not_one not_other (named, same_grammar, reads, same_out) (named', (output', reads', wrote')) =
     absurd (fault_and_output command exclusive _ _ _ _ tells.told reads reads')
-one_of command exclusive once words input input' out out' (status.Script g line) (status.Script g' line') tells counts not_one not_other (named, same_grammar, reads, same_out) (named', same_grammar', reads', same_out') =
+one_of command exclusive once words input input' out out' (status.Script g line reason) (status.Script g' line' reason') tells counts not_one not_other (named, same_grammar, reads, same_out) (named', same_grammar', reads', same_out') =
     let same : g ≡ g' = same_grammar ∙ sym same_grammar' in
     let same_line : line ≡ line' = one_line command once line line' input input' tells.told reads reads' in
-    cc
-one_of command exclusive once words input input' out out' (status.Script g line) status.Memory tells counts not_one not_other (named, same_grammar, reads, same_out) ends' =
+    ap end_at (cc (same, same_line))
+one_of command exclusive once words input input' out out' (status.Script g line reason) status.Memory tells counts not_one not_other (named, same_grammar, reads, same_out) ends' =
     absurd (not_other refl)
-one_of command exclusive once words input input' out out' (status.Script g line) (status.TooLong limit') tells counts not_one not_other (named, same_grammar, reads, same_out) (named', same_limit', more', quiet', same_out') =
+one_of command exclusive once words input input' out out' (status.Script g line reason) (status.TooLong limit') tells counts not_one not_other (named, same_grammar, reads, same_out) (named', same_limit', more', quiet', same_out') =
     absurd (more_and_whole _ _ _ _ tells.told more' reads.read)
 one_of command exclusive once words input input' out out' status.Memory status.Done tells counts not_one not_other ends (named', (output', reads', wrote')) =
     absurd (not_one refl)
@@ -141,7 +150,7 @@ one_of command exclusive once words input input' out out' status.Memory status.I
     absurd (not_one refl)
 one_of command exclusive once words input input' out out' status.Memory status.Sink tells counts not_one not_other ends (named', (output', reads', wrote')) =
     absurd (not_one refl)
-one_of command exclusive once words input input' out out' status.Memory (status.Script g' line') tells counts not_one not_other ends (named', same_grammar', reads', same_out') =
+one_of command exclusive once words input input' out out' status.Memory (status.Script g' line' reason') tells counts not_one not_other ends (named', same_grammar', reads', same_out') =
     absurd (not_one refl)
 one_of command exclusive once words input input' out out' status.Memory status.Memory tells counts not_one not_other ends ends' =
     absurd (not_one refl)
@@ -155,35 +164,35 @@ one_of command exclusive once words input input' out out' (status.TooLong limit)
     absurd (rose_and_quiet _ _ tells.counts rose' quiet)
 one_of command exclusive once words input input' out out' (status.TooLong limit) status.Sink tells counts not_one not_other (named, same_limit, more, quiet, same_out) (named', (output', reads', wrote')) =
     absurd (more_and_whole _ _ _ _ tells.told more reads'.read)
-one_of command exclusive once words input input' out out' (status.TooLong limit) (status.Script g' line') tells counts not_one not_other (named, same_limit, more, quiet, same_out) (named', same_grammar', reads', same_out') =
+one_of command exclusive once words input input' out out' (status.TooLong limit) (status.Script g' line' reason') tells counts not_one not_other (named, same_limit, more, quiet, same_out) (named', same_grammar', reads', same_out') =
     absurd (more_and_whole _ _ _ _ tells.told more reads'.read)
 one_of command exclusive once words input input' out out' (status.TooLong limit) status.Memory tells counts not_one not_other (named, same_limit, more, quiet, same_out) ends' =
     absurd (not_other refl)
 one_of command exclusive once words input input' out out' (status.TooLong limit) (status.TooLong limit') tells counts not_one not_other (named, same_limit, more, quiet, same_out) (named', same_limit', more', quiet', same_out') =
-    ap status.TooLong (same_limit ∙ sym same_limit')
+    ap end_past (same_limit ∙ sym same_limit')
 
 pub replay_exclusive : AreExclusive replay_command
-replay_exclusive text output line fault (head, arrivals, script, same) = fault.1 head arrivals script
+replay_exclusive text output line fault (config, now, es, script, same) = fault.1 config now es script
 
 pub decode_exclusive : AreExclusive decode_command
 decode_exclusive text output line fault whole = bad_and_decoded text output line fault whole
 
-pub one_status : HasOneStatus
-one_status words input input' out out' one other tells counts not_one not_other (inl (named, ends)) (inl (named', ends')) =
-    one_of replay_command replay_exclusive one_script_fault words input input' out out' one other tells counts not_one not_other ends ends'
-one_status words input input' out out' one other tells counts not_one not_other (inl (named, ends)) (inr (inl (named', ends'))) =
+pub one_status : IsFaultOnce → HasOneStatus
+one_status law words input input' out out' one other tells counts not_one not_other (inl (named, ends)) (inl (named', ends')) =
+    one_of replay_command replay_exclusive (one_script_fault law) words input input' out out' one other tells counts not_one not_other ends ends'
+one_status law words input input' out out' one other tells counts not_one not_other (inl (named, ends)) (inr (inl (named', ends'))) =
     absurd (not_both words named named')
-one_status words input input' out out' one other tells counts not_one not_other (inl (named, ends)) (inr (inr unnamed)) =
+one_status law words input input' out out' one other tells counts not_one not_other (inl (named, ends)) (inr (inr unnamed)) =
     absurd (unnamed.no_replay named)
-one_status words input input' out out' one other tells counts not_one not_other (inr (inl (named, ends))) (inl (named', ends')) =
+one_status law words input input' out out' one other tells counts not_one not_other (inr (inl (named, ends))) (inl (named', ends')) =
     absurd (not_both words named' named)
-one_status words input input' out out' one other tells counts not_one not_other (inr (inl (named, ends))) (inr (inl (named', ends'))) =
+one_status law words input input' out out' one other tells counts not_one not_other (inr (inl (named, ends))) (inr (inl (named', ends'))) =
     one_of decode_command decode_exclusive one_bad_line words input input' out out' one other tells counts not_one not_other ends ends'
-one_status words input input' out out' one other tells counts not_one not_other (inr (inl (named, ends))) (inr (inr unnamed)) =
+one_status law words input input' out out' one other tells counts not_one not_other (inr (inl (named, ends))) (inr (inr unnamed)) =
     absurd (unnamed.no_decode named)
-one_status words input input' out out' one other tells counts not_one not_other (inr (inr unnamed)) (inl (named, ends)) =
+one_status law words input input' out out' one other tells counts not_one not_other (inr (inr unnamed)) (inl (named, ends)) =
     absurd (unnamed.no_replay named)
-one_status words input input' out out' one other tells counts not_one not_other (inr (inr unnamed)) (inr (inl (named, ends))) =
+one_status law words input input' out out' one other tells counts not_one not_other (inr (inr unnamed)) (inr (inl (named, ends))) =
     absurd (unnamed.no_decode named)
-one_status words input input' out out' one other tells counts not_one not_other (inr (inr unnamed)) (inr (inr unnamed')) =
-    unnamed.words_at_fault ∙ sym unnamed'.words_at_fault
+one_status law words input input' out out' one other tells counts not_one not_other (inr (inr unnamed)) (inr (inr unnamed')) =
+    ap end_of (unnamed.words_at_fault ∙ sym unnamed'.words_at_fault)

@@ -108,3 +108,10 @@ pub hands_whole_part : (before now after : Option (List ℕ)) (text kept : List 
 hands_whole_part before now after text kept one wrote =
     let both = prefix_after before now after one.done kept one.appended wrote in
     rw one.whole both
+
+-- an output of some kind was handed over, and the sink failed at what was kept
+pub over_part_last : (P : List ℕ → Type 0) (before now after : Option (List ℕ)) (kept kept' : List ℕ) → kept ≡ []
+    → ((output : List ℕ) × P output × HandsOver output before kept now kept') → AppendsPrefix now kept' after
+    → (output : List ℕ) × P output × AppendsPrefix before output after
+over_part_last P before now after kept kept' none (output, is, over) wrote =
+    (output, is, hands_whole_part before now after output kept' (rw none at over) wrote)

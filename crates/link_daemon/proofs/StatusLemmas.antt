@@ -13,7 +13,7 @@ ends_of_text command words input input' out out' bytes status.Done named read (o
     (named, (output, record { bytes = bytes; read = read; gives = gives }, wrote))
 ends_of_text command words input input' out out' bytes status.Sink named read (output, gives, wrote) =
     (named, (output, record { bytes = bytes; read = read; gives = gives }, wrote))
-ends_of_text command words input input' out out' bytes (status.Script g line) named read (same_grammar, fault, same) =
+ends_of_text command words input input' out out' bytes (status.Script g line reason) named read (same_grammar, fault, same) =
     (named, same_grammar, record { bytes = bytes; read = read; fault = fault }, same)
 ends_of_text command words input input' out out' bytes status.Memory named read same =
     (named, (bytes, omega (arith, read.within), read.whole.taken), read.quiet, same)
@@ -50,7 +50,7 @@ ends_with_replay words rest input input' out out' status.Words begun (unnamed, s
 ends_with_replay words rest input input' out out' status.Done begun ends = inl (ends.0, ends)
 ends_with_replay words rest input input' out out' status.Input begun ends = inl (ends.0, ends)
 ends_with_replay words rest input input' out out' status.Sink begun ends = inl (ends.0, ends)
-ends_with_replay words rest input input' out out' (status.Script g line) begun ends = inl (ends.0, ends)
+ends_with_replay words rest input input' out out' (status.Script g line reason) begun ends = inl (ends.0, ends)
 ends_with_replay words rest input input' out out' status.Memory begun ends = inl (ends.0, ends)
 ends_with_replay words rest input input' out out' (status.TooLong limit) begun ends = inl (ends.0, ends)
 
@@ -68,6 +68,6 @@ ends_with_decode words rest input input' out out' status.Words begun (unnamed, s
 ends_with_decode words rest input input' out out' status.Done begun ends = inr (inl (ends.0, ends))
 ends_with_decode words rest input input' out out' status.Input begun ends = inr (inl (ends.0, ends))
 ends_with_decode words rest input input' out out' status.Sink begun ends = inr (inl (ends.0, ends))
-ends_with_decode words rest input input' out out' (status.Script g line) begun ends = inr (inl (ends.0, ends))
+ends_with_decode words rest input input' out out' (status.Script g line reason) begun ends = inr (inl (ends.0, ends))
 ends_with_decode words rest input input' out out' status.Memory begun ends = inr (inl (ends.0, ends))
 ends_with_decode words rest input input' out out' (status.TooLong limit) begun ends = inr (inl (ends.0, ends))

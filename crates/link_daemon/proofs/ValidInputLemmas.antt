@@ -41,7 +41,7 @@ completes_by command exclusive words input input' out out' status.Memory named v
 completes_by command exclusive words input input' out out' status.Words named valid reads writes (unnamed, same_in, same_out) = absurd (unnamed named)
 completes_by command exclusive words input input' out out' status.Input named valid reads writes (named', rose, few, same_out) = absurd (reads rose)
 completes_by command exclusive words input input' out out' status.Sink named valid reads writes (named', (output, read, wrote)) = absurd (writes wrote.rose)
-completes_by command exclusive words input input' out out' (status.Script g line) named valid reads writes (named', same_grammar, faulty, same_out) =
+completes_by command exclusive words input input' out out' (status.Script g line reason) named valid reads writes (named', same_grammar, faulty, same_out) =
     absurd (valid_and_fault command exclusive input input' line valid faulty)
 completes_by command exclusive words input input' out out' (status.TooLong limit) named valid reads writes (named', same_limit, over, quiet, same_out) =
     absurd (within_and_over command input input'.told valid over)

@@ -1,12 +1,9 @@
-pub mod TextLines
-pub mod Script
-pub mod Reading
-pub mod ScriptFaults
 pub mod Outlet
-pub mod ReplayText
 pub mod HexLines
 pub mod DecodeText
 pub mod Adapters
+pub mod Replaying
 pub mod Statuses
+pub mod TextFaults
 pub mod OneStatus
 pub mod ValidInput

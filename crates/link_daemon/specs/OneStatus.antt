@@ -1,7 +1,8 @@
 -- The causes of the statuses exclude each other, and a text outside a grammar has one first line at fault.
-use Rattle.std.specs.Prelude.{◌≡◌, ◌≢◌, ◌<◌, ◌^◌, ◌-◌, ℕ, IsSome, List}
+use Rattle.std.specs.Prelude.{◌≡◌, ◌≢◌, ◌<◌, ◌^◌, ◌-◌, ℕ, IsSome, List, Option, Some, None}
 use Rattle.std.specs.declared.alloc.Global.{Global}
 use Rattle.std.specs.declared.string.String.{String}
+use Rattle.link_daemon.specs.declared.status.Grammar.{Grammar}
 use Rattle.link_daemon.specs.declared.status.Status.{Status}
 use Rattle.link_daemon.specs.declared.status.Status.TheVariants as status
 use Rattle.link_daemon.specs.Statuses.{Command, Stream, Ends, replay_command, decode_command}
@@ -11,7 +12,23 @@ pub record IsTold (s : Stream) : Type 0 where
   pub told : IsSome s.told
   pub counts : s.faults < 2 ^ 64 - 1
 
--- One run over an input that tells has one status, its line at fault and its limit among it, want of memory apart.
+-- what a status says of the run: its number, the grammar and the line at fault, the limit; all but the words for people
+pub record End : Type 0 where
+  pub number : ℕ
+  pub fault : Option (Grammar × ℕ)
+  pub limit : Option ℕ
+
+abbrev pub end_of : Status → End
+end_of (status.Script g line reason) = record { number = 8; fault = Some (g, line); limit = None }
+end_of (status.TooLong limit) = record { number = 10; fault = None; limit = Some limit }
+end_of status.Done = record { number = 0; fault = None; limit = None }
+end_of status.Words = record { number = 2; fault = None; limit = None }
+end_of status.Input = record { number = 5; fault = None; limit = None }
+end_of status.Sink = record { number = 7; fault = None; limit = None }
+end_of status.Memory = record { number = 9; fault = None; limit = None }
+
+-- One run over an input that tells has one status, its line at fault and its limit among it, want of memory apart. The words that
+-- say to people why a line is at fault are left out.
 abbrev pub HasOneStatus : Type 0
 HasOneStatus =
     (words : List (String Global)) (input input' out out' : Stream) (one other : Status)
@@ -19,7 +36,7 @@ HasOneStatus =
     → one ≢ status.Memory → other ≢ status.Memory
     → Ends words input input' out out' one
     → Ends words input input' out out' other
-    → one ≡ other
+    → end_of one ≡ end_of other
 
 -- the first line at fault of a text is one line
 abbrev pub HasOneFaultLine : Command → Type 0

@@ -1,18 +1,18 @@
 -- How a call of the program may end: each status with its cause, and what was read and written then. The statuses are tried in this order:
 -- the words, a failure of the source, a text over the limit, a text outside the command's grammar, a failure of the sink.
-use Rattle.std.specs.Prelude.{◌≡◌, ◌≤◌, ◌+◌, ◌⊎◌, ℕ, List, [], ◌∷◌, Option, length, map, codes}
+use Rattle.std.specs.Prelude.{◌≡◌, ◌≤◌, ◌+◌, ◌⊎◌, ℕ, ℤ, List, [], ◌∷◌, Option, length, map, codes}
 use Rattle.std.specs.String.{string_bytes}
 use Rattle.std.specs.declared.alloc.Global.{Global}
 use Rattle.std.specs.declared.string.String.{String}
 use Rattle.lk_outside.specs.Faults.{Rose}
 use Rattle.lk_outside.specs.Sink.{Appends}
 use Rattle.lk_outside.specs.Transfer.{ReadsWhole, TakesOver, TakesWithin, AppendsPrefix}
-use Rattle.link_daemon.specs.Script.{IsScriptOf, IsNoScript, IsFirstFault}
-use Rattle.link_daemon.specs.ReplayText.{replay_text_of}
+use Rattle.link_node.specs.Config.{ConfigValue}
+use Rattle.link_node.specs.Event.{EventValue}
+use Rattle.link_text.specs.ReplayScript.{IsScriptOf, IsNoScript, IsFirstFault}
+use Rattle.link_text.specs.ReplayText.{replay_text_of}
 use Rattle.link_daemon.specs.HexLines.{IsFirstBadLine}
 use Rattle.link_daemon.specs.DecodeText.{IsDecodeText}
-use Rattle.link_daemon.specs.declared.script.Head.{Head}
-use Rattle.link_daemon.specs.declared.script.Arrival.{Arrival}
 use Rattle.link_daemon.specs.declared.status.Grammar.{Grammar}
 use Rattle.link_daemon.specs.declared.status.Grammar.TheVariants as grammar
 use Rattle.link_daemon.specs.declared.status.Status.{Status}
@@ -32,7 +32,7 @@ status_number_of status.Done = 0
 status_number_of status.Words = 2
 status_number_of status.Input = 5
 status_number_of status.Sink = 7
-status_number_of (status.Script g line) = 8
+status_number_of (status.Script g line reason) = 8
 status_number_of status.Memory = 9
 status_number_of (status.TooLong limit) = 10
 
@@ -42,7 +42,7 @@ IfNothingWritten status.Done P = Unit {0}
 IfNothingWritten status.Sink P = Unit {0}
 IfNothingWritten status.Words P = P
 IfNothingWritten status.Input P = P
-IfNothingWritten (status.Script g line) P = P
+IfNothingWritten (status.Script g line reason) P = P
 IfNothingWritten status.Memory P = P
 IfNothingWritten (status.TooLong limit) P = P
 
@@ -58,7 +58,8 @@ pub record Command : Type 1 where
 -- the text is a script, and the output is the text of its replay
 abbrev pub GivesReplay : List ℕ → List ℕ → Type 0
 GivesReplay text output =
-    (head : Head) × (arrivals : List Arrival) × IsScriptOf text head arrivals × (output ≡ replay_text_of head arrivals)
+    (config : ConfigValue) × (now : ℤ) × (es : List EventValue)
+    × IsScriptOf text config now es × (output ≡ replay_text_of config now es)
 
 abbrev pub replay_command : Command
 replay_command = record {
@@ -114,7 +115,7 @@ pub record WritesPart (before after : Stream) (output : List ℕ) : Type 0 where
 abbrev pub EndsText : Command → List ℕ → Stream → Stream → Status → Type 0
 EndsText command bytes out out' status.Done = (output : List ℕ) × command.Gives bytes output × WritesWhole out out' output
 EndsText command bytes out out' status.Sink = (output : List ℕ) × command.Gives bytes output × WritesPart out out' output
-EndsText command bytes out out' (status.Script g line) = (g ≡ command.grammar) × command.FaultsAt bytes line × (out' ≡ out)
+EndsText command bytes out out' (status.Script g line reason) = (g ≡ command.grammar) × command.FaultsAt bytes line × (out' ≡ out)
 EndsText command bytes out out' status.Memory = out' ≡ out
 EndsText command bytes out out' status.Words = ⊥
 EndsText command bytes out out' status.Input = ⊥
@@ -131,7 +132,7 @@ EndsBy command words input input' out out' status.Input =
 EndsBy command words input input' out out' (status.TooLong limit) =
     Names command words
     × (limit ≡ command.limit) × TakesOver command.limit input.told input'.told × (input'.faults ≡ input.faults) × (out' ≡ out)
-EndsBy command words input input' out out' (status.Script g line) =
+EndsBy command words input input' out out' (status.Script g line reason) =
     Names command words × (g ≡ command.grammar) × ReadsFault command input input' line × (out' ≡ out)
 EndsBy command words input input' out out' status.Sink =
     Names command words × ((output : List ℕ) × ReadsText command input input' output × WritesPart out out' output)

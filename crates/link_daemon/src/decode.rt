@@ -1,26 +1,22 @@
 //! The command `decode`: how each datagram of a text is read.
 
-ghost use Rattle.std.specs.Prelude.{◌≡◌, ◌≤◌, ◌*◌, List, ℕ, [], length, OnOk, OnErr};
+ghost use Rattle.std.specs.Prelude.{◌≡◌, ◌≤◌, ◌*◌, List, ℕ, length, OnOk, OnErr};
 ghost use Rattle.lk_outside.specs.Faults.{Rose};
-ghost use Rattle.lk_outside.specs.Sink.{Appends};
-ghost use Rattle.lk_outside.specs.Transfer.{AppendsPrefix};
 ghost use Rattle.link_daemon.specs.Outlet.{HandsOver, HandsPart};
 ghost use Rattle.link_daemon.specs.HexLines.{HasLinesWithin, IsDecodable, IsHexLine};
 ghost use Rattle.link_daemon.specs.DecodeText.{IsDecodedLine, IsDecodeText};
-ghost use Rattle.link_daemon.specs.Statuses.{EndsDecode, EndsText, IfNothingWritten, decode_command, seen};
+ghost use Rattle.link_daemon.specs.Statuses.{EndsDecode, IfNothingWritten, decode_command, seen};
 
-use crate::command_line::is_only;
 use crate::hex_lines::longest_line;
-use crate::line::line_at;
 use crate::outlet::{Outlet, SinkFailed};
+use crate::run_text::run_text;
 use crate::status::{Grammar, Status};
+use crate::text_command::TextCommand;
+use crate::text_fault::TextFault;
 use asdp_messages::{all_are_read, ping_payload_len, read_datagram};
-use link_text::{LineBuf, write_reading};
-use lk_outside::{InputFault, Sink, Source, read_all};
+use link_text::{LineBuf, line_at, write_reading};
+use lk_outside::{Sink, Source};
 use std::alloc::Global;
-
-/// How many bytes of a text are read at most.
-const TEXT_MAX: usize = 16_777_216;
 
 /// Decodes the datagrams on `input`: reads and checks the whole text, and then writes to `out` a line for each of its lines,
 /// which says how the bytes that the line spells are read. Nothing is written unless the whole text is in the grammar.
@@ -40,68 +36,50 @@ pub fn decode_main<S: Source, K: Sink>(
     ensures untouched { result ≡ Status.Words → (input.new ≡ input.old) × (out.new ≡ out.old) }
     ensures unwritten { IfNothingWritten result (out.new ≡ out.old) }
 {
-    if !is_only(words, "decode") {
-        return Status::Words;
-    }
-    match read_all(alloc, input, TEXT_MAX) {
-        Ok(text) => decode_text(alloc, &text, out),
-        Err(InputFault::Failed) => Status::Input,
-        Err(InputFault::TooLong) => Status::TooLong {
-            limit: TEXT_MAX as u64,
-        },
-        Err(InputFault::Memory(_)) => Status::Memory,
-    }
+    run_text::<Decode, S, K>(alloc, words, input, out)
 }
 
-// Decodes a text that was read.
-fn decode_text<K: Sink>(alloc: Global, text: &[u8], out: &mut K) -> Status
-    requires { length text.now ≤ 16_777_216 }
-    ensures ends { EndsText decode_command text.now
-        (seen K.written K.faults out.old) (seen K.written K.faults out.new) result }
-    ensures unwritten { IfNothingWritten result (out.new ≡ out.old) }
-{
-    let longest = match longest_line(text) {
-        Ok(longest) => longest,
-        Err(line) => {
-            return Status::Script {
-                grammar: Grammar::HexLines,
-                line,
-            };
+/// A text of datagrams that was checked.
+#[derive(Debug, Drop)]
+struct Decode {
+    // Room for the bytes of the longest line.
+    bytes: Vec<u8>,
+}
+
+impl TextCommand for Decode {
+    ghost command = { decode_command };
+
+    ghost ready = { λ decode text. IsDecodable text × (HasLinesWithin (length decode.bytes.items) text
+        × (length decode.bytes.items ≤ 16_777_216)) };
+
+    fn word() -> &'static str {
+        "decode"
+    }
+
+    fn limit() -> usize {
+        16_777_216
+    }
+
+    fn grammar() -> Grammar {
+        Grammar::HexLines
+    }
+
+    fn check(alloc: Global, text: &[u8]) -> Result<Self, TextFault> {
+        let longest = longest_line(text)?;
+        match vec![in alloc; 0u8; longest] {
+            Ok(bytes) => Ok(Decode { bytes }),
+            Err(_) => Err(TextFault::Memory),
         }
-    };
-    let Ok(mut bytes) = vec![in alloc; 0u8; longest] else {
-        return Status::Memory;
-    };
-    let Ok(mut outlet) = Outlet::new(alloc) else {
-        return Status::Memory;
-    };
-    match write_decode(text, &mut bytes, &mut outlet, out) {
-        Ok(()) => Status::Done,
-        Err(SinkFailed) => Status::Sink,
     }
-}
 
-// Writes the whole output through an outlet that keeps nothing yet.
-fn write_decode<K: Sink>(
-    text: &[u8],
-    bytes: &mut [u8],
-    outlet: &mut Outlet,
-    out: &mut K,
-) -> Result<(), SinkFailed>
-    requires lines { IsDecodable text.now }
-    requires room { HasLinesWithin (length bytes.old) text.now }
-    requires few { length bytes.old ≤ 16_777_216 }
-    requires empty { outlet.old.kept.items ≡ [] }
-    ensures whole { OnOk result ((output : List ℕ) × IsDecodeText text.now output
-        × Appends (K.written out.old) output (K.written out.new)) }
-    ensures part { OnErr result ((output : List ℕ) × IsDecodeText text.now output
-        × AppendsPrefix (K.written out.old) output (K.written out.new)) }
-    ensures quiet { OnOk result (K.faults out.new ≡ K.faults out.old) }
-    ensures cause { OnErr result (Rose (K.faults out.old) (K.faults out.new)) }
-{
-    hand_lines(text, bytes, outlet, out)?;
-    outlet.flush(out)?;
-    Ok(())
+    fn hand<K: Sink>(
+        &mut self,
+        text: &[u8],
+        outlet: &mut Outlet,
+        out: &mut K,
+    ) -> Result<(), SinkFailed> {
+        hand_lines(text, &mut self.bytes, outlet, out)
+    }
 }
 
 // Hands over how each line is read.

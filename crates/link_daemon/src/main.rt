@@ -1,31 +1,26 @@
 //! The program: its commands, and the real things that it reads from and writes to.
 //!
-//! In reading order: `top` (the top call), `command_line`, `status`, `laws`; `replay`, `replay_lines`, `decode`, `hex_lines`, `outlet`; the reader of a script,
-//! `script`, `head`, `arrival`, `line`, `word`, `number`, `truth`, `node_id`, `endpoint`, `hex_word`; `adapters`.
+//! In reading order: `top` (the top call), `command_line`, `status`, `laws`; `text_command` (a command that reads a whole text and writes
+//! another), `reason`, `text_fault`, `run_text`, `outlet`; `replay`, `replay_lines`, `counts`; `decode`, `hex_lines`; `adapters`.
 #![tactic(auto)]
 
 mod adapters;
-mod arrival;
 mod command_line;
+mod counts;
 mod decode;
-mod endpoint;
-mod head;
 mod hex_lines;
-mod hex_word;
 mod laws;
-mod line;
-mod node_id;
-mod number;
 mod outlet;
+mod reason;
 mod replay;
 mod replay_lines;
-mod script;
+mod run_text;
 mod status;
 #[cfg(test)]
 mod tests;
+mod text_command;
+mod text_fault;
 mod top;
-mod truth;
-mod word;
 
 use crate::adapters::{BehindName, StdSink, StdSource};
 use crate::status::Status;

@@ -1,30 +1,26 @@
-//! The command `replay`: what a node answers to the datagrams of a script.
+//! The command `replay`: what a node sends and shows for the events of a script.
 
-ghost use Rattle.std.specs.Prelude.{◌≡◌, ◌≤◌, [], length, count_by, if◌then◌else◌, IfOk, OnOk, OnErr};
-ghost use Rattle.std.specs.List.{flat_map};
-ghost use Rattle.lk_outside.specs.Faults.{Rose};
-ghost use Rattle.lk_outside.specs.Sink.{Appends};
-ghost use Rattle.lk_outside.specs.Transfer.{AppendsPrefix};
-ghost use Rattle.link_daemon.specs.Outlet.{HandsOver, HandsPart};
-ghost use Rattle.link_daemon.specs.ReplayText.{answer_text_of, done_line_of, is_answered, opening_line_of, replay_text_of, response_hex_of};
-ghost use Rattle.link_daemon.specs.Statuses.{EndsReplay, EndsText, IfNothingWritten, replay_command, seen};
+ghost use Rattle.std.specs.Prelude.{◌≡◌};
+ghost use Rattle.link_daemon.specs.Statuses.{EndsReplay, IfNothingWritten, replay_command, seen};
 
-use crate::command_line::is_only;
+use crate::counts::Counts;
 use crate::outlet::{Outlet, SinkFailed};
-use crate::replay_lines::{ResponseHex, answers, put_done, put_opening, put_sending, response_hex};
-use crate::script::{Arrival, Head, ScriptFault, read_script};
+use crate::reason::Reason;
+use crate::replay_lines::{hand_done, hand_published, hand_sends, hand_state};
+use crate::run_text::run_text;
 use crate::status::{Grammar, Status};
-use link_text::LineBuf;
-use lk_outside::{InputFault, Sink, Source, read_all};
+use crate::text_command::TextCommand;
+use crate::text_fault::TextFault;
+use link_node::{Event, Node, Sends};
+use link_text::{LineBuf, check_replay, explain, next_event, scripts_fit_nodes};
+use lk_outside::{Sink, Source};
 use std::alloc::Global;
 
-/// How many bytes of a script are read at most.
-const SCRIPT_MAX: usize = 1_073_741_824;
-
-/// Replays the script on `input`: reads and checks it whole, and then writes to `out` the opening state, a response
-/// to each alive that the node answers, and how much there was. Nothing is written unless the whole script is in the grammar.
+/// Replays the script on `input`: reads and checks it whole, and then writes to `out` the opening state, for each event the
+/// datagrams that the node sends and the state that it publishes, and how much there was. Nothing is written unless the whole
+/// script is in the grammar.
 ///
-/// Waits: in the objects' calls alone. Memory: the text, its arrivals and the outlet, all of it before the first write.
+/// Waits: in the objects' calls alone. Memory: the text, the node, its list of datagrams and the outlet, all of it before the first write.
 pub fn replay_main<S: Source, K: Sink>(
     alloc: Global,
     words: &[String],
@@ -39,145 +35,166 @@ pub fn replay_main<S: Source, K: Sink>(
     ensures untouched { result ≡ Status.Words → (input.new ≡ input.old) × (out.new ≡ out.old) }
     ensures unwritten { IfNothingWritten result (out.new ≡ out.old) }
 {
-    if !is_only(words, "replay") {
-        return Status::Words;
+    run_text::<Replay, S, K>(alloc, words, input, out)
+}
+
+/// A script that was checked, and the node that its head opens.
+#[derive(Drop)]
+struct Replay {
+    node: Node,
+    // What follows from one event.
+    sends: Sends,
+    // Where the lines of the events begin.
+    first: usize,
+}
+
+impl TextCommand for Replay {
+    ghost use Rattle.link_node.specs.Standing.{StandsFor, app_of, audio_of, gates_of};
+    ghost use Rattle.link_daemon.specs.Replaying.{IsOpened};
+
+    ghost command = { replay_command };
+
+    ghost ready = { λ replay text. IsOpened (StandsFor replay.node) (gates_of replay.node) (app_of replay.node) (audio_of replay.node) text replay.first };
+
+    fn word() -> &'static str {
+        "replay"
     }
-    match read_all(alloc, input, SCRIPT_MAX) {
-        Ok(text) => replay_text(alloc, &text, out),
-        Err(InputFault::Failed) => Status::Input,
-        Err(InputFault::TooLong) => Status::TooLong {
-            limit: SCRIPT_MAX as u64,
-        },
-        Err(InputFault::Memory(_)) => Status::Memory,
+
+    fn limit() -> usize {
+        1_073_741_824
+    }
+
+    fn grammar() -> Grammar {
+        Grammar::ReplayScript
+    }
+
+    fn check(alloc: Global, text: &[u8]) -> Result<Self, TextFault> {
+        let head = match check_replay(text) {
+            Ok(head) => head,
+            Err(bad) => {
+                return Err(TextFault::Line {
+                    line: bad.line,
+                    reason: Reason::Script(explain(text, bad.line)),
+                });
+            }
+        };
+        let Ok(node) = Node::new(alloc, &head.config, head.now) else {
+            return Err(TextFault::Memory);
+        };
+        let Ok(sends) = Sends::new(alloc) else {
+            return Err(TextFault::Memory);
+        };
+        Ok(Replay {
+            node,
+            sends,
+            first: head.first,
+        })
+    }
+
+    fn hand<K: Sink>(
+        &mut self,
+        text: &[u8],
+        outlet: &mut Outlet,
+        out: &mut K,
+    ) -> Result<(), SinkFailed> {
+        // A law, for the proof: a script has no more events than bytes.
+        scripts_fit_nodes();
+        let mut line = LineBuf::new();
+        hand_state(0, &self.node.state(), &mut line, outlet, out)?;
+        let counts = self.hand_events(text, &mut line, outlet, out)?;
+        hand_done(&counts, &mut line, outlet, out)?;
+        Ok(())
     }
 }
 
-// Replays a script that was read.
-fn replay_text<K: Sink>(alloc: Global, text: &[u8], out: &mut K) -> Status
-    requires { length text.now ≤ 1_073_741_824 }
-    ensures ends { EndsText replay_command text.now (seen K.written K.faults out.old) (seen K.written K.faults out.new) result }
-    ensures unwritten { IfNothingWritten result (out.new ≡ out.old) }
-{
-    let script = match read_script(alloc, text) {
-        Ok(script) => script,
-        Err(ScriptFault::Line(line)) => {
-            return Status::Script {
-                grammar: Grammar::ReplayScript,
-                line,
-            };
+impl Replay {
+    ghost use Rattle.std.specs.Prelude.{◌≡◌, ◌≤◌, ◌<◌, ◌+◌, ◌*◌, ◌^◌, ℕ, List, length, IfOk, OnOk, OnErr};
+    ghost use Rattle.lk_outside.specs.Faults.{Rose};
+    ghost use Rattle.link_node.specs.Event.{EventValue, Fits, app_after, audio_after, event_value};
+    ghost use Rattle.link_node.specs.Machine.{Machine};
+    ghost use Rattle.link_node.specs.Runs.{published_by, sent_by};
+    ghost use Rattle.link_node.specs.Standing.{StandsFor, app_of, audio_of, gates_of};
+    ghost use Rattle.link_node.specs.Step.{sends_of, step_of};
+    ghost use Rattle.link_text.specs.ReplayText.{event_text_of, events_text_of, published_in};
+    ghost use Rattle.link_daemon.specs.Outlet.{HandsOver, HandsPart};
+    ghost use Rattle.link_daemon.specs.Replaying.{GoesOn, GoesSomehow};
+
+    // Hands over what follows from each event, and says how much there was with the opening state.
+    fn hand_events<K: Sink>(
+        &mut self,
+        text: &[u8],
+        line: &mut LineBuf,
+        outlet: &mut Outlet,
+        out: &mut K,
+    ) -> Result<Counts, SinkFailed>
+        requires short { length text.now ≤ 1_073_741_824 }
+        requires says { GoesSomehow (StandsFor self.old.node) (gates_of self.old.node) (app_of self.old.node) (audio_of self.old.node) text.now self.old.first }
+        ensures events { IfOk result (λ counts. (m : Machine) (es : List EventValue)
+            → GoesOn (StandsFor self.old.node) (gates_of self.old.node) (app_of self.old.node) (audio_of self.old.node) text.now self.old.first m es
+            → (counts.events ≡ length es) × ((counts.states ≡ 1 + length (published_by m es)) × (counts.sends ≡ length (sent_by m es)))) }
+        ensures kept { OnOk result ((m : Machine) (es : List EventValue)
+            → GoesOn (StandsFor self.old.node) (gates_of self.old.node) (app_of self.old.node) (audio_of self.old.node) text.now self.old.first m es
+            → HandsOver (events_text_of m 1 es) (K.written out.old) outlet.old.kept.items (K.written out.new) outlet.new.kept.items) }
+        ensures part { OnErr result ((m : Machine) (es : List EventValue)
+            → GoesOn (StandsFor self.old.node) (gates_of self.old.node) (app_of self.old.node) (audio_of self.old.node) text.now self.old.first m es
+            → HandsPart (events_text_of m 1 es) (K.written out.old) outlet.old.kept.items (K.written out.new)) }
+        ensures quiet { OnOk result (K.faults out.new ≡ K.faults out.old) }
+        ensures cause { OnErr result (Rose (K.faults out.old) (K.faults out.new)) }
+    {
+        // A law, for the proof: the node can take the events of a script.
+        scripts_fit_nodes();
+        let mut counts = Counts {
+            events: 0,
+            states: 1,
+            sends: 0,
+        };
+        let mut at = self.first;
+        while let Some(event) = next_event(text, &mut at) {
+            self.hand_event(&event, &mut counts, line, outlet, out)?;
         }
-        Err(ScriptFault::Memory(_)) => return Status::Memory,
-    };
-    let Ok(mut outlet) = Outlet::new(alloc) else {
-        return Status::Memory;
-    };
-    match write_replay(&script.head, &script.arrivals, &mut outlet, out) {
-        Ok(()) => Status::Done,
-        Err(SinkFailed) => Status::Sink,
+        Ok(counts)
     }
-}
 
-// Writes the whole text of a replay through an outlet that keeps nothing yet.
-fn write_replay<K: Sink>(
-    head: &Head,
-    arrivals: &[Arrival],
-    outlet: &mut Outlet,
-    out: &mut K,
-) -> Result<(), SinkFailed>
-    requires { outlet.old.kept.items ≡ [] }
-    ensures whole { OnOk result (Appends (K.written out.old) (replay_text_of head.now arrivals.now) (K.written out.new)) }
-    ensures part { OnErr result (AppendsPrefix (K.written out.old) (replay_text_of head.now arrivals.now) (K.written out.new)) }
-    ensures quiet { OnOk result (K.faults out.new ≡ K.faults out.old) }
-    ensures cause { OnErr result (Rose (K.faults out.old) (K.faults out.new)) }
-{
-    hand_opening(head, outlet, out)?;
-    let sends = write_answers(head, arrivals, outlet, out)?;
-    hand_done(arrivals.len() as u64, sends, outlet, out)?;
-    outlet.flush(out)?;
-    Ok(())
-}
-
-// Hands over the line of the opening state.
-fn hand_opening<K: Sink>(head: &Head, outlet: &mut Outlet, out: &mut K) -> Result<(), SinkFailed>
-    ensures kept { OnOk result (HandsOver (opening_line_of head.now)
-        (K.written out.old) outlet.old.kept.items (K.written out.new) outlet.new.kept.items) }
-    ensures part { OnErr result (HandsPart (opening_line_of head.now)
-        (K.written out.old) outlet.old.kept.items (K.written out.new)) }
-    ensures quiet { OnOk result (K.faults out.new ≡ K.faults out.old) }
-    ensures cause { OnErr result (Rose (K.faults out.old) (K.faults out.new)) }
-{
-    let mut line = LineBuf::new();
-    put_opening(&mut line, head);
-    outlet.put_line(out, line.as_slice())
-}
-
-// Hands over the last line.
-fn hand_done<K: Sink>(
-    events: u64,
-    sends: u64,
-    outlet: &mut Outlet,
-    out: &mut K,
-) -> Result<(), SinkFailed>
-    ensures kept { OnOk result (HandsOver (done_line_of events sends)
-        (K.written out.old) outlet.old.kept.items (K.written out.new) outlet.new.kept.items) }
-    ensures part { OnErr result (HandsPart (done_line_of events sends)
-        (K.written out.old) outlet.old.kept.items (K.written out.new)) }
-    ensures quiet { OnOk result (K.faults out.new ≡ K.faults out.old) }
-    ensures cause { OnErr result (Rose (K.faults out.old) (K.faults out.new)) }
-{
-    let mut line = LineBuf::new();
-    put_done(&mut line, events, sends);
-    outlet.put_line(out, line.as_slice())
-}
-
-// Hands over what is answered to each arrival, and says how many responses there were.
-fn write_answers<K: Sink>(
-    head: &Head,
-    arrivals: &[Arrival],
-    outlet: &mut Outlet,
-    out: &mut K,
-) -> Result<u64, SinkFailed>
-    ensures sends { IfOk result (λ sends. sends ≡ count_by (is_answered head.now) arrivals.now) }
-    ensures kept { OnOk result (HandsOver (flat_map (answer_text_of head.now) arrivals.now)
-        (K.written out.old) outlet.old.kept.items (K.written out.new) outlet.new.kept.items) }
-    ensures part { OnErr result (HandsPart (flat_map (answer_text_of head.now) arrivals.now)
-        (K.written out.old) outlet.old.kept.items (K.written out.new)) }
-    ensures quiet { OnOk result (K.faults out.new ≡ K.faults out.old) }
-    ensures cause { OnErr result (Rose (K.faults out.old) (K.faults out.new)) }
-{
-    let digits = response_hex(head);
-    let mut line = LineBuf::new();
-    let mut sends = 0;
-    for arrival in arrivals {
-        let sent = write_answer(head, arrival, &digits, &mut line, outlet, out)?;
-        sends += sent;
+    // Takes one event, and hands over what follows from it.
+    fn hand_event<K: Sink>(
+        &mut self,
+        event: &Event,
+        counts: &mut Counts,
+        line: &mut LineBuf,
+        outlet: &mut Outlet,
+        out: &mut K,
+    ) -> Result<(), SinkFailed>
+        requires event { Fits (gates_of self.old.node) (app_of self.old.node) (audio_of self.old.node) (event_value event.now) }
+        requires few_events { counts.old.events < 2 ^ 32 }
+        requires few_states { counts.old.states < 2 ^ 32 }
+        requires few_sends { counts.old.sends < 2 ^ 40 }
+        ensures stands { (m : Machine) → StandsFor self.old.node m → StandsFor self.new.node (step_of m (event_value event.now)) }
+        ensures gates { gates_of self.new.node ≡ gates_of self.old.node }
+        ensures app { app_of self.new.node ≡ app_after (app_of self.old.node) (event_value event.now) }
+        ensures audio { audio_of self.new.node ≡ audio_after (audio_of self.old.node) (event_value event.now) }
+        ensures events { OnOk result (counts.new.events ≡ counts.old.events + 1) }
+        ensures states { OnOk result ((m : Machine) → StandsFor self.old.node m
+            → counts.new.states ≡ counts.old.states + length (published_in m (event_value event.now))) }
+        ensures sends { OnOk result ((m : Machine) → StandsFor self.old.node m
+            → counts.new.sends ≡ counts.old.sends + length (sends_of m (event_value event.now))) }
+        ensures few { OnOk result ((counts.new.states ≤ counts.old.states + 1) × (counts.new.sends ≤ counts.old.sends + 129)) }
+        ensures kept { OnOk result ((m : Machine) → StandsFor self.old.node m
+            → HandsOver (event_text_of m counts.old.states (event_value event.now))
+            (K.written out.old) outlet.old.kept.items (K.written out.new) outlet.new.kept.items) }
+        ensures part { OnErr result ((m : Machine) → StandsFor self.old.node m
+            → HandsPart (event_text_of m counts.old.states (event_value event.now))
+            (K.written out.old) outlet.old.kept.items (K.written out.new)) }
+        ensures quiet { OnOk result (K.faults out.new ≡ K.faults out.old) }
+        ensures cause { OnErr result (Rose (K.faults out.old) (K.faults out.new)) }
+    {
+        self.sends.clear();
+        let change = self.node.step(event, &mut self.sends);
+        let sends = self.sends.list();
+        hand_sends(event, sends, line, outlet, out)?;
+        let shown = hand_published(change, counts.states, &self.node.state(), line, outlet, out)?;
+        counts.events += 1;
+        counts.states += shown;
+        counts.sends += sends.len() as u64;
+        Ok(())
     }
-    Ok(sends)
-}
-
-// Hands over what is answered to one arrival, and says how many responses that is.
-#[tactic(auto, unfolding(crate::specs::ReplayText::answer_text_of))]
-fn write_answer<K: Sink>(
-    head: &Head,
-    arrival: &Arrival,
-    digits: &ResponseHex,
-    line: &mut LineBuf,
-    outlet: &mut Outlet,
-    out: &mut K,
-) -> Result<u64, SinkFailed>
-    requires { digits.now ≡ response_hex_of head.now }
-    ensures sends { IfOk result (λ sends. sends ≡ (if is_answered head.now arrival.now then 1 else 0)) }
-    ensures kept { OnOk result (HandsOver (answer_text_of head.now arrival.now)
-        (K.written out.old) outlet.old.kept.items (K.written out.new) outlet.new.kept.items) }
-    ensures part { OnErr result (HandsPart (answer_text_of head.now arrival.now)
-        (K.written out.old) outlet.old.kept.items (K.written out.new)) }
-    ensures quiet { OnOk result (K.faults out.new ≡ K.faults out.old) }
-    ensures cause { OnErr result (Rose (K.faults out.old) (K.faults out.new)) }
-{
-    if !answers(head, arrival) {
-        return Ok(0);
-    }
-    put_sending(line, arrival, digits);
-    outlet.put_line(out, line.as_slice())?;
-    Ok(1)
 }

@@ -1,107 +1,133 @@
-//! The lines that a replay writes.
+//! The lines of a replay, handed over.
 
-ghost use Rattle.std.specs.Prelude.{◌≡◌, ◌≤◌, length};
-ghost use Rattle.arrayvec.specs.ArrayVec.{array_vec_len};
-ghost use Rattle.hex.specs.Hex.{encode_lower};
-ghost use Rattle.link_daemon.specs.ReplayText.{is_answered, opening_line_of, own_fields_of, response_hex_of, sending_line_of, done_line_of};
+ghost use Rattle.std.specs.Prelude.{◌≡◌, ◌≤◌, length, map, IfOk, OnOk, OnErr};
+ghost use Rattle.std.specs.List.{flat_map};
+ghost use Rattle.lk_outside.specs.Faults.{Rose};
+ghost use Rattle.link_node.specs.Event.{event_value, moment_of, sending_value};
+ghost use Rattle.link_node.specs.Runs.{shown_by};
+ghost use Rattle.link_text.specs.ReplayText.{done_line_of, sending_line_of, state_line_of, states_text_of};
+ghost use Rattle.link_daemon.specs.Outlet.{HandsOver, HandsPart};
 
-use crate::script::{Arrival, Head};
-use asdp_messages::write_response;
-use link_payload::PeerFields;
-use link_text::{LineBuf, put, put_decimal, put_endpoint, put_signed, put_truth};
-use lk_base::{SessionStart, Timeline};
+use crate::counts::Counts;
+use crate::outlet::{Outlet, SinkFailed};
+use client_state::State;
+use link_node::{Change, Event, Sending};
+use link_text::{LineBuf, write_done_line, write_sending, write_state_line};
+use lk_outside::Sink;
 
-/// The hex digits of a response: its 107 bytes are those of a state with an endpoint.
-pub type ResponseHex = [u8; 214];
-
-/// What the node tells of itself while it is alone.
-#[tactic(auto, unfolding(crate::specs::ReplayText::own_fields_of))]
-fn own_fields(head: &Head) -> PeerFields
-    ensures { result ≡ own_fields_of head.now }
+/// Hands over the line of a state by its number.
+pub fn hand_state<K: Sink>(
+    number: u64,
+    state: &State,
+    line: &mut LineBuf,
+    outlet: &mut Outlet,
+    out: &mut K,
+) -> Result<(), SinkFailed>
+    ensures kept { OnOk result (HandsOver (state_line_of number state.now)
+        (K.written out.old) outlet.old.kept.items (K.written out.new) outlet.new.kept.items) }
+    ensures part { OnErr result (HandsPart (state_line_of number state.now)
+        (K.written out.old) outlet.old.kept.items (K.written out.new)) }
+    ensures quiet { OnOk result (K.faults out.new ≡ K.faults out.old) }
+    ensures cause { OnErr result (Rose (K.faults out.old) (K.faults out.new)) }
 {
-    PeerFields {
-        timeline: Timeline {
-            mpb: head.mpb,
-            beat: 0,
-            time: 0,
-        },
-        session: head.id,
-        start: SessionStart {
-            playing: false,
-            beats: 0,
-            stamp: 0,
-        },
-        endpoint: Some(head.gate),
+    write_state_line(line, number, state);
+    outlet.put_line(out, line.as_slice())
+}
+
+/// Hands over the line of a state by its number, if it was published, and says how many lines that is.
+pub fn hand_published<K: Sink>(
+    change: Change,
+    number: u64,
+    state: &State,
+    line: &mut LineBuf,
+    outlet: &mut Outlet,
+    out: &mut K,
+) -> Result<u64, SinkFailed>
+    ensures count { IfOk result (λ count. count ≡ length (shown_by change state.now)) }
+    ensures few { IfOk result (λ count. count ≤ 1) }
+    ensures kept { OnOk result (HandsOver (states_text_of number (shown_by change state.now))
+        (K.written out.old) outlet.old.kept.items (K.written out.new) outlet.new.kept.items) }
+    ensures part { OnErr result (HandsPart (states_text_of number (shown_by change state.now))
+        (K.written out.old) outlet.old.kept.items (K.written out.new)) }
+    ensures quiet { OnOk result (K.faults out.new ≡ K.faults out.old) }
+    ensures cause { OnErr result (Rose (K.faults out.old) (K.faults out.new)) }
+{
+    match change {
+        Change::Same => Ok(0),
+        Change::Published => {
+            hand_state(number, state, line, outlet, out)?;
+            Ok(1)
+        }
     }
 }
 
-/// The digits of the one response that this node sends, whoever asks.
-#[tactic(auto, unfolding(crate::specs::ReplayText::response_hex_of, crate::specs::ReplayText::own_fields_of))]
-pub fn response_hex(head: &Head) -> ResponseHex
-    ensures { result ≡ response_hex_of head.now }
+/// Hands over the lines of the datagrams that follow from an event.
+pub fn hand_sends<K: Sink>(
+    event: &Event,
+    sends: &[Sending],
+    line: &mut LineBuf,
+    outlet: &mut Outlet,
+    out: &mut K,
+) -> Result<(), SinkFailed>
+    ensures kept { OnOk result (HandsOver (flat_map (sending_line_of (moment_of (event_value event.now))) (map sending_value sends.now))
+        (K.written out.old) outlet.old.kept.items (K.written out.new) outlet.new.kept.items) }
+    ensures part { OnErr result (HandsPart (flat_map (sending_line_of (moment_of (event_value event.now))) (map sending_value sends.now))
+        (K.written out.old) outlet.old.kept.items (K.written out.new)) }
+    ensures quiet { OnOk result (K.faults out.new ≡ K.faults out.old) }
+    ensures cause { OnErr result (Rose (K.faults out.old) (K.faults out.new)) }
 {
-    let response = write_response(head.id, 0, &own_fields(head));
-    hex_of(response.as_slice())
+    for sending in sends {
+        hand_sending(event, sending, line, outlet, out)?;
+    }
+    Ok(())
 }
 
-fn hex_of(bytes: &[u8]) -> ResponseHex
-    requires { length bytes.now ≡ 107 }
-    ensures { result ≡ encode_lower bytes.now }
+// Hands over the line of a datagram that follows from an event.
+fn hand_sending<K: Sink>(
+    event: &Event,
+    sending: &Sending,
+    line: &mut LineBuf,
+    outlet: &mut Outlet,
+    out: &mut K,
+) -> Result<(), SinkFailed>
+    ensures kept { OnOk result (HandsOver (sending_line_of (moment_of (event_value event.now)) (sending_value sending.now))
+        (K.written out.old) outlet.old.kept.items (K.written out.new) outlet.new.kept.items) }
+    ensures part { OnErr result (HandsPart (sending_line_of (moment_of (event_value event.now)) (sending_value sending.now))
+        (K.written out.old) outlet.old.kept.items (K.written out.new)) }
+    ensures quiet { OnOk result (K.faults out.new ≡ K.faults out.old) }
+    ensures cause { OnErr result (Rose (K.faults out.old) (K.faults out.new)) }
 {
-    let mut digits = [0u8; 214];
-    hex::encode_to_slice(bytes, &mut digits).unwrap();
-    digits
+    write_sending(line, moment(event), sending);
+    outlet.put_line(out, line.as_slice())
 }
 
-/// Whether an alive is another node's and of the group 0.
-#[tactic(auto, unfolding(crate::specs::ReplayText::is_answered))]
-pub fn answers(head: &Head, arrival: &Arrival) -> bool
-    ensures { result ≡ is_answered head.now arrival.now }
+// The moment of an event, in microseconds.
+fn moment(event: &Event) -> i64
+    ensures { result ≡ moment_of (event_value event.now) }
 {
-    arrival.message.from != head.id && arrival.message.group == 0
+    match event {
+        Event::Rx { now, .. }
+        | Event::Tick { now }
+        | Event::App { now, .. }
+        | Event::Audio { now, .. }
+        | Event::End { now } => *now,
+    }
 }
 
-/// Puts the line of the opening state in place of what the buffer held.
-#[tactic(auto, unfolding(crate::specs::ReplayText::opening_line_of))]
-pub fn put_opening(line: &mut LineBuf, head: &Head)
-    ensures { line.new.items ≡ opening_line_of head.now }
+/// Hands over the last line.
+pub fn hand_done<K: Sink>(
+    counts: &Counts,
+    line: &mut LineBuf,
+    outlet: &mut Outlet,
+    out: &mut K,
+) -> Result<(), SinkFailed>
+    ensures kept { OnOk result (HandsOver (done_line_of counts.now.events counts.now.states counts.now.sends)
+        (K.written out.old) outlet.old.kept.items (K.written out.new) outlet.new.kept.items) }
+    ensures part { OnErr result (HandsPart (done_line_of counts.now.events counts.now.states counts.now.sends)
+        (K.written out.old) outlet.old.kept.items (K.written out.new)) }
+    ensures quiet { OnOk result (K.faults out.new ≡ K.faults out.old) }
+    ensures cause { OnErr result (Rose (K.faults out.old) (K.faults out.new)) }
 {
-    line.clear();
-    put(line, b"state 0 ");
-    put_signed(line, head.mpb);
-    put(line, b" 0 ");
-    put_signed(line, head.moment);
-    put(line, b" 0 0 0 ");
-    put_truth(line, head.sync);
-    put(line, b" 0 ");
-    put_signed(line, head.moment);
-    put(line, b" 0 0\n");
-}
-
-/// Puts the line of a response that is sent in place of what the buffer held.
-#[tactic(auto, unfolding(crate::specs::ReplayText::sending_line_of))]
-pub fn put_sending(line: &mut LineBuf, arrival: &Arrival, digits: &ResponseHex)
-    ensures { line.new.items ≡ sending_line_of arrival.now digits.now }
-{
-    line.clear();
-    put(line, b"tx ");
-    put_signed(line, arrival.moment);
-    put(line, b" 0 ");
-    put_endpoint(line, arrival.from);
-    put(line, b" ");
-    put(line, digits);
-    put(line, b"\n");
-}
-
-/// Puts the last line in place of what the buffer held.
-#[tactic(auto, unfolding(crate::specs::ReplayText::done_line_of))]
-pub fn put_done(line: &mut LineBuf, events: u64, sends: u64)
-    ensures { line.new.items ≡ done_line_of events sends }
-{
-    line.clear();
-    put(line, b"done ");
-    put_decimal(line, events);
-    put(line, b" 1 ");
-    put_decimal(line, sends);
-    put(line, b"\n");
+    write_done_line(line, counts.events, counts.states, counts.sends);
+    outlet.put_line(out, line.as_slice())
 }

@@ -3,6 +3,7 @@
 ghost use Rattle.std.specs.Prelude.{◌≡◌};
 ghost use Rattle.link_daemon.specs.Statuses.{status_number_of};
 
+use crate::reason::Reason;
 use thiserror::Error;
 
 /// What a command's input is written in.
@@ -29,39 +30,21 @@ pub enum Status {
     /// 7: the output could not be written.
     #[error("standard output could not be written; what was written is the front of the output")]
     Sink,
-    /// 8: the input is outside the grammar, first at this line, counted from 1.
-    #[error("line {line} of the input is at fault: expected {}; nothing was written", expected_at(*grammar, *line))]
-    Script { grammar: Grammar, line: u32 },
+    /// 8: the input is outside the grammar, first at this line, counted from 1. The reason is in words for people.
+    #[error("line {line}, {reason}; nothing was written")]
+    Script {
+        grammar: Grammar,
+        line: u32,
+        reason: Reason,
+    },
     /// 9: there was no memory; nothing was written.
     #[error("no memory was left for the input; nothing was written")]
     Memory,
     /// 10: the input is longer than so many bytes, which are what the command takes.
     #[error("the input is longer than {limit} bytes; nothing was written")]
-    TooLong { limit: u64 },
-}
-
-// What a grammar has at a line.
-fn expected_at(grammar: Grammar, line: u32) -> &'static str {
-    match grammar {
-        Grammar::ReplayScript => expected_in_script(line),
-        Grammar::HexLines => "an even number of hex digits, of either case, and nothing else",
-    }
-}
-
-// What a replay script has at a line.
-fn expected_in_script(line: u32) -> &'static str {
-    match line {
-        1 => "`replay 1`",
-        2 => {
-            "`node ID SEED MPB SYNC NOW` with single spaces: an id of eight characters from ! to ~, a number below 2^64, \
-             60060 to 3000000 microseconds per beat, 0 or 1, and 0 to 2^55 microseconds"
-        }
-        3 => "`gate ENDPOINT`, as in `gate 127.0.0.1:20808`",
-        _ => {
-            "`rx NOW 0 ENDPOINT HEX` with single spaces: 0 to 2^55 microseconds, the gate 0, a sender as 127.0.0.1:20808, \
-             and the hex digits of a plain alive of another session"
-        }
-    }
+    TooLong {
+        limit: u64,
+    },
 }
 
 impl Status {

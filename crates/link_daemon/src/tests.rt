@@ -4,7 +4,8 @@ mod decode;
 mod faults;
 mod grammar;
 mod large;
-mod runs;
+mod reasons;
+mod replay;
 
 ghost use Rattle.std.specs.Prelude.{◌<◌};
 
@@ -12,9 +13,14 @@ use crate::status::Status;
 use crate::top::link_main;
 use lk_outside::{BytesSink, BytesSource};
 use std::alloc::{AllocError, Global};
+use std::process::Abort;
+use std::test::Fail;
 
-/// The three lines of a head, as a node of its own.
+/// The lines of a head, as a node of its own.
 pub const HEAD: &str = "replay 1\nnode QRSTUVWX 1 500000 1 1000000\ngate 127.0.0.1:20809\n";
+
+/// What its opening tells.
+pub const OPENING: &str = "state 0 500000 0 1000000 0 0 0 1 0 1000000 0 0\n";
 
 /// An alive of the node ABCDEFGH in its own session: 500000 microseconds per beat from beat 0 at time 0, no start, the endpoint 127.0.0.1:20808.
 pub const ALIVE: &str =
@@ -107,4 +113,57 @@ fn failing(alloc: Global, call: u64) -> Result<Vec<(u8, u64)>, AllocError> {
         calls.push((0, call))?;
     }
     Ok(calls)
+}
+
+/// A case's text. In it `=` stands for the head's lines, `@` for the alive, `&` for the response, and `%` for the line of the opening.
+pub fn text_of(alloc: Global, case: &str) -> Result<Vec<u8>, AllocError> {
+    let mut text = Vec::new(alloc);
+    for b in case.as_bytes() {
+        match *b {
+            b'=' => text.extend_from_slice(HEAD.as_bytes())?,
+            b'@' => text.extend_from_slice(ALIVE.as_bytes())?,
+            b'&' => text.extend_from_slice(RESPONSE.as_bytes())?,
+            b'%' => text.extend_from_slice(OPENING.as_bytes())?,
+            _ => text.push(*b)?,
+        }
+    }
+    Ok(text)
+}
+
+/// The line at fault that a status tells, 0 for none.
+pub fn line_of(status: Status) -> u32 {
+    match status {
+        Status::Script { line, .. } => line,
+        _ => 0,
+    }
+}
+
+/// Runs a command on the input of each case, and compares what it wrote.
+pub fn expect_texts(
+    rt: &impl Abort,
+    alloc: Global,
+    command: &str,
+    cases: &[(&str, &str)],
+) -> Result<(), Fail> {
+    for (case, wanted) in cases {
+        let found = run(alloc, &[command], &text_of(alloc, case)?, sound())?;
+        assert_eq!(rt; found.status, Status::Done, "{case:?}");
+        assert_eq!(rt; found.written, text_of(alloc, wanted)?, "{case:?}");
+    }
+    Ok(())
+}
+
+/// Runs a command on the input of each case, and compares the line at fault, 0 for none.
+pub fn expect_lines(
+    rt: &impl Abort,
+    alloc: Global,
+    command: &str,
+    cases: &[(&str, u32)],
+) -> Result<(), Fail> {
+    for (case, line) in cases {
+        let found = run(alloc, &[command], &text_of(alloc, case)?, sound())?;
+        assert_eq!(rt; line_of(found.status), *line, "{case:?}");
+        assert_eq!(rt; found.written.is_empty(), *line > 0, "{case:?}");
+    }
+    Ok(())
 }

@@ -2,7 +2,7 @@
 
 ghost use Rattle.std.specs.Prelude.{None};
 
-use super::{ALIVE, HEAD, RESPONSE, run, slow, sound};
+use super::{HEAD, run, slow, sound, text_of};
 use crate::status::Status;
 use crate::top::link_main;
 use lk_outside::{BytesSink, Source, Taken};
@@ -47,9 +47,8 @@ fn a_read_that_fails_writes_nothing(rt: HostRuntime) -> Result<(), Fail> {
 
 #[test]
 fn a_write_that_fails_leaves_the_front_of_the_text(rt: HostRuntime) -> Result<(), Fail> {
-    let input = format!(in rt.alloc(); "{HEAD}rx 1000100 0 127.0.0.1:20808 {ALIVE}\n")?;
     for call in 1..4u64 {
-        let found = run(rt.alloc(), &["replay"], input.as_bytes(), slow(0, call))?;
+        let found = run(rt.alloc(), &["replay"], HEAD.as_bytes(), slow(0, call))?;
         assert_eq!(rt; found.status, Status::Sink);
         let front: &[u8] = match call {
             1 => b"",
@@ -58,18 +57,21 @@ fn a_write_that_fails_leaves_the_front_of_the_text(rt: HostRuntime) -> Result<()
         };
         assert_eq!(rt; found.written.as_slice(), front);
     }
+    let found = run(rt.alloc(), &["decode"], b"00\n00\n", slow(0, 18))?;
+    assert_eq!(rt; found.status, Status::Sink);
+    assert_eq!(rt; found.written.as_slice(), "fault short 1\nfau".as_bytes());
     Ok(())
 }
 
 #[test]
 fn a_byte_a_call_gives_the_same_text(rt: HostRuntime) -> Result<(), Fail> {
-    let input = format!(in rt.alloc(); "{HEAD}rx 1000100 0 127.0.0.1:20808 {ALIVE}\n")?;
-    let wanted = format!(in rt.alloc();
-        "state 0 500000 0 1000000 0 0 0 1 0 1000000 0 0\ntx 1000100 0 127.0.0.1:20808 {RESPONSE}\ndone 1 1 1\n"
-    )?;
-    let found = run(rt.alloc(), &["replay"], input.as_bytes(), slow(0, 0))?;
+    let input = text_of(rt.alloc(), "=rx 1000100 0 127.0.0.1:20808 @\n")?;
+    let found = run(rt.alloc(), &["replay"], &input, slow(0, 0))?;
     assert_eq!(rt; found.status, Status::Done);
-    assert_eq!(rt; found.written.as_slice(), wanted.as_bytes());
+    assert_eq!(rt;
+        found.written,
+        text_of(rt.alloc(), "%tx 1000100 0 127.0.0.1:20808 &\ndone 1 1 1\n")?
+    );
     Ok(())
 }
 

@@ -2,4 +2,4 @@ use Rattle.link_daemon.proofs.OneStatusLemmas.{one_status}
 use Rattle.link_daemon.proofs.laws.one_status.Goals as goal
 
 pub returns : goal.returns
-returns c = one_status
+returns c = one_status c.one_script.ensures.fault

@@ -1,0 +1,28 @@
+-- How far a replay has come. Only proofs and private functions speak of it. A node is told by the machines that it stands for, by how
+-- many gates it has, and by the commits that it has taken.
+use Rattle.std.specs.Prelude.{◌≡◌, ◌<◌, ◌+◌, ◌^◌, ℕ, ℤ, List, length}
+use Rattle.link_node.specs.Config.{ConfigValue}
+use Rattle.link_node.specs.Event.{EventValue}
+use Rattle.link_node.specs.Machine.{Machine}
+use Rattle.link_node.specs.Opening.{opened}
+use Rattle.link_text.specs.ReplayScript.{IsScriptOf, SaysFrom}
+
+-- the node stands for the machine, and the text says from the place on these events, which the node can take
+pub record GoesOn (Stands : Machine → Type 0) (gates app audio : ℕ) (text : List ℕ) (at : ℕ) (m : Machine) (es : List EventValue) : Type 0 where
+  pub stands : Stands m
+  pub says : SaysFrom gates audio text at es
+  pub few_commits : app + length es < 2 ^ 60
+
+-- the text is a script, and the node is the one of its head at the opening, before the first event
+pub record IsOpened (Stands : Machine → Type 0) (gates app audio : ℕ) (text : List ℕ) (first : ℕ) : Type 0 where
+  pub config : ConfigValue
+  pub now : ℤ
+  pub es : List EventValue
+  pub script : IsScriptOf text config now es
+  pub stands : Stands (opened config now)
+  pub says : SaysFrom gates audio text first es
+  pub no_commits : app ≡ 0
+
+-- some events are said that the node can take
+abbrev pub GoesSomehow : (Machine → Type 0) → ℕ → ℕ → ℕ → List ℕ → ℕ → Type 0
+GoesSomehow Stands gates app audio text at = (m : Machine) × (es : List EventValue) × GoesOn Stands gates app audio text at m es
