@@ -1,53 +1,108 @@
 #!/usr/bin/env bash
-# How fast the built program replays: bench/replay.sh [LINES] makes a script of LINES alives (1,000,000 where not given, about 290 MB), runs the
-# program on it once to warm up and then three times, and prints of the fastest run: MB of script a second, responses a second, and the peak
-# resident memory over the size of the script. Beside them the time of `cat` over the same script, and the machine.
+# How fast the built program replays: bench/replay.sh [EVENTS] (1,000,000 where not given). JORAZHIL_PROGRAM names another program than the built one.
+# Its scripts are made by bench/scripts.py, which tells what is in them, into a temporary folder. Each is replayed once to warm up and then three times.
+#
+# 1. `alives`, and `mixed` with 10 and with 500 peers, the output into a file: of the run that took the least time MB of script and events a second; the time
+#    an event with 500 peers over that with 10; and the greatest peak resident memory. That is the program's own: the process that starts it holds no script,
+#    and its own peak, below which no peak of a child can be told, stands beside.
+# 2. What an event of each kind costs, with 10 and with 500 peers, the output thrown away, in nanoseconds of the processor (user and system). A run reads
+#    the whole text, then looks at every line, then reads each line again, takes its step and writes what follows. So each script is run in three forms:
+#    with its first line at fault (`read`: reading the text), with one more line that is at fault (less `read`: `look`), and whole. `step` is the whole run
+#    without `read` and two such looks: the steps, and the lines that they write. `bytes` tells how much they write; where that is 0, these are the steps alone.
+#    That a line's second reading costs what the look at it costs is taken and not measured.
+#
+# Beside them `cat` over the alives, and the machine.
 set -eu
 here=$(cd "$(dirname "${BASH_SOURCE[0]}")/.." && pwd)
-lines=${1:-1000000}
-"$here/jorazhil" replay <"$here/examples/one-alive.script" >/dev/null
-exec python3 - "$here/crates/link_daemon/out/link_daemon" "$lines" <<'PY'
-import os, subprocess, sys, tempfile, time
+events=${1:-1000000}
+program=${JORAZHIL_PROGRAM:-}
+if [ -z "$program" ]; then
+  "$here/jorazhil" replay <"$here/examples/one-alive.script" >/dev/null
+  program=$here/crates/link_daemon/out/link_daemon
+fi
+folder=$(mktemp -d)
+trap 'rm -rf "$folder"' EXIT
 
-program, lines = sys.argv[1], int(sys.argv[2])
-alive = (
-    "5f617364705f7601010500004142434445464748746d6c6e00000018000000000007a12000000000000000000000000000000000"
-    "73657373000000084142434445464748737473740000001100000000000000000000000000000000006d657034000000067f0000015148"
-)
+# The events of one kind are a quarter as many. Nothing large is held by the process that measures.
+python3 - "$program" "$folder" "$here/bench/scripts.py" "$events" <<'PY'
+import os, resource, subprocess, sys, time
 
-def timed(words, script, out):
-    with open(script) as given, open(out, "w") as taken:
-        start = time.perf_counter()
-        child = subprocess.Popen(words, stdin=given, stdout=taken)
-        _, status, used = os.wait4(child.pid, 0)
-        return time.perf_counter() - start, os.waitstatus_to_exitcode(status), used
+program, folder, maker, events = *sys.argv[1:4], int(sys.argv[4])
+script, out = os.path.join(folder, "script"), os.path.join(folder, "out")
+KINDS = "nothing response alive ping passed pongs bye tick app audio".split()
 
-with tempfile.TemporaryDirectory() as folder:
-    script, out = os.path.join(folder, "script"), os.path.join(folder, "out")
+
+def make(name, peers, count):
     with open(script, "w") as text:
-        text.write("replay 1\nnode QRSTUVWX 1 500000 1 1000000\ngate 127.0.0.1:20809\n")
-        for k in range(0, lines, 10000):
-            text.write("".join(
-                f"rx {1000100 + n * 37} 0 10.{n >> 16 & 255}.{n >> 8 & 255}.{n & 255}:20808 {alive}\n"
-                for n in range(k, min(k + 10000, lines))))
-    size = os.path.getsize(script)
-    runs = [timed([program, "replay"], script, out) for _ in range(4)][1:]
-    if any(status != 0 for _, status, _ in runs):
-        sys.exit("the program did not end with status 0")
+        subprocess.run([sys.executable, maker, name, str(peers), str(count)], stdout=text, check=True)
+    return os.path.getsize(script)
+
+
+def run(words, status=0, taker=os.devnull):
+    """Seconds, seconds of the processor, peak memory in bytes."""
+    with open(script) as given, open(taker, "w") as taken:
+        start = time.perf_counter()
+        child = subprocess.Popen(words, stdin=given, stdout=taken, stderr=subprocess.DEVNULL)
+        _, ended, used = os.wait4(child.pid, 0)
+        seconds = time.perf_counter() - start
+    if os.waitstatus_to_exitcode(ended) != status:
+        sys.exit(f"{words} did not end with status {status}")
+    return seconds, used.ru_utime + used.ru_stime, used.ru_maxrss * 1024
+
+
+def least(status=0, taker=os.devnull):
+    runs = [run([program, "replay"], status, taker) for _ in range(4)][1:]
+    return min(seconds for seconds, _, _ in runs), min(used for _, used, _ in runs), max(peak for _, _, peak in runs)
+
+
+def line(what, text):
+    print(f"{what:<28}{text}", flush=True)
+
+
+def whole(name, peers):
+    """Times a script whose output goes into a file, and prints that. The seconds an event."""
+    size, count = make(name, peers, events), events + peers
+    seconds, used, peak = least(0, out)
     with open(out, "rb") as text:
         text.seek(-64, os.SEEK_END)
         last = text.read().split(b"\n")[-2].decode()
-    if last != f"done {lines} 1 {lines}":
-        sys.exit(f"the last line is {last!r}")
-    seconds, _, used = min(runs, key=lambda run: run[0])
-    cat = min(timed(["cat"], script, out)[0] for _ in range(3))
-    peak = used.ru_maxrss * 1024
-    model = next((line.split(":", 1)[1].strip() for line in open("/proc/cpuinfo") if line.startswith("model name")), "unknown")
-    print(f"script        {size / 1e6:10.1f} MB, {lines} alives")
-    print(f"time          {seconds:10.3f} s, of it {used.ru_utime:.3f} s of the processor and {used.ru_stime:.3f} s of the system")
-    print(f"script read   {size / 1e6 / seconds:10.1f} MB/s")
-    print(f"responses     {lines / seconds:10.0f} a second")
-    print(f"peak memory   {peak / 1e6:10.1f} MB, {peak / size:.2f} times the script")
-    print(f"over cat      {seconds / cat:10.2f} times the time of cat ({cat:.3f} s)")
-    print(f"machine       {os.cpu_count()} processors, {model}")
+    if last.split(" ")[:2] != ["done", str(count)]:
+        sys.exit(f"{name}: the last line is {last!r}")
+    name += f", {peers} peers" if peers else ""
+    line(f"{name}: script", f"{size / 1e6:8.1f} MB, {os.path.getsize(out) / 1e6:.1f} MB of output, {last}")
+    line(f"{name}: time", f"{seconds:8.3f} s, {used:.3f} s of the processor")
+    line(f"{name}: speed", f"{size / 1e6 / seconds:8.1f} MB/s, {count / seconds:,.0f} events a second")
+    line(f"{name}: peak memory", f"{peak / 1e6:8.1f} MB, {peak / size:.2f} times the script; less 32 MB it is {max(0, peak - 32e6) / size:.2f} times")
+    return seconds / count
+
+
+def kind_costs(name, peers):
+    count, size = events // 4 + peers, make(name, peers, events // 4)
+    full = least()[1]
+    run([program, "replay"], 0, out)
+    written = os.path.getsize(out) / count
+    with open(script, "ab") as text:
+        text.write(b"x\n")
+    looked = least(8)[1]
+    with open(script, "r+b") as text:
+        text.truncate(size)
+        text.write(b"x")
+    read = least(8)[1]
+    ns = [1e9 * seconds / count for seconds in (full, read, looked - read, full - read - 2 * (looked - read))]
+    line(f"{name}, {peers} peers", "".join(f"{n:9.0f}" for n in (*ns, written)))
+
+
+alone = whole("alives", 0)
+cat = min(run(["cat"], 0, out)[0] for _ in range(3))
+line("alives over cat", f"{alone * events / cat:8.2f} times the time of cat ({cat:.3f} s)")
+few, many = whole("mixed", 10), whole("mixed", 500)
+line("500 peers over 10", f"{many / few:8.2f} times the time an event")
+line("this process: memory", f"{resource.getrusage(resource.RUSAGE_SELF).ru_maxrss * 1024 / 1e6:8.1f} MB")
+print(f"\n{'ns an event':<28}{'whole':>9}{'read':>9}{'look':>9}{'step':>9}{'bytes':>9}")
+for name in KINDS:
+    for peers in (10, 500):
+        kind_costs(name, peers)
+with open("/proc/cpuinfo") as told:
+    model = next((given.split(":", 1)[1].strip() for given in told if given.startswith("model name")), "unknown")
+print(f"\n{os.cpu_count()} processors, {model}")
 PY
