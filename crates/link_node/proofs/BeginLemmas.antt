@@ -1,5 +1,5 @@
 -- The sessions that wait are measured in order.
-use Rattle.std.proofs.Common.{◌≡◌, ◌⊎◌, inl, inr, ◌∙◌, ◌≤◌, ◌+◌, ◌++◌, ◌∷◌, [], List, Bool, true, false, length, refl, sym, ap, append_assoc, append-nil, IsSome, Option, Some, None}
+use Rattle.std.proofs.Common.{◌≡◌, ◌⊎◌, inl, inr, ◌∙◌, ◌≤◌, ◌+◌, ◌++◌, ◌∷◌, [], List, Bool, true, false, length, refl, sym, append_assoc, append-nil, IsSome, Option, Some, None}
 use Rattle.lk_base.specs.IdOrder.{same_id}
 use Rattle.lk_base.specs.declared.endpoint.Target.{Target}
 use Rattle.lk_base.specs.declared.ids.NodeId.{NodeId}
@@ -7,9 +7,8 @@ use Rattle.peer_gateway.specs.Answers.{target_of}
 use Rattle.ping_measure.specs.Life.{Life}
 use Rattle.ping_measure.specs.declared.measure.Measure.{Measure}
 use Rattle.link_node.specs.Beginning.{next_of, left_of}
-use Rattle.link_node.specs.Event.{SendingValue}
 use Rattle.link_node.specs.Machine.{Machine, session_in}
-use Rattle.link_node.specs.Measuring.{unmeasured, remeasured_later}
+use Rattle.link_node.specs.Measuring.{unmeasured}
 use Rattle.link_node.specs.Standing.{HasParts, gates_of, app_of, audio_of}
 use Rattle.link_node.specs.Tick.{begun, begun_at, begun_one, begun_from, pings_at, pings_begun, pings_from}
 use Rattle.link_node.specs.declared.node.Node.{Node}

@@ -1,6 +1,6 @@
 -- Which start counts after one more was seen.
-use Rattle.std.proofs.Common.{◌≡◌, Bool, true, false, ◌&&◌, List, [], ◌∷◌, ◌++◌, Option, Some, None, refl, if◌then◌else◌}
-use Rattle.std.specs.Prelude.{int_lt, unwrap_or}
+use Rattle.std.proofs.Common.{◌≡◌, Bool, true, false, List, [], ◌∷◌, ◌++◌, Some, None, refl, if◌then◌else◌}
+use Rattle.std.specs.Prelude.{int_lt}
 use Rattle.lk_base.specs.declared.start.SessionStart.{SessionStart}
 use Rattle.client_state.specs.Starts.{latest_start_of}
 use Rattle.link_node.specs.Machine.{still}

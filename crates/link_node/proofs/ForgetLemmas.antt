@@ -1,5 +1,5 @@
 -- Other sessions are looked at in order, and forgotten where nobody needs them.
-use Rattle.std.proofs.Common.{◌≡◌, ◌∙◌, ◌≤◌, ◌<◌, ◌+◌, ◌-◌, ◌++◌, ◌∷◌, [], ℕ, zero, suc, List, Bool, true, false, length, length-append, map, filter, refl, sym, ap, append_assoc, append-nil, add-one, arith, Option, Some, None}
+use Rattle.std.proofs.Common.{◌≡◌, ◌∙◌, ◌≤◌, ◌+◌, ◌++◌, ◌∷◌, [], ℕ, zero, suc, List, Bool, true, false, length, length-append, map, filter, refl, sym, ap, append_assoc, append-nil, arith, Some, None}
 use Rattle.std.proofs.lemmas.List.{length-map}
 use Rattle.std.specs.Prelude.{if◌then◌else◌, option_map, slice_get, unwrap_or}
 use Rattle.lk_base.specs.IdOrder.{same_id}

@@ -1,7 +1,7 @@
 -- What one event needs of a node, and what its rules leave for each other.
-use Rattle.std.proofs.Common.{◌≡◌, ◌≤◌, ◌+◌, ◌++◌, ℕ, ℤ, Bool, true, false, List, length, ap, sym, subst, refl, arith, ◌∙◌, append_assoc, w64, to_z, of_z}
+use Rattle.std.proofs.Common.{◌≡◌, ◌≤◌, ◌+◌, ◌++◌, ℕ, ℤ, Bool, true, false, List, length, ap, subst, refl, arith, ◌∙◌, append_assoc, w64, to_z, of_z}
 use Rattle.lk_base.specs.Ranges.{IsMoment}
-use Rattle.link_node.specs.Event.{EventValue, Fits, FitsKind, SendingValue, moment_of}
+use Rattle.link_node.specs.Event.{EventValue, Fits, SendingValue}
 use Rattle.link_node.specs.Machine.{Machine}
 use Rattle.link_node.specs.Standing.{HasParts, gates_of, app_of, audio_of}
 use Rattle.link_node.specs.Step.{at_moment}

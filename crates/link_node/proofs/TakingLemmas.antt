@@ -1,13 +1,12 @@
 -- What a state that is taken leaves of the sessions that wait.
-use Rattle.std.proofs.Common.{◌≡◌, ◌<◌, ◌∙◌, length, Bool, true, false, Option, Some, None, is_some, refl, nat_lt, arith, rules}
+use Rattle.std.proofs.Common.{◌≡◌, ◌<◌, length, false, Option, Some, None, is_some, refl, arith}
 use Rattle.std.proofs.lemmas.Bool.Decides.{nat_tests}
 use Rattle.lk_base.specs.declared.ids.NodeId.{NodeId}
 use Rattle.lk_base.specs.declared.timeline.Timeline.{Timeline}
-use Rattle.session_choice.specs.History.{History, Taking, saw_of, saw_by, saw_known}
-use Rattle.session_choice.specs.declared.verdict.Saw.{Saw}
+use Rattle.session_choice.specs.History.{History, Taking, saw_of, saw_by}
 use Rattle.session_choice.specs.declared.verdict.Saw.TheVariants.{New}
 use Rattle.link_node.specs.Machine.{Machine}
-use Rattle.link_node.specs.WellFormed.{AreSessions, is_known}
+use Rattle.link_node.specs.WellFormed.{AreSessions}
 use Rattle.link_node.proofs.SessionsLemmas.{room_for_new}
 
 record IsNew (known : Option Taking) (h : History) : Type 0 where

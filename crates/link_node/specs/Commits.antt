@@ -1,5 +1,5 @@
 -- Taking a commit.
-use Rattle.std.specs.Prelude.{ℕ, int_lt, Bool, ◌+◌, ◌&&◌, List, [], ◌∷◌, ◌++◌, if◌then◌else◌, is_some, Option, Some, None}
+use Rattle.std.specs.Prelude.{ℕ, int_lt, Bool, ◌+◌, ◌&&◌, [], ◌∷◌, ◌++◌, if◌then◌else◌, is_some, Option, Some, None}
 use Rattle.ghost_xform.specs.GhostTime.{ghost_of}
 use Rattle.lk_base.specs.declared.start.ClientStart.{ClientStart}
 use Rattle.lk_base.specs.declared.timeline.Timeline.{Timeline}

@@ -1,5 +1,5 @@
 -- What a node is after all that happened to it.
-use Rattle.std.specs.Prelude.{ℕ, ℤ, pos, Bool, false, List, [], Option}
+use Rattle.std.specs.Prelude.{ℕ, ℤ, pos, Bool, false, List, Option}
 use Rattle.lk_base.specs.declared.ids.NodeId.{NodeId}
 use Rattle.lk_base.specs.declared.start.ClientStart.{ClientStart}
 use Rattle.lk_base.specs.declared.start.SessionStart.{SessionStart}

@@ -1,5 +1,5 @@
 -- The end of every event: peers are counted, and who has lost them all founds a session.
-use Rattle.std.specs.Prelude.{ℕ, ℤ, pos, ◌+◌, ◌*◌, ◌==◌, neg_ℤ, nat_lt, Bool, ◌||◌, ◌&&◌, not, [], None, if◌then◌else◌}
+use Rattle.std.specs.Prelude.{ℕ, pos, ◌+◌, ◌*◌, ◌==◌, neg_ℤ, nat_lt, Bool, ◌||◌, ◌&&◌, not, [], None, if◌then◌else◌}
 use Rattle.std.specs.Ordering.{int_eq}
 use Rattle.rand_pcg.specs.Lcg.{started, increment_of}
 use Rattle.rand_pcg.specs.Pcg.{multiplier_64}

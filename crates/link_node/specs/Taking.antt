@@ -1,5 +1,5 @@
 -- Taking the state that a peer tells.
-use Rattle.std.specs.Prelude.{int_lt, Bool, ◌&&◌, List, [], ◌∷◌, ◌++◌, if◌then◌else◌}
+use Rattle.std.specs.Prelude.{int_lt, Bool, ◌&&◌, [], ◌∷◌, ◌++◌, if◌then◌else◌}
 use Rattle.lk_base.specs.IdOrder.{same_id}
 use Rattle.lk_base.specs.declared.endpoint.Gate.{Gate}
 use Rattle.lk_base.specs.declared.ids.NodeId.{NodeId}

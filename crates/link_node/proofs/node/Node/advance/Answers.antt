@@ -1,7 +1,6 @@
 use Rattle.std.proofs.Common.{rules, ap, sym, subst, ◌∙◌, ◌≡◌, ℤ, w64, to_z, of_z}
 use Rattle.std.specs.Int.{int_max}
 use Rattle.lk_base.specs.Ranges.{IsMoment}
-use Rattle.link_node.specs.Machine.{Machine}
 use Rattle.link_node.proofs.NumberLemmas.{moment-back, greater-is, greater-moment}
 use Rattle.link_node.proofs.node.Node.advance.Goals as goal
 

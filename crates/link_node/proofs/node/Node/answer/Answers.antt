@@ -1,8 +1,5 @@
-use Rattle.std.proofs.Common.{rules, ◌≡◌, ◌∙◌, ◌++◌, ◌∷◌, [], sym, ap, List, ℕ}
+use Rattle.std.proofs.Common.{rules, ◌∙◌, ◌++◌, ◌∷◌, [], ap, List, ℕ}
 use Rattle.link_node.specs.Arrival.{pongs_to}
-use Rattle.link_node.specs.Event.{SendingValue}
-use Rattle.link_node.specs.Machine.{Machine}
-use Rattle.link_node.specs.Standing.{HasParts}
 use Rattle.link_node.proofs.ArrivalLemmas.{is_short, is_long}
 use Rattle.link_node.proofs.PartLemmas.{now_in, limit_back}
 use Rattle.link_node.proofs.node.Node.answer.Goals as goal

@@ -1,7 +1,5 @@
-use Rattle.std.proofs.Common.{rules, arith, ◌≡◌, ◌∙◌, ap, length, IsSome}
-use Rattle.link_node.specs.Machine.{Machine}
-use Rattle.link_node.specs.Standing.{HasParts}
-use Rattle.link_node.proofs.BeginLemmas.{HasBegun, AreBegun, begun_more, begun_all, pings_all, quiet, silent_more, not_running}
+use Rattle.std.proofs.Common.{arith, ◌∙◌, ap, length}
+use Rattle.link_node.proofs.BeginLemmas.{begun_more, begun_all, pings_all, quiet, silent_more, not_running}
 use Rattle.link_node.proofs.node.Node.begin.Goals as goal
 
 pub loop-session-preserved : goal.loop-session-preserved

@@ -1,8 +1,6 @@
-use Rattle.std.proofs.Common.{rules, ◌≡◌, ◌∙◌, sym}
+use Rattle.std.proofs.Common.{rules, ◌∙◌, sym}
 use Rattle.ping_measure.specs.Life as measure
 use Rattle.ping_measure.specs.Life.{opening}
-use Rattle.link_node.specs.Machine.{Machine}
-use Rattle.link_node.specs.Standing.{HasParts}
 use Rattle.link_node.specs.Tick.{begun_one}
 use Rattle.link_node.proofs.PartLemmas.{now_in}
 use Rattle.link_node.proofs.node.Node.begin_one.Goals as goal

@@ -1,6 +1,5 @@
 use Rattle.std.proofs.Common.{◌∙◌, sym, rules, append-nil}
 use Rattle.link_node.specs.Broadcast.{broadcast_after, broadcast_in}
-use Rattle.link_node.proofs.NumberLemmas.{moment-back}
 use Rattle.link_node.proofs.node.Node.broadcast.Goals as goal
 
 pub returns-then-is_broadcast-clause-stands : goal.returns-then-is_broadcast-clause-stands

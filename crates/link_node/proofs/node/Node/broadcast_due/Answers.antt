@@ -1,4 +1,4 @@
-use Rattle.std.proofs.Common.{◌∙◌, sym, subst, ℤ, Option, IfSome, arith, pos}
+use Rattle.std.proofs.Common.{◌∙◌, sym, subst, ℤ, Option, IfSome, arith}
 use Rattle.lk_base.specs.Ranges.{IsMoment}
 use Rattle.link_node.proofs.NumberLemmas.{moment-back, later-back}
 use Rattle.link_node.proofs.node.Node.broadcast_due.Goals as goal

@@ -1,4 +1,4 @@
-use Rattle.std.proofs.Common.{refl, rules}
+use Rattle.std.proofs.Common.{refl}
 use Rattle.link_node.specs.Due.{due_of}
 use Rattle.link_node.proofs.NumberLemmas.{number-back}
 use Rattle.link_node.proofs.node.Node.due.Goals as goal

@@ -1,9 +1,6 @@
-use Rattle.std.proofs.Common.{rules, arith, ◌≡◌, ◌∙◌, ◌≤◌, sym, ap, suc, length, refl, Some}
-use Rattle.session_choice.specs.History.{Taking}
-use Rattle.link_node.specs.Machine.{Machine}
-use Rattle.link_node.specs.Standing.{HasParts}
+use Rattle.std.proofs.Common.{arith, ◌∙◌, sym, refl}
 use Rattle.link_node.specs.Tick.{idle_forgotten}
-use Rattle.link_node.proofs.ForgetLemmas.{AreForgotten, HasForgotten, IsFirst, first_left, forgotten_none, forgotten_needed, forgotten_one, forgotten_all, one_fewer}
+use Rattle.link_node.proofs.ForgetLemmas.{first_left, forgotten_none, forgotten_needed, forgotten_one, forgotten_all, one_fewer}
 use Rattle.link_node.proofs.node.Node.forget_idle.Goals as goal
 
 pub loop-k-init : goal.loop-k-init

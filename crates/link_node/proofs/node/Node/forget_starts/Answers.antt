@@ -1,7 +1,5 @@
-use Rattle.std.proofs.Common.{rules, ◌≡◌}
+use Rattle.std.proofs.Common.{rules}
 use Rattle.client_state.specs.Starts.{latest_start_of}
-use Rattle.link_node.specs.Machine.{Machine}
-use Rattle.link_node.specs.Standing.{HasParts}
 use Rattle.link_node.proofs.node.Node.forget_starts.Goals as goal
 
 pub returns-clause-stands : goal.returns-clause-stands

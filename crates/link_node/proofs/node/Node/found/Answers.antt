@@ -1,13 +1,11 @@
-use Rattle.std.proofs.Common.{◌≡◌, ◌∙◌, ap, sym, subst, refl, rules, [], None, neg_ℤ, ◌+◌, ◌*◌, ℤ, w64, to_z, of_z}
-use Rattle.rand_pcg.specs.Lcg.{Lcg, started, increment_of}
-use Rattle.rand_pcg.specs.Pcg.{multiplier_64}
+use Rattle.std.proofs.Common.{◌≡◌, ◌∙◌, ap, subst, refl, rules, [], None, neg_ℤ, ◌+◌, ℤ}
+use Rattle.rand_pcg.specs.Lcg.{Lcg}
 use Rattle.lk_base.specs.declared.ids.NodeId.{NodeId}
 use Rattle.lk_base.specs.declared.timeline.Timeline.{Timeline}
 use Rattle.lk_base.specs.Ids.{drawn_id, source_after}
 use Rattle.client_state.specs.Starts.{latest_start_of}
 use Rattle.session_choice.specs.History.{History, StandsFor, opening}
 use Rattle.link_node.specs.Machine.{Machine}
-use Rattle.link_node.specs.Standing.{HasParts}
 use Rattle.link_node.specs.Settling.{founded, founding_timeline_in, id_drawn}
 use Rattle.link_node.proofs.NumberLemmas.{moment-back}
 use Rattle.link_node.proofs.SourceLemmas.{source-next}

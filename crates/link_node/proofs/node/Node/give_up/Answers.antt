@@ -1,9 +1,7 @@
-use Rattle.std.proofs.Common.{◌≡◌, ◌∙◌, sym, rules}
+use Rattle.std.proofs.Common.{◌∙◌, sym, rules}
 use Rattle.session_choice.specs.History as sessions
 use Rattle.session_choice.specs.History.{forgotten}
-use Rattle.link_node.specs.Machine.{Machine}
 use Rattle.link_node.specs.Measuring.{unmeasured}
-use Rattle.link_node.specs.Standing.{HasParts}
 use Rattle.link_node.proofs.node.Node.give_up.Goals as goal
 
 pub returns-then-is_current-clause-stands : goal.returns-then-is_current-clause-stands

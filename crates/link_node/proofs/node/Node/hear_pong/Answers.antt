@@ -1,11 +1,6 @@
-use Rattle.std.proofs.Common.{rules, ◌≡◌, ◌⊎◌, inl, inr, ◌∙◌, ◌++◌, [], sym, ap, append-nil}
-use Rattle.ping_measure.specs.Life.{pong_outcome, pong_after}
-use Rattle.ping_measure.specs.Life as measure
-use Rattle.ping_measure.specs.declared.outcome.Outcome.{Outcome}
-use Rattle.link_node.specs.Machine.{Machine}
-use Rattle.link_node.specs.Measuring.{pong_heard, pings_after_pong, judged, pings_of}
-use Rattle.link_node.specs.Standing.{HasParts}
-use Rattle.link_node.proofs.MeasuringLemmas.{Runs, runs, none_runs, no_pong}
+use Rattle.std.proofs.Common.{rules, sym}
+use Rattle.link_node.specs.Measuring.{pong_heard, pings_after_pong}
+use Rattle.link_node.proofs.MeasuringLemmas.{runs, none_runs, no_pong}
 use Rattle.link_node.proofs.PartLemmas.{now_in}
 use Rattle.link_node.proofs.node.Node.hear_pong.Goals as goal
 

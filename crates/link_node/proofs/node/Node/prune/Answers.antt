@@ -1,8 +1,6 @@
-use Rattle.std.proofs.Common.{rules, ◌≡◌}
+use Rattle.std.proofs.Common.{rules}
 use Rattle.peer_gateway.specs.Happenings as peers
 use Rattle.peer_gateway.specs.Happenings.{was_pruned}
-use Rattle.link_node.specs.Machine.{Machine}
-use Rattle.link_node.specs.Standing.{HasParts}
 use Rattle.link_node.specs.Tick.{pruned}
 use Rattle.link_node.proofs.PartLemmas.{now_in}
 use Rattle.link_node.proofs.node.Node.prune.Goals as goal

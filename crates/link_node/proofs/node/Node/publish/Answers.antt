@@ -1,4 +1,4 @@
-use Rattle.std.proofs.Common.{rules, ap, sym, ◌∙◌, ◌≡◌, true, false}
+use Rattle.std.proofs.Common.{rules, sym, ◌∙◌, ◌≡◌, true, false}
 use Rattle.link_node.specs.Publishing.{alike, state_in, change_in, shown}
 use Rattle.link_node.proofs.node.Node.publish.Goals as goal
 

@@ -1,6 +1,4 @@
-use Rattle.std.proofs.Common.{rules, ◌≡◌, ◌∙◌, sym, None}
-use Rattle.link_node.specs.Machine.{Machine}
-use Rattle.link_node.specs.Standing.{HasParts}
+use Rattle.std.proofs.Common.{rules, ◌∙◌, sym, None}
 use Rattle.link_node.specs.Tick.{remeasure_queued}
 use Rattle.link_node.proofs.node.Node.queue_remeasuring.Goals as goal
 

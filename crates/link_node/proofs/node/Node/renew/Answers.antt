@@ -1,7 +1,5 @@
-use Rattle.std.proofs.Common.{rules, ◌≡◌, ◌∙◌, w64, to_z, of_z}
+use Rattle.std.proofs.Common.{rules, ◌∙◌}
 use Rattle.link_node.specs.Client.{renewed}
-use Rattle.link_node.specs.Machine.{Machine}
-use Rattle.link_node.specs.Standing.{HasParts}
 use Rattle.link_node.proofs.NumberLemmas.{moment-back}
 use Rattle.link_node.proofs.node.Node.renew.Goals as goal
 

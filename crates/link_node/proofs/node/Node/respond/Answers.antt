@@ -1,6 +1,5 @@
-use Rattle.std.proofs.Common.{◌≡◌, ◌∙◌, ap, rules, Option}
+use Rattle.std.proofs.Common.{◌≡◌, ◌∙◌, ap, rules}
 use Rattle.std.specs.Prelude.{option_map, slice_get}
-use Rattle.lk_base.specs.declared.endpoint.Endpoint.{Endpoint}
 use Rattle.link_node.specs.Config.{ConfigValue}
 use Rattle.link_node.specs.Telling.{response_to, local_of}
 use Rattle.link_node.proofs.GateLemmas.{local-is}

@@ -1,5 +1,4 @@
-use Rattle.std.proofs.Common.{◌≡◌, ◌∙◌, ap, rules, Option, Some}
-use Rattle.std.specs.Prelude.{option_map, slice_get}
+use Rattle.std.proofs.Common.{rules}
 use Rattle.link_node.proofs.GateLemmas.{gate-is}
 use Rattle.link_node.proofs.node.Node.send_alive.Goals as goal
 

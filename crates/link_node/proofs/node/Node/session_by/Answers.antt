@@ -1,4 +1,3 @@
-use Rattle.std.proofs.Common.{rules, ◌≡◌}
 use Rattle.link_node.proofs.node.Node.session_by.Goals as goal
 
 pub returns-in-Ok-clause-later : goal.returns-in-Ok-clause-later

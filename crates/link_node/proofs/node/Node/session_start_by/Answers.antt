@@ -1,8 +1,7 @@
-use Rattle.std.proofs.Common.{rules, ◌≡◌, ◌∙◌, sym, ap, ◌∷◌, ◌++◌, [], true}
+use Rattle.std.proofs.Common.{◌≡◌, ◌∙◌, sym, ap, true}
 use Rattle.client_state.specs.Starts.{start_to_session_of}
 use Rattle.link_node.specs.Config.{ConfigValue}
-use Rattle.link_node.specs.Machine.{Machine, timeline_in, offset_in, still}
-use Rattle.link_node.specs.Standing.{HasParts}
+use Rattle.link_node.specs.Machine.{timeline_in, offset_in, still}
 use Rattle.link_node.proofs.CommitLemmas.{later_held}
 use Rattle.link_node.proofs.node.Node.session_start_by.Goals as goal
 

@@ -1,9 +1,7 @@
-use Rattle.std.proofs.Common.{rules, ◌≡◌}
+use Rattle.std.proofs.Common.{rules}
 use Rattle.peer_gateway.specs.Answers.{seen_of}
 use Rattle.peer_gateway.specs.Happenings as peers
 use Rattle.peer_gateway.specs.Happenings.{life_after}
-use Rattle.link_node.specs.Machine.{Machine}
-use Rattle.link_node.specs.Standing.{HasParts}
 use Rattle.link_node.specs.Taking.{sighted, row_of}
 use Rattle.link_node.proofs.PartLemmas.{now_in}
 use Rattle.link_node.proofs.node.Node.sight.Goals as goal

@@ -2,7 +2,7 @@ use Rattle.std.proofs.Common.{subst}
 use Rattle.link_node.specs.Event.{event_value, moment_of}
 use Rattle.link_node.specs.Kinds.{is_tick}
 use Rattle.link_node.specs.Machine.{Machine}
-use Rattle.link_node.specs.Settling.{held_in, noted, settled}
+use Rattle.link_node.specs.Settling.{noted, settled}
 use Rattle.link_node.specs.Standing.{HasParts, StandsFor}
 use Rattle.link_node.specs.Step.{step_of, sends_of, change_of, before_broadcast, before_shown, taken, answers, alives_by, at_moment}
 use Rattle.link_node.specs.declared.node.settling.Held.{Held}

@@ -1,7 +1,6 @@
 use Rattle.std.proofs.Common.{subst}
 use Rattle.lk_base.specs.Ranges.{IsMoment}
 use Rattle.link_node.specs.Event.{event_value, moment_of}
-use Rattle.link_node.specs.Standing.{HasParts}
 use Rattle.link_node.specs.Step.{at_moment}
 use Rattle.link_node.specs.declared.event.Event.{Event}
 use Rattle.link_node.proofs.StepLemmas.{sessions-at, advanced}

@@ -1,7 +1,5 @@
-use Rattle.std.proofs.Common.{rules, ◌≡◌}
+use Rattle.std.proofs.Common.{rules}
 use Rattle.link_node.specs.Commits.{audio_taken}
-use Rattle.link_node.specs.Machine.{Machine}
-use Rattle.link_node.specs.Standing.{HasParts}
 use Rattle.link_node.proofs.node.Node.take_audio.Goals as goal
 
 pub returns-clause-stands : goal.returns-clause-stands

@@ -1,7 +1,5 @@
-use Rattle.std.proofs.Common.{rules, ◌≡◌, ◌∙◌, sym}
+use Rattle.std.proofs.Common.{rules, ◌∙◌, sym}
 use Rattle.link_node.specs.Commits.{start_committed}
-use Rattle.link_node.specs.Machine.{Machine}
-use Rattle.link_node.specs.Standing.{HasParts}
 use Rattle.link_node.proofs.node.Node.take_client_start.Goals as goal
 
 pub returns-then-is_earlier-clause-stands : goal.returns-then-is_earlier-clause-stands

@@ -1,6 +1,4 @@
-use Rattle.std.proofs.Common.{rules, ◌≡◌, ◌∙◌, sym, refl}
-use Rattle.link_node.specs.Machine.{Machine}
-use Rattle.link_node.specs.Standing.{HasParts}
+use Rattle.std.proofs.Common.{rules, ◌∙◌, sym, refl}
 use Rattle.link_node.proofs.PartLemmas.{limit_back}
 use Rattle.link_node.proofs.node.Node.take_client_timeline.Goals as goal
 

@@ -1,8 +1,7 @@
-use Rattle.std.proofs.Common.{rules, ◌≡◌, ◌∙◌, sym, Bool, true, false, Option, Some, None, is_some, refl}
+use Rattle.std.proofs.Common.{◌≡◌, ◌∙◌, sym, false, Option, Some, None, is_some, refl}
 use Rattle.lk_base.specs.declared.timeline.Timeline.{Timeline}
 use Rattle.link_node.specs.Commits.{commit_taken, client_taken}
 use Rattle.link_node.specs.Machine.{Machine}
-use Rattle.link_node.specs.Standing.{HasParts}
 use Rattle.link_node.proofs.PartLemmas.{limit_back}
 use Rattle.link_node.proofs.node.Node.take_commit.Goals as goal
 

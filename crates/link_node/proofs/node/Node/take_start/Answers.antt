@@ -1,6 +1,4 @@
-use Rattle.std.proofs.Common.{rules, ◌≡◌, ◌∙◌, sym}
-use Rattle.link_node.specs.Machine.{Machine}
-use Rattle.link_node.specs.Standing.{HasParts}
+use Rattle.std.proofs.Common.{rules, ◌∙◌, sym}
 use Rattle.link_node.specs.Taking.{start_taken}
 use Rattle.link_node.proofs.node.Node.take_start.Goals as goal
 

@@ -1,8 +1,5 @@
-use Rattle.std.proofs.Common.{rules, ◌≡◌, ◌∙◌, ap, ◌++◌, List, append_assoc}
-use Rattle.link_node.specs.Event.{SendingValue}
-use Rattle.link_node.specs.Machine.{Machine}
-use Rattle.link_node.specs.Standing.{HasParts}
-use Rattle.link_node.specs.Tick.{cleared, ticked, pings_of_tick, pings_begun}
+use Rattle.std.proofs.Common.{append_assoc}
+use Rattle.link_node.specs.Tick.{cleared, ticked, pings_of_tick}
 use Rattle.link_node.proofs.SessionsLemmas.{room_for_current, measured_sessions, cleared_sessions}
 use Rattle.link_node.proofs.BeginLemmas.{one_at_most}
 use Rattle.link_node.proofs.node.Node.tick.Goals as goal

@@ -1,11 +1,6 @@
-use Rattle.std.proofs.Common.{rules, ◌≡◌, ◌⊎◌, inl, inr, ◌∙◌, ◌++◌, [], sym, ap, append-nil}
-use Rattle.ping_measure.specs.Life.{tick_outcome, tick_after}
-use Rattle.ping_measure.specs.Life as measure
-use Rattle.ping_measure.specs.declared.outcome.Outcome.{Outcome}
-use Rattle.link_node.specs.Machine.{Machine}
-use Rattle.link_node.specs.Measuring.{measurement_ticked, pings_after_tick, judged, pings_of}
-use Rattle.link_node.specs.Standing.{HasParts}
-use Rattle.link_node.proofs.MeasuringLemmas.{Runs, runs, none_runs, sent_or_on, no_tick}
+use Rattle.std.proofs.Common.{rules, sym}
+use Rattle.link_node.specs.Measuring.{measurement_ticked, pings_after_tick}
+use Rattle.link_node.proofs.MeasuringLemmas.{runs, none_runs, sent_or_on, no_tick}
 use Rattle.link_node.proofs.PartLemmas.{now_in}
 use Rattle.link_node.proofs.node.Node.tick_measurement.Goals as goal
 

@@ -1,8 +1,6 @@
-use Rattle.std.proofs.Common.{rules, ◌≡◌}
+use Rattle.std.proofs.Common.{rules}
 use Rattle.session_choice.specs.History as sessions
 use Rattle.session_choice.specs.History.{measured_after}
-use Rattle.link_node.specs.Machine.{Machine}
-use Rattle.link_node.specs.Standing.{HasParts}
 use Rattle.link_node.proofs.PartLemmas.{now_in}
 use Rattle.link_node.proofs.node.Node.weigh.Goals as goal
 
