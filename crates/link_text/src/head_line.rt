@@ -6,7 +6,7 @@ ghost use Rattle.std.specs.List.{flat_map};
 ghost use Rattle.arrayvec.specs.ArrayVec.{array_vec_len};
 ghost use Rattle.link_text.specs.Words.{truth_text_of};
 ghost use Rattle.link_node.specs.Config.{config_value, gate_value};
-ghost use Rattle.link_text.specs.ReplayScript.{IsHead, gate_lines, head_lines, node_line, ended};
+ghost use Rattle.link_text.specs.ReplayScript.{gate_lines, head_lines, node_line, ended};
 ghost use Rattle.link_text.specs.GateLines.{destination_line, local_line};
 
 use crate::line::{LineBuf, put, put_decimal, put_endpoint, put_signed, put_truth};
@@ -17,7 +17,6 @@ use lk_base::{Endpoint, NodeId};
 /// then. Memory: none.
 #[tactic(auto, unfolding(crate::specs::ReplayScript::head_lines))]
 pub fn write_head(line: &mut LineBuf, config: &Config, now: i64, k: u32) -> bool
-    requires { IsHead (config_value config.now) now }
     ensures there { (l : List ℕ) → slice_get (head_lines (config_value config.now) now) k ≡ Some l
         → (result ≡ true) × (line.new.items ≡ ended l) }
     ensures past { slice_get (head_lines (config_value config.now) now) k ≡ None
