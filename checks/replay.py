@@ -2,10 +2,11 @@
 """Compares the built program's `replay` with a plain reading of the rules, checks/node.py: checks/replay.py PROGRAM [SEED].
 
 The scripts are drawn from the seed (1 where not given). Long and short stories of a node: what comes next is drawn with the plain reading beside it, so
-that moments fall on limits and deadlines, pongs fit the measurement that runs and commits the timeline that counts. Stories in which measurements end at
-an exact lead, tables are full, and an origin is spent. And scripts with one change: each word of every kind of line at the ends of its range, past them and
-misspelled, lost and doubled lines, and stories with a changed word, line or byte. Exit status, standard output and, under status 8, the line that standard error names first are compared. The first script that differs is
-shortened and printed. A rule that no story reaches is a failure. The last line is 'N passed, N failed'.
+that moments fall on limits and deadlines, pongs fit the measurement that runs and commits the timeline that counts. Stories in which measurements end
+at an exact lead, tables are full, and an origin is spent. Scripts with one change: each word of every kind of line at the ends of its range, past
+them, misspelled, lost and doubled. And stories with a changed word, line or byte. Exit status, standard output and, under status 8, the line that
+standard error names first are compared. The first script that differs is shortened and printed. A rule that no story reaches is a failure. The last
+line is 'N passed, N failed'.
 """
 import random
 import re
@@ -376,7 +377,7 @@ end NOW
 
 
 def edges():
-    """Each word of a script that has lines of all kinds, changed to each end of its range and past it, misspelled, and taken out; and each line taken out and doubled."""
+    """A script that has lines of all kinds, with a word changed, taken out or parted by two spaces, or with a line taken out or doubled."""
     spelled = lambda words: " ".join(ENDS.get(word, [word])[0] for word in words)
     whole = [line.split(" ") for line in WHOLE.splitlines()]
     text = lambda lines: ("\n".join(lines) + "\n").encode()
@@ -392,7 +393,8 @@ def edges():
                 yield text(lines[:at] + [spelled(words[:place] + [other] + words[place + 1 :])] + lines[at + 1 :])
             yield text(lines[:at] + [spelled(words[:place] + words[place + 1 :])] + lines[at + 1 :])
             yield text(lines[:at] + [spelled(words[:place] + [""] + words[place:])] + lines[at + 1 :])
-    for more in ("", " ", "\r", "#", " #", "#\r", "end 5", "end 5 ", " end 5", "replay 1", "replay 2", "gate 1.2.3.4:5", "to 1.2.3.4:5", "app 5 t 500000 0 0 s 1 0 0"):
+    gates = ["gate 1.2.3.4:5", "to 1.2.3.4:5"]
+    for more in ("", " ", "\r", "#", " #", "#\r", "end 5", "end 5 ", " end 5", "replay 1", "replay 2", "app 5 t 500000 0 0 s 1 0 0", *gates):
         yield text(lines + [more])
         yield text([more] + lines)
     for count in (2, 3, 4, 5):

@@ -13,7 +13,7 @@ OPENING = b"state 0 500000 0 1000000 0 0 0 1 0 1000000 0 0\n"
 
 WORDS = b"""\
 jorazhil: these words are no command of this program; what it takes:
-  replay    reads a script on standard input and writes what the node answers
+  replay    reads a script on standard input and writes what the node sends and shows
   decode    reads datagrams in hex on standard input, one a line, and writes a line that tells what each says
 """
 INPUT = b"jorazhil: standard input could not be read; nothing was written\n"

@@ -22,7 +22,7 @@ pub enum Status {
     #[error("done")]
     Done,
     /// 2: the words after the program's name are none of its forms.
-    #[error("these words are no command of this program; what it takes:\n  replay    reads a script on standard input and writes what the node answers\n  decode    reads datagrams in hex on standard input, one a line, and writes a line that tells what each says")]
+    #[error("these words are no command of this program; what it takes:\n  replay    reads a script on standard input and writes what the node sends and shows\n  decode    reads datagrams in hex on standard input, one a line, and writes a line that tells what each says")]
     Words,
     /// 5: the input could not be read.
     #[error("standard input could not be read; nothing was written")]
