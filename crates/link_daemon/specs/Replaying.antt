@@ -5,6 +5,8 @@ use Rattle.link_node.specs.Config.{ConfigValue}
 use Rattle.link_node.specs.Event.{EventValue}
 use Rattle.link_node.specs.Machine.{Machine}
 use Rattle.link_node.specs.Opening.{opened}
+use Rattle.link_node.specs.Standing.{StandsFor, gates_of, app_of, audio_of}
+use Rattle.link_node.specs.declared.node.Node.{Node}
 use Rattle.link_text.specs.ReplayScript.{IsScriptOf, SaysFrom}
 
 -- the node stands for the machine, and the text says from the place on these events, which the node can take
@@ -23,6 +25,9 @@ pub record IsOpened (Stands : Machine → Type 0) (gates app audio : ℕ) (text 
   pub says : SaysFrom gates audio text first es
   pub no_commits : app ≡ 0
 
--- some events are said that the node can take
-abbrev pub GoesSomehow : (Machine → Type 0) → ℕ → ℕ → ℕ → List ℕ → ℕ → Type 0
-GoesSomehow Stands gates app audio text at = (m : Machine) × (es : List EventValue) × GoesOn Stands gates app audio text at m es
+-- the same of a node's value
+abbrev pub NodeGoesOn : Node → List ℕ → ℕ → Machine → List EventValue → Type 0
+NodeGoesOn node text at m es = GoesOn (StandsFor node) (gates_of node) (app_of node) (audio_of node) text at m es
+
+abbrev pub IsNodeOpened : Node → List ℕ → ℕ → Type 0
+IsNodeOpened node text first = IsOpened (StandsFor node) (gates_of node) (app_of node) (audio_of node) text first

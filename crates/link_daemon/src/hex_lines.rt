@@ -1,6 +1,6 @@
 //! The grammar of datagrams in hex, one a line.
 
-ghost use Rattle.std.specs.Prelude.{◌≡◌, ◌≤◌, ◌-◌, ◌^◌, length, IfOk, IfErr};
+ghost use Rattle.std.specs.Prelude.{◌≡◌, ◌≤◌, ◌-◌, ◌^◌, length, IfOk, IfErr, IsErrOf};
 ghost use Rattle.std.specs.Bool.{OnTrue, OnFalse};
 ghost use Rattle.hex.specs.Hex.{is_hex_digit};
 ghost use Rattle.link_daemon.specs.HexLines.{IsBadLine, IsDecodable, IsHexLine, IsLongestLine};
@@ -19,6 +19,9 @@ pub fn longest_line(text: &[u8]) -> Result<usize, TextFault>
     ensures longest { IfOk result (IsLongestLine text.now) }
     ensures within { IfOk result (λ longest. longest ≤ length text.now) }
     ensures fault { IfErr result (IsTextFault decode_command text.now) }
+
+    // No memory is taken.
+    ensures memory { ¬ (IsErrOf result TextFault.Memory) }
 {
     let mut longest: usize = 0;
     let mut at = 0;

@@ -49,12 +49,11 @@ struct Replay {
 }
 
 impl TextCommand for Replay {
-    ghost use Rattle.link_node.specs.Standing.{StandsFor, app_of, audio_of, gates_of};
-    ghost use Rattle.link_daemon.specs.Replaying.{IsOpened};
+    ghost use Rattle.link_daemon.specs.Replaying.{IsNodeOpened};
 
     ghost command = { replay_command };
 
-    ghost ready = { λ replay text. IsOpened (StandsFor replay.node) (gates_of replay.node) (app_of replay.node) (audio_of replay.node) text replay.first };
+    ghost ready = { λ replay text. IsNodeOpened replay.node text replay.first };
 
     fn word() -> &'static str {
         "replay"
@@ -117,7 +116,7 @@ impl Replay {
     ghost use Rattle.link_node.specs.Step.{sends_of, step_of};
     ghost use Rattle.link_text.specs.ReplayText.{event_text_of, events_text_of, published_in};
     ghost use Rattle.link_daemon.specs.Outlet.{HandsOver, HandsPart};
-    ghost use Rattle.link_daemon.specs.Replaying.{GoesOn, GoesSomehow};
+    ghost use Rattle.link_daemon.specs.Replaying.{NodeGoesOn};
 
     // Hands over what follows from each event, and says how much there was with the opening state.
     fn hand_events<K: Sink>(
@@ -128,15 +127,15 @@ impl Replay {
         out: &mut K,
     ) -> Result<Counts, SinkFailed>
         requires short { length text.now ≤ 1_073_741_824 }
-        requires says { GoesSomehow (StandsFor self.old.node) (gates_of self.old.node) (app_of self.old.node) (audio_of self.old.node) text.now self.old.first }
+        requires says { (m : Machine) × (es : List EventValue) × NodeGoesOn self.old.node text.now self.old.first m es }
         ensures events { IfOk result (λ counts. (m : Machine) (es : List EventValue)
-            → GoesOn (StandsFor self.old.node) (gates_of self.old.node) (app_of self.old.node) (audio_of self.old.node) text.now self.old.first m es
+            → NodeGoesOn self.old.node text.now self.old.first m es
             → (counts.events ≡ length es) × ((counts.states ≡ 1 + length (published_by m es)) × (counts.sends ≡ length (sent_by m es)))) }
         ensures kept { OnOk result ((m : Machine) (es : List EventValue)
-            → GoesOn (StandsFor self.old.node) (gates_of self.old.node) (app_of self.old.node) (audio_of self.old.node) text.now self.old.first m es
+            → NodeGoesOn self.old.node text.now self.old.first m es
             → HandsOver (events_text_of m 1 es) (K.written out.old) outlet.old.kept.items (K.written out.new) outlet.new.kept.items) }
         ensures part { OnErr result ((m : Machine) (es : List EventValue)
-            → GoesOn (StandsFor self.old.node) (gates_of self.old.node) (app_of self.old.node) (audio_of self.old.node) text.now self.old.first m es
+            → NodeGoesOn self.old.node text.now self.old.first m es
             → HandsPart (events_text_of m 1 es) (K.written out.old) outlet.old.kept.items (K.written out.new)) }
         ensures quiet { OnOk result (K.faults out.new ≡ K.faults out.old) }
         ensures cause { OnErr result (Rose (K.faults out.old) (K.faults out.new)) }
