@@ -2,14 +2,14 @@
 # How fast the built program replays: bench/replay.sh [EVENTS] (1,000,000 where not given). JORAZHIL_PROGRAM names another program than the built one.
 # Its scripts are made by bench/scripts.py, which tells what is in them, into a temporary folder. Each is replayed once to warm up and then three times.
 #
-# 1. `alives`, and `mixed` with 10 and with 500 peers, the output into a file: of the run that took the least time MB of script and events a second; the time
-#    an event with 500 peers over that with 10; and the greatest peak resident memory. That is the program's own: the process that starts it holds no script,
-#    and its own peak, below which no peak of a child can be told, stands beside.
-# 2. What an event of each kind costs, with 10 and with 500 peers, the output thrown away, in nanoseconds of the processor (user and system). A run reads
-#    the whole text, then looks at every line, then reads each line again, takes its step and writes what follows. So each script is run in three forms:
-#    with its first line at fault (`read`: reading the text), with one more line that is at fault (less `read`: `look`), and whole. `step` is the whole run
-#    without `read` and two such looks: the steps, and the lines that they write. `bytes` tells how much they write; where that is 0, these are the steps alone.
-#    That a line's second reading costs what the look at it costs is taken and not measured.
+# 1. `alives`, and `mixed` with 10 and with 500 peers, the output into a file: of the run that took the least time MB of script and events a second; the
+#    time an event with 500 peers over that with 10; and the greatest peak resident memory. That is the program's own: the process that starts it holds
+#    no script, and its own peak, below which no peak of a child can be told, stands beside.
+# 2. What an event of each kind costs with 10 and with 500 peers, the output thrown away, in nanoseconds of the processor (user and system). `whole` is
+#    the run over its events: a line is read twice, its step is taken, and what follows is written. `idle` is the same for the idle form of the script,
+#    whose lines are as long and do less. `step` is the difference: the step beyond one that does nothing, with the lines that it writes, of which there
+#    are `bytes` an event. So it is the step alone where these are 0. For `app` and `audio` it is what a timeline that is taken costs beyond one that
+#    meets a spent origin; both write a state. For `end` it is a step that does nothing, and the reading of its two words: no step costs less, but for that.
 #
 # Beside them `cat` over the alives, and the machine.
 set -eu
@@ -29,7 +29,7 @@ import os, resource, subprocess, sys, time
 
 program, folder, maker, events = *sys.argv[1:4], int(sys.argv[4])
 script, out = os.path.join(folder, "script"), os.path.join(folder, "out")
-KINDS = "nothing response alive ping passed pongs bye tick app audio".split()
+KINDS = "response alive ping passed pongs bye tick app audio end".split()
 
 
 def make(name, peers, count):
@@ -77,19 +77,14 @@ def whole(name, peers):
 
 
 def kind_costs(name, peers):
-    count, size = events // 4 + peers, make(name, peers, events // 4)
+    count = events // 4 + peers
+    make(f"{name}-idle", peers, events // 4)
+    idle = least()[1]
+    make(name, peers, events // 4)
     full = least()[1]
     run([program, "replay"], 0, out)
-    written = os.path.getsize(out) / count
-    with open(script, "ab") as text:
-        text.write(b"x\n")
-    looked = least(8)[1]
-    with open(script, "r+b") as text:
-        text.truncate(size)
-        text.write(b"x")
-    read = least(8)[1]
-    ns = [1e9 * seconds / count for seconds in (full, read, looked - read, full - read - 2 * (looked - read))]
-    line(f"{name}, {peers} peers", "".join(f"{n:9.0f}" for n in (*ns, written)))
+    ns = [1e9 * seconds / count for seconds in (full, idle, full - idle)]
+    line(f"{name}, {peers} peers", "".join(f"{n:9.0f}" for n in (*ns, os.path.getsize(out) / count)))
 
 
 alone = whole("alives", 0)
@@ -98,7 +93,7 @@ line("alives over cat", f"{alone * events / cat:8.2f} times the time of cat ({ca
 few, many = whole("mixed", 10), whole("mixed", 500)
 line("500 peers over 10", f"{many / few:8.2f} times the time an event")
 line("this process: memory", f"{resource.getrusage(resource.RUSAGE_SELF).ru_maxrss * 1024 / 1e6:8.1f} MB")
-print(f"\n{'ns an event':<28}{'whole':>9}{'read':>9}{'look':>9}{'step':>9}{'bytes':>9}")
+print(f"\n{'ns an event':<28}{'whole':>9}{'idle':>9}{'step':>9}{'bytes':>9}")
 for name in KINDS:
     for peers in (10, 500):
         kind_costs(name, peers)

@@ -1,12 +1,15 @@
 #!/usr/bin/env python3
 """Writes a script for bench/replay.sh on standard output: bench/scripts.py NAME PEERS EVENTS.
 
-`alives` has alives alone, each of the same peer from another address. In the others PEERS peers, a quarter of them on each of four gates, tell their state
-once, and EVENTS events follow. `mixed` has in 16 events eight alives, two pings, two pongs, two ticks, an application commit and an audio commit, a
-millisecond apart, with one destination on each gate. Every 32nd alive has a newer timeline. Every 512 events a visitor comes in a session of its own, which is
-then measured: its 51 pongs are the next ones, and are answered by pings. The other names have events of one kind, a tenth of a millisecond apart, and no
-destination: `nothing` (a datagram that isn't of Link), `response`, `alive`, `ping`, `passed` (a pong that nobody waits for), `pongs` (a visitor's response, a
-tick and its 51 pongs), `bye` (a bye, and a response that brings the row back), `tick`, `app`, `audio`.
+`alives` has alives alone, each of the same peer from another address. In the others PEERS peers, a quarter of them on each of four gates, tell their
+state once, and EVENTS events follow. `mixed` has in 16 events eight alives, two pings, two pongs, two ticks, an application commit and an audio commit,
+a millisecond apart, with one destination on each gate. Every 32nd alive has a newer timeline. Every 512 events a visitor comes in a session of its
+own, which is then measured: its 51 pongs are the next ones, and are answered by pings.
+
+The other names have events of one kind, a tenth of a millisecond apart, and no destination: `response`, `alive`, `ping`, `passed` (a pong that nobody
+waits for), `pongs` (a visitor's response, a tick and its 51 pongs), `bye` (a bye, and a response that brings the row back), `tick`, `app`, `audio`,
+`end`. Each has an idle form, as `ping-idle`, of the same lines, as long and with as many words, in which less is done: datagrams have another first
+byte and so aren't of Link, ticks are ends (which without destinations do nothing), commits meet a spent origin, and ends are comments.
 """
 import sys
 
@@ -23,7 +26,8 @@ def eight(n):
 
 
 def state(kind, sender, session, beat, port, ttl=5):
-    values = ((b"tmln", eight(500_000) + eight(beat) + eight(0)), (b"sess", session), (b"stst", bytes(17)), (b"mep4", bytes([10, 0, 0, 1, *port.to_bytes(2, "big")])))
+    endpoint = bytes([10, 0, 0, 1, *port.to_bytes(2, "big")])
+    values = ((b"tmln", eight(500_000) + eight(beat) + eight(0)), (b"sess", session), (b"stst", bytes(17)), (b"mep4", endpoint))
     return (b"_asdp_v\x01" + bytes([kind, ttl, 0, 0]) + sender + b"".join(entry(key, value) for key, value in values)).hex()
 
 
@@ -80,11 +84,11 @@ class Lines:
         peer = (self.seen + 1) * 7 % self.peers
         return self.rx(peer, (b"_asdp_v\x01\x03\0\0\0PEER%04d" % peer).hex())
 
-    def nothing(self):
-        return self.rx(self.peer(), bytes(107).hex())
-
     def tick(self):
         return f"tick {self.now}\n"
+
+    def end(self):
+        return f"end {self.now}\n"
 
     def commit(self, word):
         self.commits += 1
@@ -100,7 +104,6 @@ class Lines:
 A, P, O, T = Lines.alive, Lines.ping, Lines.pong, Lines.tick
 MIXED = [A, P, A, T, A, O, A, Lines.app, A, P, A, T, A, O, A, Lines.audio]
 KINDS = {
-    "nothing": [Lines.nothing],
     "response": [Lines.response],
     "alive": [A],
     "ping": [P],
@@ -110,7 +113,9 @@ KINDS = {
     "tick": [T],
     "app": [Lines.app],
     "audio": [Lines.audio],
+    "end": [Lines.end],
 }
+IDLE = {"rx": (" 5f", " 5e"), "tick": ("tick", "end"), "end": ("end", "#nd")}
 
 
 def kind_at(name, k):
@@ -132,11 +137,14 @@ def others(name, peers, events):
     yield f"replay 1\nnode {SESSION.decode()} 1 500000 1 {OPENED}\n"
     for gate in range(4):
         yield f"gate 127.0.0.1:{20808 + gate}\n" + (f"to 127.0.0.1:{30808 + gate}\n" if name == "mixed" else "")
-    lines = Lines(peers, 1000 if name == "mixed" else 100)
+    lines, kind, idle = Lines(peers, 1000 if name == "mixed" else 100), name.removesuffix("-idle"), name.endswith("-idle")
     yield lines.opening()
+    if kind in ("app", "audio") and idle:
+        yield f"rx {OPENED} 0 10.0.0.1:9999 {state(2, b'PEER0000', SESSION, 2**60, 9999, 255)}\n"
     for k in range(events):
         lines.now += lines.step
-        yield kind_at(name, k)(lines)
+        line = kind_at(kind, k)(lines)
+        yield line.replace(*IDLE.get(line.split(" ", 1)[0], ("", "")), 1) if idle else line
 
 
 def main():
