@@ -16,3 +16,5 @@ mod WrittenHeadLemmas
 mod WrittenScriptLemmas
 mod OneScriptLemmas
 mod FitLemmas
+mod LoadLemmas
+mod OneLoadLemmas

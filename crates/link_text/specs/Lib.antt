@@ -10,3 +10,5 @@ pub mod EventDetails
 pub mod HeadParts
 pub mod Places
 pub mod ReplayText
+pub mod LoadRun
+pub mod Load

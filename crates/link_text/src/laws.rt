@@ -1,9 +1,10 @@
-//! Laws of scripts, for what stands above: to call one is to know it.
+//! Laws of scripts and of loads, for what stands above: to call one is to know it.
 
 ghost use Rattle.std.specs.Prelude.{◌≡◌, ◌≤◌, ◌<◌, ◌+◌, ◌^◌, ℕ, ℤ, List, length};
 ghost use Rattle.link_node.specs.Config.{ConfigValue};
 ghost use Rattle.link_node.specs.Event.{EventValue};
 ghost use Rattle.link_node.specs.Runs.{AreFitting};
+ghost use Rattle.link_text.specs.Load.{HasOneLoadText};
 ghost use Rattle.link_text.specs.ReplayScript.{IsHead, IsScriptOf, IsFirstFault, IsNoScript, AreSayable, SaysFrom, written_script_of};
 
 /// What is written for a node and its events is a script of just that node and those events.
@@ -26,4 +27,9 @@ pub fn scripts_fit_nodes()
         → app + length es < 2 ^ 60 → AreFitting gates app audio es }
     ensures few { (gates audio at : ℕ) (text : List ℕ) (es : List EventValue) → SaysFrom gates audio text at es
         → length es ≤ length text }
+{}
+
+/// What is told of a load, whose commits follow the states that its node shows, goes by its seed and its number of events.
+pub fn one_load_text()
+    ensures { HasOneLoadText }
 {}

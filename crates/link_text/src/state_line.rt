@@ -1,8 +1,10 @@
-//! The line of a state, and the last line of a replay.
+//! The line of a state, the last line of a replay, and the line of a load.
 
-ghost use Rattle.std.specs.Prelude.{◌≡◌, ◌≤◌, ◌+◌, ◌++◌, ◌∷◌};
+ghost use Rattle.std.specs.Prelude.{◌≡◌, ◌≤◌, ◌+◌, ◌++◌, ◌∷◌, []};
 ghost use Rattle.std.specs.Fmt.{decimal, signed_decimal};
 ghost use Rattle.arrayvec.specs.ArrayVec.{array_vec_len};
+ghost use Rattle.link_text.specs.Line.{line_of};
+ghost use Rattle.link_text.specs.Load.{load_line_of};
 ghost use Rattle.link_text.specs.ReplayText.{state_line_of, done_line_of};
 ghost use Rattle.link_text.specs.Words.{truth_text_of};
 
@@ -36,6 +38,25 @@ pub fn write_done_line(line: &mut LineBuf, events: u64, states: u64, sends: u64)
 {
     line.clear();
     put(line, b"done ");
+    put_totals(line, events, states, sends);
+}
+
+/// Puts the line of a load in place of what the buffer held: how many events there were, how many states with the opening one,
+/// and how many datagrams were sent. Memory: none.
+#[tactic(auto, unfolding(crate::specs::Load::load_line_of))]
+pub fn write_load_line(line: &mut LineBuf, events: u64, states: u64, sends: u64)
+    ensures { line.new.items ≡ load_line_of events states sends }
+{
+    line.clear();
+    put(line, b"load ");
+    put_totals(line, events, states, sends);
+}
+
+// How many events, states and datagrams there were, and the line feed.
+fn put_totals(line: &mut LineBuf, events: u64, states: u64, sends: u64)
+    requires { array_vec_len line.old ≤ 1000 }
+    ensures { line.new.items ≡ line.old.items ++ line_of (decimal events ∷ decimal states ∷ decimal sends ∷ []) }
+{
     put_decimal(line, events);
     put(line, b" ");
     put_decimal(line, states);
