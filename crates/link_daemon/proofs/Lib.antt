@@ -4,6 +4,8 @@ mod ReplayLemmas
 mod CommandLemmas
 mod HexLineLemmas
 mod DecodeLemmas
+mod LoadWordLemmas
+mod LoadLemmas
 mod StatusLemmas
 mod FaultLineLemmas
 mod OneStatusLemmas

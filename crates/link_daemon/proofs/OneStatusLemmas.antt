@@ -9,9 +9,9 @@ use Rattle.std.specs.declared.string.String.{String}
 use Rattle.link_daemon.specs.declared.status.Grammar.{Grammar}
 use Rattle.link_daemon.specs.declared.status.Status.{Status}
 use Rattle.link_daemon.specs.declared.status.Status.TheVariants as status
-use Rattle.link_daemon.specs.Statuses.{Command, Stream, WasRead, ReadsText, ReadsFault, EndsBy, replay_command, decode_command}
+use Rattle.link_daemon.specs.Statuses.{Command, Stream, WasRead, ReadsText, ReadsFault, EndsBy, EndsLoad, replay_command, decode_command}
 use Rattle.link_daemon.specs.OneStatus.{End, end_of, IsTold, HasOneStatus, HasOneFaultLine}
-use Rattle.link_daemon.proofs.StatusLemmas.{not_both}
+use Rattle.link_daemon.proofs.StatusLemmas.{load_and_decode, load_and_replay, not_both}
 use Rattle.link_daemon.proofs.HexLineLemmas.{bad_and_decoded}
 use Rattle.link_daemon.proofs.FaultLineLemmas.{IsFaultOnce, one_script_fault, one_bad_line}
 
@@ -177,22 +177,67 @@ replay_exclusive text output line fault (config, now, es, script, same) = fault.
 pub decode_exclusive : AreExclusive decode_command
 decode_exclusive text output line fault whole = bad_and_decoded text output line fault whole
 
+-- one run of a load
+one_load : (words : List (String Global)) (out out' : Stream) (one other : Status)
+    → out.faults < 2 ^ 64 - 1 → one ≢ status.Memory → other ≢ status.Memory
+    → EndsLoad words out out' one → EndsLoad words out out' other
+    → end_of one ≡ end_of other
+one_load words out out' status.Input other counts not_one not_other never ends' = absurd never
+one_load words out out' (status.Script g line reason) other counts not_one not_other never ends' = absurd never
+one_load words out out' (status.TooLong limit) other counts not_one not_other never ends' = absurd never
+one_load words out out' status.Memory other counts not_one not_other ends ends' = absurd (not_one refl)
+one_load words out out' status.Done status.Done counts not_one not_other (seed, count, named, (output, text, wrote)) (seed', count', named', (output', text', wrote')) = refl
+one_load words out out' status.Done status.Sink counts not_one not_other (seed, count, named, (output, text, wrote)) (seed', count', named', (output', text', wrote')) = absurd (rose_and_quiet _ _ counts wrote'.rose wrote.quiet)
+one_load words out out' status.Done status.Words counts not_one not_other (seed, count, named, (output, text, wrote)) (unnamed', same_out') = absurd (unnamed' named.load)
+one_load words out out' status.Done status.Input counts not_one not_other ends never = absurd never
+one_load words out out' status.Done (status.Script g line reason) counts not_one not_other ends never = absurd never
+one_load words out out' status.Done (status.TooLong limit) counts not_one not_other ends never = absurd never
+one_load words out out' status.Done status.Memory counts not_one not_other ends ends' = absurd (not_other refl)
+one_load words out out' status.Sink status.Done counts not_one not_other (seed, count, named, (output, text, wrote)) (seed', count', named', (output', text', wrote')) = absurd (rose_and_quiet _ _ counts wrote.rose wrote'.quiet)
+one_load words out out' status.Sink status.Sink counts not_one not_other (seed, count, named, (output, text, wrote)) (seed', count', named', (output', text', wrote')) = refl
+one_load words out out' status.Sink status.Words counts not_one not_other (seed, count, named, (output, text, wrote)) (unnamed', same_out') = absurd (unnamed' named.load)
+one_load words out out' status.Sink status.Input counts not_one not_other ends never = absurd never
+one_load words out out' status.Sink (status.Script g line reason) counts not_one not_other ends never = absurd never
+one_load words out out' status.Sink (status.TooLong limit) counts not_one not_other ends never = absurd never
+one_load words out out' status.Sink status.Memory counts not_one not_other ends ends' = absurd (not_other refl)
+one_load words out out' status.Words status.Done counts not_one not_other (unnamed, same_out) (seed', count', named', (output', text', wrote')) = absurd (unnamed named'.load)
+one_load words out out' status.Words status.Sink counts not_one not_other (unnamed, same_out) (seed', count', named', (output', text', wrote')) = absurd (unnamed named'.load)
+one_load words out out' status.Words status.Words counts not_one not_other (unnamed, same_out) (unnamed', same_out') = refl
+one_load words out out' status.Words status.Input counts not_one not_other ends never = absurd never
+one_load words out out' status.Words (status.Script g line reason) counts not_one not_other ends never = absurd never
+one_load words out out' status.Words (status.TooLong limit) counts not_one not_other ends never = absurd never
+one_load words out out' status.Words status.Memory counts not_one not_other ends ends' = absurd (not_other refl)
+
 pub one_status : IsFaultOnce → HasOneStatus
 one_status law words input input' out out' one other tells counts not_one not_other (inl (named, ends)) (inl (named', ends')) =
     one_of replay_command replay_exclusive (one_script_fault law) words input input' out out' one other tells counts not_one not_other ends ends'
 one_status law words input input' out out' one other tells counts not_one not_other (inl (named, ends)) (inr (inl (named', ends'))) =
     absurd (not_both words named named')
-one_status law words input input' out out' one other tells counts not_one not_other (inl (named, ends)) (inr (inr unnamed)) =
-    absurd (unnamed.no_replay named)
+one_status law words input input' out out' one other tells counts not_one not_other (inl (named, ends)) (inr (inr (inl (begun', (ends', unread'))))) =
+    absurd (load_and_replay words begun' named)
+one_status law words input input' out out' one other tells counts not_one not_other (inl (named, ends)) (inr (inr (inr unnamed'))) =
+    absurd (unnamed'.no_replay named)
 one_status law words input input' out out' one other tells counts not_one not_other (inr (inl (named, ends))) (inl (named', ends')) =
     absurd (not_both words named' named)
 one_status law words input input' out out' one other tells counts not_one not_other (inr (inl (named, ends))) (inr (inl (named', ends'))) =
     one_of decode_command decode_exclusive one_bad_line words input input' out out' one other tells counts not_one not_other ends ends'
-one_status law words input input' out out' one other tells counts not_one not_other (inr (inl (named, ends))) (inr (inr unnamed)) =
-    absurd (unnamed.no_decode named)
-one_status law words input input' out out' one other tells counts not_one not_other (inr (inr unnamed)) (inl (named, ends)) =
-    absurd (unnamed.no_replay named)
-one_status law words input input' out out' one other tells counts not_one not_other (inr (inr unnamed)) (inr (inl (named, ends))) =
-    absurd (unnamed.no_decode named)
-one_status law words input input' out out' one other tells counts not_one not_other (inr (inr unnamed)) (inr (inr unnamed')) =
+one_status law words input input' out out' one other tells counts not_one not_other (inr (inl (named, ends))) (inr (inr (inl (begun', (ends', unread'))))) =
+    absurd (load_and_decode words begun' named)
+one_status law words input input' out out' one other tells counts not_one not_other (inr (inl (named, ends))) (inr (inr (inr unnamed'))) =
+    absurd (unnamed'.no_decode named)
+one_status law words input input' out out' one other tells counts not_one not_other (inr (inr (inl (begun, (ends, unread))))) (inl (named', ends')) =
+    absurd (load_and_replay words begun named')
+one_status law words input input' out out' one other tells counts not_one not_other (inr (inr (inl (begun, (ends, unread))))) (inr (inl (named', ends'))) =
+    absurd (load_and_decode words begun named')
+one_status law words input input' out out' one other tells counts not_one not_other (inr (inr (inl (begun, (ends, unread))))) (inr (inr (inl (begun', (ends', unread'))))) =
+    one_load words out out' one other counts not_one not_other ends ends'
+one_status law words input input' out out' one other tells counts not_one not_other (inr (inr (inl (begun, (ends, unread))))) (inr (inr (inr unnamed'))) =
+    absurd (unnamed'.no_load begun)
+one_status law words input input' out out' one other tells counts not_one not_other (inr (inr (inr unnamed))) (inl (named', ends')) =
+    absurd (unnamed.no_replay named')
+one_status law words input input' out out' one other tells counts not_one not_other (inr (inr (inr unnamed))) (inr (inl (named', ends'))) =
+    absurd (unnamed.no_decode named')
+one_status law words input input' out out' one other tells counts not_one not_other (inr (inr (inr unnamed))) (inr (inr (inl (begun', (ends', unread'))))) =
+    absurd (unnamed.no_load begun')
+one_status law words input input' out out' one other tells counts not_one not_other (inr (inr (inr unnamed))) (inr (inr (inr unnamed'))) =
     ap end_of (unnamed.words_at_fault ∙ sym unnamed'.words_at_fault)

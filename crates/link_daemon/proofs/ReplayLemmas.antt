@@ -71,7 +71,7 @@ left_at text at = length (counting_in (lines_of (drop at text)))
 pub left_are : (gates audio : ℕ) (text : List ℕ) (at : ℕ) (es : List EventValue) → SaysFrom gates audio text at es → left_at text at ≡ length es
 left_are gates audio text at es says = event_lines gates audio (counting_in (lines_of (drop at text))) es says.lines
 
-app_rises : (app : ℕ) (e : EventValue) → app_after app e ≤ app + 1
+pub app_rises : (app : ℕ) (e : EventValue) → app_after app e ≤ app + 1
 app_rises app (Rx gate from bytes now) = omega arith
 app_rises app (Tick now) = omega arith
 app_rises app (App commit now) = omega arith

@@ -5,11 +5,12 @@ use Rattle.std.specs.declared.string.String.{String}
 use Rattle.lk_outside.specs.Faults.{Rose}
 use Rattle.lk_outside.specs.Source.{Takes}
 use Rattle.lk_outside.specs.Transfer.{TakesOver}
+use Rattle.link_daemon.specs.LoadWords.{IsLoad}
 use Rattle.link_daemon.specs.declared.status.Status.{Status}
 use Rattle.link_daemon.specs.declared.status.Status.TheVariants as status
-use Rattle.link_daemon.specs.Statuses.{Command, Stream, Names, EndsBy, ReadsFault, replay_command, decode_command}
-use Rattle.link_daemon.specs.ValidInput.{IsValidFor, CompletesValid, CompleteValid}
-use Rattle.link_daemon.proofs.StatusLemmas.{not_both}
+use Rattle.link_daemon.specs.Statuses.{Command, Stream, Names, EndsBy, EndsLoad, ReadsFault, replay_command, decode_command}
+use Rattle.link_daemon.specs.ValidInput.{IsValidFor, CompletesLoad, CompletesValid, CompleteValid}
+use Rattle.link_daemon.proofs.StatusLemmas.{load_and_decode, load_and_replay, not_both}
 use Rattle.link_daemon.proofs.OneStatusLemmas.{AreExclusive, taken_is_all, replay_exclusive, decode_exclusive}
 
 -- what is taken is no more than what was told
@@ -50,13 +51,31 @@ completes_replay : CompletesValid replay_command
 completes_replay words input input' out out' end named valid reads writes (inl (named', ends)) =
     completes_by replay_command replay_exclusive words input input' out out' end named valid reads writes ends
 completes_replay words input input' out out' end named valid reads writes (inr (inl (named', ends))) = absurd (not_both words named named')
-completes_replay words input input' out out' end named valid reads writes (inr (inr unnamed)) = absurd (unnamed.no_replay named)
+completes_replay words input input' out out' end named valid reads writes (inr (inr (inl (begun, ends)))) = absurd (load_and_replay words begun named)
+completes_replay words input input' out out' end named valid reads writes (inr (inr (inr unnamed))) = absurd (unnamed.no_replay named)
 
 completes_decode : CompletesValid decode_command
 completes_decode words input input' out out' end named valid reads writes (inl (named', ends)) = absurd (not_both words named' named)
 completes_decode words input input' out out' end named valid reads writes (inr (inl (named', ends))) =
     completes_by decode_command decode_exclusive words input input' out out' end named valid reads writes ends
-completes_decode words input input' out out' end named valid reads writes (inr (inr unnamed)) = absurd (unnamed.no_decode named)
+completes_decode words input input' out out' end named valid reads writes (inr (inr (inl (begun, ends)))) = absurd (load_and_decode words begun named)
+completes_decode words input input' out out' end named valid reads writes (inr (inr (inr unnamed))) = absurd (unnamed.no_decode named)
+
+load_ends : (words : List (String Global)) (out out' : Stream) (end : Status)
+    → IsLoad words → (Rose out.faults out'.faults → ⊥) → EndsLoad words out out' end → (end ≡ status.Done) ⊎ (end ≡ status.Memory)
+load_ends words out out' status.Done load writes ends = inl refl
+load_ends words out out' status.Memory load writes ends = inr refl
+load_ends words out out' status.Words load writes (unnamed, same_out) = absurd (unnamed load)
+load_ends words out out' status.Sink load writes (seed, count, named, (output, text, wrote)) = absurd (writes wrote.rose)
+load_ends words out out' status.Input load writes never = absurd never
+load_ends words out out' (status.Script g line reason) load writes never = absurd never
+load_ends words out out' (status.TooLong limit) load writes never = absurd never
+
+completes_load : CompletesLoad
+completes_load words input input' out out' end load writes (inl (named, ends)) = absurd (load_and_replay words load.0 named)
+completes_load words input input' out out' end load writes (inr (inl (named, ends))) = absurd (load_and_decode words load.0 named)
+completes_load words input input' out out' end load writes (inr (inr (inl (begun, (ends, unread))))) = load_ends words out out' end load writes ends
+completes_load words input input' out out' end load writes (inr (inr (inr unnamed))) = absurd (unnamed.no_load load.0)
 
 pub complete_valid : CompleteValid
-complete_valid = (completes_replay, completes_decode)
+complete_valid = (completes_replay, (completes_decode, completes_load))

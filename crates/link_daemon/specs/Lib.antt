@@ -3,6 +3,9 @@ pub mod HexLines
 pub mod DecodeText
 pub mod Adapters
 pub mod Replaying
+pub mod LoadWords
+pub mod LoadCommand
+pub mod Loading
 pub mod Statuses
 pub mod TextFaults
 pub mod OneStatus

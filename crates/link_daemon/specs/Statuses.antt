@@ -9,10 +9,12 @@ use Rattle.lk_outside.specs.Sink.{Appends}
 use Rattle.lk_outside.specs.Transfer.{ReadsWhole, TakesOver, TakesWithin, AppendsPrefix}
 use Rattle.link_node.specs.Config.{ConfigValue}
 use Rattle.link_node.specs.Event.{EventValue}
+use Rattle.link_text.specs.Load.{IsLoadText}
 use Rattle.link_text.specs.ReplayScript.{IsScriptOf, IsNoScript, IsFirstFault}
 use Rattle.link_text.specs.ReplayText.{replay_text_of}
 use Rattle.link_daemon.specs.HexLines.{IsFirstBadLine}
 use Rattle.link_daemon.specs.DecodeText.{IsDecodeText}
+use Rattle.link_daemon.specs.LoadWords.{BeginsLoad, IsLoad, NamesLoad}
 use Rattle.link_daemon.specs.declared.status.Grammar.{Grammar}
 use Rattle.link_daemon.specs.declared.status.Grammar.TheVariants as grammar
 use Rattle.link_daemon.specs.declared.status.Status.{Status}
@@ -147,10 +149,28 @@ EndsReplay = EndsBy replay_command
 abbrev pub EndsDecode : List (String Global) → Stream → Stream → Stream → Stream → Status → Type 0
 EndsDecode = EndsBy decode_command
 
+-- ---- a command without input
+
+-- What `load` did with these words between `out` and `out'`: it wrote the text of the events that the words ask for.
+abbrev pub EndsLoad : List (String Global) → Stream → Stream → Status → Type 0
+EndsLoad words out out' status.Done =
+    (seed : ℕ) × (count : ℕ) × NamesLoad words seed count × ((output : List ℕ) × IsLoadText seed count output × WritesWhole out out' output)
+EndsLoad words out out' status.Sink =
+    (seed : ℕ) × (count : ℕ) × NamesLoad words seed count × ((output : List ℕ) × IsLoadText seed count output × WritesPart out out' output)
+EndsLoad words out out' status.Words = (IsLoad words → ⊥) × (out' ≡ out)
+-- want of memory may come of any run that begins with `load`, while its words are read too, and before anything is written
+EndsLoad words out out' status.Memory = BeginsLoad words × (out' ≡ out)
+EndsLoad words out out' status.Input = ⊥
+EndsLoad words out out' (status.Script g line reason) = ⊥
+EndsLoad words out out' (status.TooLong limit) = ⊥
+
+-- ---- the top call
+
 -- the words name no command, and no object was called
 pub record EndsUnnamed (words : List (String Global)) (input input' out out' : Stream) (end : Status) : Type 0 where
   pub no_replay : Names replay_command words → ⊥
   pub no_decode : Names decode_command words → ⊥
+  pub no_load : BeginsLoad words → ⊥
   pub words_at_fault : end ≡ status.Words
   pub unread : input' ≡ input
   pub unwritten : out' ≡ out
@@ -160,4 +180,5 @@ abbrev pub Ends : List (String Global) → Stream → Stream → Stream → Stre
 Ends words input input' out out' end =
     (Names replay_command words × EndsReplay words input input' out out' end)
     ⊎ ((Names decode_command words × EndsDecode words input input' out out' end)
-    ⊎ EndsUnnamed words input input' out out' end)
+    ⊎ ((BeginsLoad words × (EndsLoad words out out' end × (input' ≡ input)))
+    ⊎ EndsUnnamed words input input' out out' end))

@@ -3,6 +3,7 @@ use Rattle.std.specs.Prelude.{◌≡◌, ◌≤◌, ◌⊎◌, ℕ, List, length
 use Rattle.std.specs.declared.alloc.Global.{Global}
 use Rattle.std.specs.declared.string.String.{String}
 use Rattle.lk_outside.specs.Faults.{Rose}
+use Rattle.link_daemon.specs.LoadWords.{IsLoad}
 use Rattle.link_daemon.specs.declared.status.Status.{Status}
 use Rattle.link_daemon.specs.declared.status.Status.TheVariants as status
 use Rattle.link_daemon.specs.Statuses.{Command, Stream, Names, Ends, replay_command, decode_command}
@@ -24,5 +25,13 @@ CompletesValid command =
     → Ends words input input' out out' end
     → (end ≡ status.Done) ⊎ (end ≡ status.Memory)
 
+-- Where the words are those of a load and no write failed, all is done, or there was no memory.
+abbrev pub CompletesLoad : Type 0
+CompletesLoad =
+    (words : List (String Global)) (input input' out out' : Stream) (end : Status)
+    → IsLoad words → (Rose out.faults out'.faults → ⊥)
+    → Ends words input input' out out' end
+    → (end ≡ status.Done) ⊎ (end ≡ status.Memory)
+
 abbrev pub CompleteValid : Type 0
-CompleteValid = CompletesValid replay_command × CompletesValid decode_command
+CompleteValid = CompletesValid replay_command × (CompletesValid decode_command × CompletesLoad)

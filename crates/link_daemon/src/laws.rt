@@ -24,7 +24,7 @@ pub fn one_fault_line()
     one_script();
 }
 
-/// A run of a command over a valid input is done, or there was no memory, unless a count of failures rose.
+/// A run of a command over a valid input, or of a load, is done, or there was no memory, unless a count of failures rose.
 pub fn valid_is_done()
     ensures { CompleteValid }
 {}

@@ -1,7 +1,8 @@
 //! The program: its commands, and the real things that it reads from and writes to.
 //!
 //! In reading order: `top` (the top call), `command_line`, `status`, `laws`; `text_command` (a command that reads a whole text and writes
-//! another), `reason`, `text_fault`, `run_text`, `outlet`; `replay`, `replay_lines`, `counts`; `decode`, `hex_lines`; `adapters`.
+//! another), `reason`, `text_fault`, `run_text`, `outlet`; `replay`, `replay_lines`, `counts`; `decode`, `hex_lines`; `load`,
+//! `load_words`; `usage` (what is told of other words); `adapters`.
 #![tactic(auto)]
 
 mod adapters;
@@ -10,6 +11,8 @@ mod counts;
 mod decode;
 mod hex_lines;
 mod laws;
+mod load;
+mod load_words;
 mod outlet;
 mod reason;
 mod replay;
@@ -21,33 +24,50 @@ mod tests;
 mod text_command;
 mod text_fault;
 mod top;
+mod usage;
 
 use crate::adapters::{BehindName, StdSink, StdSource};
 use crate::status::Status;
 use crate::top::link_main;
+use crate::usage::{unreadable_usage, usage};
 use std::io::ErrorKind;
 use std::process::ExitCode;
 use std::{env, io};
 
 fn main(rt: HostRuntime) -> ExitCode {
-    let status = run(&rt);
+    let words = words_of(&rt);
+    let status = match &words {
+        Ok(words) => run(&rt, words),
+        Err(error) if error.kind() == ErrorKind::OutOfMemory => Status::Memory,
+        // A word that is no text is no word of a command.
+        Err(_) => Status::Words,
+    };
     if status != Status::Done {
-        let _printed = eprintln!(rt; "jorazhil: {status}");
+        tell(&rt, status, &words);
     }
     ExitCode::from(status.number())
 }
 
-// Runs the command of the words after the program's name over the standard streams.
-fn run(rt: &HostRuntime) -> Status {
-    let words = match words_of(rt) {
-        Ok(words) => words,
-        Err(error) if error.kind() == ErrorKind::OutOfMemory => return Status::Memory,
-        // A word that is no text is no word of a command.
-        Err(_) => return Status::Words,
-    };
+// Runs the command of the words over the standard streams.
+fn run(rt: &HostRuntime, words: &[String]) -> Status {
     let mut input = StdSource::new(rt.stdin());
     let mut out = StdSink::new(rt.stdout());
-    link_main(rt.alloc(), &words, &mut input, &mut out)
+    link_main(rt.alloc(), words, &mut input, &mut out)
+}
+
+// Tells the person who ran the program why it is not done.
+fn tell(rt: &HostRuntime, status: Status, words: &io::Result<Vec<String>>) {
+    if status == Status::Words {
+        let told = match words {
+            Ok(words) => usage(rt.alloc(), words),
+            Err(_) => unreadable_usage(rt.alloc()),
+        };
+        if let Ok(text) = told {
+            let _printed = eprintln!(rt; "jorazhil: {text}");
+            return;
+        }
+    }
+    let _printed = eprintln!(rt; "jorazhil: {status}");
 }
 
 // The words after the program's name. The error is want of memory, or that one of them is no text. Std says of no

@@ -22,7 +22,7 @@ pub enum Status {
     #[error("done")]
     Done,
     /// 2: the words after the program's name are none of its forms.
-    #[error("these words are no command of this program; what it takes:\n  replay    reads a script on standard input and writes what the node sends and shows\n  decode    reads datagrams in hex on standard input, one a line, and writes a line that tells what each says")]
+    #[error("these words are no command of this program; nothing was read or written")]
     Words,
     /// 5: the input could not be read.
     #[error("standard input could not be read; nothing was written")]
@@ -38,7 +38,7 @@ pub enum Status {
         reason: Reason,
     },
     /// 9: there was no memory; nothing was written.
-    #[error("no memory was left for the input; nothing was written")]
+    #[error("no memory was left; nothing was written")]
     Memory,
     /// 10: the input is longer than so many bytes, which are what the command takes.
     #[error("the input is longer than {limit} bytes; nothing was written")]

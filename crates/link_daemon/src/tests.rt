@@ -4,8 +4,10 @@ mod decode;
 mod faults;
 mod grammar;
 mod large;
+mod load;
 mod reasons;
 mod replay;
+mod usage;
 
 ghost use Rattle.std.specs.Prelude.{◌<◌};
 
@@ -84,10 +86,7 @@ pub fn run_in(
     objects: Objects,
     room: usize,
 ) -> Result<Outcome, AllocError> {
-    let mut spelled = Vec::new(alloc);
-    for word in words {
-        spelled.push(String::from_str(alloc, word)?)?;
-    }
+    let words = spelled(alloc, words)?;
     let mut source = BytesSource::new(
         Vec::from_slice(alloc, input)?,
         objects.most,
@@ -99,11 +98,20 @@ pub fn run_in(
         objects.most,
         failing(alloc, objects.bad_write)?,
     )?;
-    let status = link_main(alloc, &spelled, &mut source, &mut sink);
+    let status = link_main(alloc, &words, &mut source, &mut sink);
     Ok(Outcome {
         status,
         written: Vec::from_slice(alloc, sink.bytes())?,
     })
+}
+
+/// The words of a command line.
+pub fn spelled(alloc: Global, words: &[&str]) -> Result<Vec<String>, AllocError> {
+    let mut spelled = Vec::new(alloc);
+    for word in words {
+        spelled.push(String::from_str(alloc, word)?)?;
+    }
+    Ok(spelled)
 }
 
 // The list of the one call that fails: reads and writes are each the first kind of their object.
