@@ -1,0 +1,10 @@
+pub mod Lists
+pub mod StandingLemmas
+pub mod TurnLemmas
+pub mod OneLemmas
+pub mod BestLemmas
+pub mod LowerLaws
+pub mod StepLemmas
+pub mod SaidLemmas
+pub mod OriginLemmas
+pub mod WorldLemmas

@@ -1,0 +1,5 @@
+pub mod Stored
+pub mod World
+pub mod Made
+pub mod Agreement
+pub mod Standing
