@@ -1,2 +1,14 @@
 pub mod QueueMoves
 pub mod DeskLemmas
+pub mod PartsLemmas
+pub mod OpeningLemmas
+pub mod AudioLemmas
+pub mod SettleLemmas
+pub mod JournalLemmas
+pub mod OfferLemmas
+pub mod KeeperLemmas
+pub mod TurnLemmas
+pub mod EndingLemmas
+pub mod DrainLemmas
+pub mod HearingLemmas
+pub mod LastTurnLemmas

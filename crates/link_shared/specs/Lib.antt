@@ -2,6 +2,14 @@ pub mod Name
 pub mod Queue
 pub mod Passes
 pub mod Desk
+pub mod Audio
+pub mod Parts
+pub mod Journal
+pub mod Hub
+pub mod Ending
+pub mod Draining
+pub mod Keeper
+pub mod Turning
 pub use Rattle.audio_handoff.specs.Cell
 pub use Rattle.client_state.specs.Commit
 pub use Rattle.client_state.specs.State

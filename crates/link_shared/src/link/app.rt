@@ -119,8 +119,9 @@ impl<C: StateCell<9>, N: LinkName> Link<C, N> {
     }
 
     /// Hands a tidy commit to the session, and answers its number: how many commits were pushed then, of all passes.
-    /// It comes back, and nothing changes, only where the queue was full at a step of this call, or 2^60 commits were
-    /// pushed before.
+    /// It comes back, and nothing changes, where the queue is full or 2^60 commits were pushed before. That the queue was full
+    /// at a step of this very call, and that there is no other cause, is tested and not proved: other threads push and pop, so a
+    /// clause over `&self` can't refuse a full queue that is made up.
     /// Waits: for the desk, and for a place's last user in the queue. Memory: none.
     pub fn commit<R: Wait>(
         &self,
@@ -144,8 +145,8 @@ impl<C: StateCell<9>, N: LinkName> Link<C, N> {
         Ok(number)
     }
 
-    /// Asks the network thread to end, after all commits that were pushed before. `QueueFull` only where the queue was
-    /// full at a step of this call.
+    /// Asks the network thread to end, after all commits that were pushed before. `QueueFull` where the queue is full. That it
+    /// was so at a step of this very call is tested and not proved, as in `commit`.
     /// Waits: for the desk, and for a place's last user in the queue. Memory: none.
     pub fn quit<R: Wait>(&self, rt: &R) -> Result<(), QueueFull>
         ensures full { OnErr result (WasFull []) }

@@ -1,237 +1,475 @@
-//! Four threads that commit and capture, beside one that pops and publishes.
-ghost use Rattle.std.specs.Prelude.{◌≡◌, ◌<◌, ◌≤◌};
+//! Four threads beside one another: the network thread, the audio thread and two applications.
+ghost use Rattle.std.specs.Prelude.{◌≡◌, length};
 ghost use Rattle.std.specs.Thread.{IsSync};
 
-use super::maker::{Ends, Loose, loose_parts, named};
-use super::{edit, shown_with, state_of};
-use crate::capture::Capture;
-use crate::link::{AppPass, Link};
-use crate::name::LinkName;
-use crate::queue::Item;
+use super::network::{Network, datagram};
+use super::{OPENING, edit, parts_of, shown_with};
+use crate::{AppPass, AudioPass, Capture, Ended, Got, Link, LinkName, Opened, Parts};
 use audio_handoff::StateCell;
+use client_state::State;
+use link_node::{Event, Sends};
 use std::alloc::{AllocError, Global};
 use std::marker::Brand;
 use std::process::Abort;
 use std::sync::Wait;
 use std::thread;
 use std::thread::Threads;
-use triple_buffer::Triple;
 
-/// How many commits each thread makes.
-const EACH: u16 = 1_000;
+/// How many turns the network thread makes.
+const TURNS: u16 = 20_000;
 
-/// What a thread did: the number of each of its commits, in the order in which it made them, and whether each capture was
-/// no older than the one before, and showed the last commit just until it was taken.
+/// How often each other thread commits, where there is room, and then captures.
+const ROUNDS: u16 = 8_000;
+
+/// How many events the journal takes: more than there are commits, ticks and datagrams.
+const EVENTS: u64 = 40_000;
+
+/// The commits of each thread have the starts behind its own time.
+const AUDIO: u16 = 40_000;
+
+const ONE: u16 = 10_000;
+
+const OTHER: u16 = 20_000;
+
+/// What a thread captured.
+#[derive(Clone, Copy)]
+struct Seen {
+    number: u64,
+    state: State,
+}
+
+/// What a thread did: the number of each of its commits, in the order in which it made them; each capture; and whether each
+/// showed the last commit just until it was taken.
 #[derive(Drop)]
-struct Made {
+struct Report {
     numbers: Vec<u64>,
+    seen: Vec<Seen>,
     right: bool,
 }
 
-/// Commits until there is room.
-fn commit_at_last<C: StateCell<9>, N: LinkName, R: Wait>(
-    rt: &R,
-    link: &Link<C, N>,
-    pass: &mut AppPass<C, N>,
-    beat: u16,
-) -> u64 {
-    for _ in rt.forever() {
-        if let Ok(number) = link.commit(rt, pass, edit(beat)) {
-            return number;
-        }
-        thread::yield_now();
+/// A thread's last commit: the time of its start, and its number.
+#[derive(Clone, Copy)]
+struct Last {
+    time: u16,
+    number: u64,
+}
+
+impl Report {
+    fn new(alloc: Global) -> Result<Report, AllocError> {
+        Ok(Report {
+            numbers: Vec::with_capacity(alloc, ROUNDS as usize)?,
+            seen: Vec::with_capacity(alloc, ROUNDS as usize)?,
+            right: true,
+        })
     }
-    unreachable!()
+
+    fn note_commit(&mut self, number: u64) {
+        let Report { numbers, right, .. } = self;
+        if numbers.push(number).is_err() {
+            *right = false;
+        }
+    }
+
+    /// Notes a capture whose state has taken so many of the commits that are counted as the thread's are.
+    fn note_capture(&mut self, capture: &Capture, last: Last, taken: u64) {
+        let Report { seen, right, .. } = self;
+        let shown = if last.number > taken {
+            shown_with(&capture.state, last.time)
+        } else {
+            capture.state
+        };
+        let one = Seen {
+            number: capture.number,
+            state: capture.state,
+        };
+        if capture.shown != shown || seen.push(one).is_err() {
+            *right = false;
+        }
+    }
 }
 
-/// Whether the capture shows the commit of that beat and number just until it was taken.
-fn shows_rightly(capture: &Capture, beat: u16, number: u64) -> bool {
-    let taken = capture.state.app;
-    let shown = if number > taken {
-        shown_with(beat, taken)
-    } else {
-        state_of(taken)
-    };
-    capture.state == state_of(taken) && capture.shown == shown
-}
-
-/// The commits of the thread `who`, each with a capture behind it.
-fn commit_all<C: StateCell<9>, N: LinkName, R: Wait>(
-    rt: &R,
+/// An application, whose commits have the starts behind `base`.
+#[derive(Drop)]
+struct Application<C: StateCell<9>, N: LinkName> {
+    pass: AppPass<C, N>,
     alloc: Global,
-    way: &C::Way,
-    link: &Link<C, N>,
-    mut pass: AppPass<C, N>,
-    who: u16,
-) -> Result<Made, AllocError>
-    requires { who < 4 }
-{
-    let mut numbers = Vec::with_capacity(alloc, EACH as usize)?;
-    let mut right = true;
-    let mut newest = 0;
-    for index in 0..EACH {
-        let beat = who * EACH + index;
-        let number = commit_at_last(rt, link, &mut pass, beat);
-        let capture = link.capture(rt, alloc, way, &mut pass)?;
-        right = right && capture.number >= newest && shows_rightly(&capture, beat, number);
-        newest = capture.number;
-        numbers.push(number)?;
-    }
-    Ok(Made { numbers, right })
+    base: u16,
+    report: Report,
 }
 
-/// Pops until the quit, and publishes after each commit. Answers the beats of the commits popped.
-fn pop_all<C: StateCell<9>, N: LinkName, R: Wait>(
-    rt: &R,
-    way: &C::Way,
-    link: &Link<C, N>,
-    mut ends: Ends<C, N>,
-    mut popped: Vec<i64>,
-) -> Result<Vec<i64>, AllocError> {
-    for _ in rt.forever() {
-        match ends.pop(rt, link) {
-            Some(Item::Commit(commit)) => {
-                popped.push(commit.at)?;
-                ends.publish(link, way, &state_of(popped.len() as u64));
-            }
-            Some(Item::Quit) => return Ok(popped),
-            None => thread::yield_now(),
+impl<C: StateCell<9>, N: LinkName> Application<C, N> {
+    fn play<R: Wait>(self, rt: &R, way: &C::Way, link: &Link<C, N>) -> Application<C, N> {
+        let mut application = self;
+        let mut last = Last {
+            time: application.base,
+            number: 0,
+        };
+        for _ in 0..ROUNDS {
+            last = application.play_round(rt, way, link, last);
         }
+        application
     }
-    unreachable!()
+
+    /// A commit, where there is room, and a capture. Answers the last commit.
+    fn play_round<R: Wait>(
+        &mut self,
+        rt: &R,
+        way: &C::Way,
+        link: &Link<C, N>,
+        before: Last,
+    ) -> Last {
+        let Application {
+            pass,
+            alloc,
+            report,
+            ..
+        } = self;
+        let time = before.time.saturating_add(1);
+        let last = match link.commit(rt, pass, edit(time)) {
+            Ok(number) => {
+                report.note_commit(number);
+                Last { time, number }
+            }
+            Err(_) => {
+                thread::yield_now();
+                before
+            }
+        };
+        match link.capture(rt, *alloc, way, pass) {
+            Ok(capture) => report.note_capture(&capture, last, capture.state.app),
+            Err(_) => report.right = false,
+        }
+        last
+    }
 }
 
-/// Asks until there is room.
-fn quit_at_last<C: StateCell<9>, N: LinkName, R: Wait>(rt: &R, link: &Link<C, N>) {
-    for _ in rt.forever() {
-        if link.quit(rt).is_ok() {
+/// The audio thread.
+#[derive(Drop)]
+struct Player<C: StateCell<9>, N: LinkName> {
+    pass: AudioPass<C, N>,
+    report: Report,
+}
+
+impl<C: StateCell<9>, N: LinkName> Player<C, N> {
+    fn play(self, way: &C::Way, link: &Link<C, N>) -> Player<C, N> {
+        let mut player = self;
+        for round in 0..ROUNDS {
+            player.play_round(way, link, AUDIO + round + 1);
+        }
+        player
+    }
+
+    /// A commit and a capture.
+    fn play_round(&mut self, way: &C::Way, link: &Link<C, N>, time: u16) {
+        let Player { pass, report } = self;
+        if link.audio_spent(pass) {
             return;
         }
-        thread::yield_now();
+        let number = link.commit_audio(way, pass, &edit(time));
+        report.note_commit(number);
+        let capture = link.capture_audio(way, pass);
+        report.note_capture(&capture, Last { time, number }, capture.state.audio);
     }
 }
 
-fn commit_by_two<N: LinkName + Send + Sync, R: Threads + Wait + Sync>(
+/// All turns: ticks, datagrams, and turns with nothing.
+fn turn_all<C: StateCell<9>, N: LinkName, R: Wait>(
     rt: &R,
-    alloc: Global,
-    link: &Link<Triple<9>, N>,
-    one: AppPass<Triple<9>, N>,
-    other: AppPass<Triple<9>, N>,
-    who: u16,
-) -> (Result<Made, AllocError>, Result<Made, AllocError>)
-    requires { who < 3 }
-{
+    way: &C::Way,
+    link: &Link<C, N>,
+    mut network: Network<C, N>,
+) -> Network<C, N> {
+    for turn in 0..TURNS {
+        let got = match turn % 4 {
+            0 => Got::Tick,
+            1 => datagram(),
+            _ => Got::Nothing,
+        };
+        network.turn(rt, link, way, moment_of(turn), got);
+    }
+    network
+}
+
+/// How long after the opening a turn is.
+fn moment_of(turn: u16) -> u32 {
+    u32::from(turn) * 100
+}
+
+// A function that joins threads names the types of a cell's tokens.
+fn turn_beside_player<
+    A: Drop + Send,
+    B: Drop + Send,
+    D: Drop + Send,
+    W: Sync,
+    C: StateCell<9, Way = W, Writer = A, Reader = B, Note = D> + Sync,
+    N: LinkName + Send + Sync,
+    R: Threads + Wait + Sync,
+>(
+    rt: &R,
+    way: &W,
+    link: &Link<C, N>,
+    network: Network<C, N>,
+    player: Player<C, N>,
+) -> (Network<C, N>, Player<C, N>) {
     thread::join(
         rt,
         move ||
-            requires { IsSync R.row × (who < 3) }
-        { commit_all(rt, alloc, &(), link, one, who) },
-        move ||
-            requires { IsSync R.row × (who < 3) }
-        { commit_all(rt, alloc, &(), link, other, who + 1) },
+            requires { IsSync R.row }
+        { turn_all::<C, N, R>(rt, way, link, network) },
+        move || player.play(way, link),
     )
 }
 
-/// Four passes, and then a quit.
-fn commit_by_four<N: LinkName + Send + Sync, R: Threads + Wait + Sync>(
+fn play_both<
+    A: Drop + Send,
+    B: Drop + Send,
+    D: Drop + Send,
+    W: Sync,
+    C: StateCell<9, Way = W, Writer = A, Reader = B, Note = D> + Sync,
+    N: LinkName + Send + Sync,
+    R: Threads + Wait + Sync,
+>(
     rt: &R,
-    alloc: Global,
-    link: &Link<Triple<9>, N>,
-    passes: Passes<N>,
-) -> [Result<Made, AllocError>; 4] {
-    let Passes {
-        first,
-        second,
-        third,
-        fourth,
-    } = passes;
-    let ((a, b), (c, d)) = thread::join(
+    way: &W,
+    link: &Link<C, N>,
+    one: Application<C, N>,
+    other: Application<C, N>,
+) -> (Application<C, N>, Application<C, N>) {
+    thread::join(
         rt,
         move ||
             requires { IsSync R.row }
-        { commit_by_two(rt, alloc, link, first, second, 0) },
+        { one.play(rt, way, link) },
         move ||
             requires { IsSync R.row }
-        { commit_by_two(rt, alloc, link, third, fourth, 2) },
-    );
-    quit_at_last(rt, link);
-    [a, b, c, d]
+        { other.play(rt, way, link) },
+    )
 }
 
+/// A link's threads.
 #[derive(Drop)]
-struct Passes<N: LinkName> {
-    first: AppPass<Triple<9>, N>,
-    second: AppPass<Triple<9>, N>,
-    third: AppPass<Triple<9>, N>,
-    fourth: AppPass<Triple<9>, N>,
+struct Sides<C: StateCell<9>, N: LinkName> {
+    network: Network<C, N>,
+    player: Player<C, N>,
+    one: Application<C, N>,
+    other: Application<C, N>,
 }
 
-fn run_all<N: LinkName + Send + Sync, R: Threads + Wait + Sync>(
-    rt: &R,
-    alloc: Global,
-    loose: Loose<Triple<9>>,
-) -> Result<([Result<Made, AllocError>; 4], Vec<i64>), AllocError>
-    requires cell { loose.cell.table.shared.table_id ≡ N.app_states }
-    requires queue { loose.queue.table.shared.table_id ≡ N.queue }
-    requires ledger { (loose.blank.name ≡ N.name) × (loose.blank.parts ≡ N.parts) × (N.whole ≡ N.parts) }
-{
-    let (link, mut first, ends) = named::<Triple<9>, N>(loose);
-    let second = link.app_pass(rt, alloc, &(), &mut first)?;
-    let third = link.app_pass(rt, alloc, &(), &mut first)?;
-    let fourth = link.app_pass(rt, alloc, &(), &mut first)?;
-    let passes = Passes {
-        first,
-        second,
-        third,
-        fourth,
-    };
-    let popped = Vec::with_capacity(alloc, 4 * EACH as usize)?;
-    let link = &link;
-    let (numbers, popped) = thread::join(
+fn run_four<
+    A: Drop + Send,
+    B: Drop + Send,
+    D: Drop + Send,
+    W: Sync,
+    C: StateCell<9, Way = W, Writer = A, Reader = B, Note = D> + Sync,
+    N: LinkName + Send + Sync,
+    R: Threads + Wait + Sync,
+>(rt: &R, way: &W, link: &Link<C, N>, sides: Sides<C, N>) -> Sides<C, N> {
+    let Sides {
+        network,
+        player,
+        one,
+        other,
+    } = sides;
+    let ((network, player), (one, other)) = thread::join(
         rt,
         move ||
             requires { IsSync R.row }
-        { commit_by_four(rt, alloc, link, passes) },
+        { turn_beside_player::<A, B, D, W, C, N, R>(rt, way, link, network, player) },
         move ||
             requires { IsSync R.row }
-        { pop_all(rt, &(), link, ends, popped) },
+        { play_both::<A, B, D, W, C, N, R>(rt, way, link, one, other) },
     );
-    Ok((numbers, popped?))
-}
-
-/// Each thread's captures were right, its numbers rise, and the commit of each number was popped at its place.
-fn check_made(rt: &impl Abort, made: &Made, popped: &[i64], who: u16)
-    requires { who < 4 }
-{
-    assert!(rt; made.right, "captures of thread {who}");
-    assert_eq!(rt; made.numbers.len(), EACH as usize);
-    let mut last = 0;
-    for index in 0..EACH {
-        let number = made.numbers.get(index as usize).copied().unwrap_or(0);
-        assert!(rt;
-            number > last,
-            "commit {index} of thread {who} has the number {number} after {last}"
-        );
-        let beat = popped.get(number.saturating_sub(1) as usize).copied();
-        assert_eq!(rt;
-            beat,
-            Some(i64::from(who * EACH + index)),
-            "at the number {number}"
-        );
-        last = number;
+    Sides {
+        network,
+        player,
+        one,
+        other,
     }
 }
 
-pub fn commit_from_four_threads<R: Threads + Wait + Sync + Abort>(
+/// What four threads did, and what is left of the link.
+#[derive(Drop)]
+struct Outcome {
+    ended: Ended,
+    audio: Report,
+    one: Report,
+    other: Report,
+}
+
+fn run_link<C: StateCell<9> + Sync, N: LinkName + Send + Sync, R: Threads + Wait + Sync>(
     rt: &R,
     alloc: Global,
-) -> Result<(), AllocError> {
-    let loose = loose_parts::<Triple<9>>(alloc, &(), &state_of(0))?;
-    let ([a, b, c, d], popped) = run_all::<Brand, R>(rt, alloc, loose)?;
-    assert_eq!(rt; popped.len(), 4 * EACH as usize);
-    check_made(rt, &a?, popped.as_slice(), 0);
-    check_made(rt, &b?, popped.as_slice(), 1);
-    check_made(rt, &c?, popped.as_slice(), 2);
-    check_made(rt, &d?, popped.as_slice(), 3);
+    way: &C::Way,
+    parts: Parts<C>,
+) -> Result<Option<Outcome>, AllocError>
+where
+    C::Way: Sync,
+    requires cells { (parts.app_states ≡ N.app_states) × (parts.audio_states ≡ N.audio_states) × (parts.audio_commits ≡ N.audio_commits) }
+    requires queue { parts.queue ≡ N.queue }
+    requires ledger { (parts.ledger ≡ N.name) × (parts.shares ≡ N.parts) × (N.whole ≡ N.parts) }
+    requires gate { length parts.config.gates ≡ 1 }
+{
+    let Opened {
+        link,
+        hub,
+        audio,
+        app: mut first,
+    } = Link::<C, N>::make(alloc, parts)?;
+    if first.room() == 0 {
+        return Ok(None);
+    }
+    let second = link.app_pass(rt, alloc, way, &mut first)?;
+    let sides = Sides {
+        network: Network {
+            hub,
+            sends: Sends::new(alloc)?,
+        },
+        player: Player {
+            pass: audio,
+            report: Report::new(alloc)?,
+        },
+        one: Application {
+            pass: first,
+            alloc,
+            base: ONE,
+            report: Report::new(alloc)?,
+        },
+        other: Application {
+            pass: second,
+            alloc,
+            base: OTHER,
+            report: Report::new(alloc)?,
+        },
+    };
+    let sides = run_four(rt, way, &link, sides);
+    Ok(end_link(rt, way, link, sides))
+}
+
+fn end_link<C: StateCell<9>, N: LinkName, R: Wait>(
+    rt: &R,
+    way: &C::Way,
+    link: Link<C, N>,
+    sides: Sides<C, N>,
+) -> Option<Outcome> {
+    let Sides {
+        network,
+        player,
+        one,
+        other,
+    } = sides;
+    let Network { mut hub, mut sends } = network;
+    let Player {
+        pass: audio,
+        report,
+    } = player;
+    let Application {
+        pass: first,
+        report: first_report,
+        ..
+    } = one;
+    let Application {
+        pass: second,
+        report: second_report,
+        ..
+    } = other;
+    if hub.handed() > 0 {
+        return None;
+    }
+    hub.hand_in(first);
+    hub.hand_in(second);
+    let now = OPENING + i64::from(moment_of(TURNS));
+    Some(Outcome {
+        ended: hub.last_turn(rt, link, way, audio, now, &mut sends),
+        audio: report,
+        one: first_report,
+        other: second_report,
+    })
+}
+
+/// Each capture is a state that was published, at its number; and numbers never fall.
+fn check_seen(rt: &impl Abort, report: &Report, published: &[State]) {
+    assert!(rt; report.right, "what was shown");
+    assert_eq!(rt; report.seen.len(), ROUNDS as usize);
+    let mut newest = 0;
+    for seen in report.seen.as_slice() {
+        assert!(rt; seen.number >= newest, "{} after {newest}", seen.number);
+        newest = seen.number;
+        let state = published.get(seen.number as usize).copied();
+        assert_eq!(rt; state, Some(seen.state), "at {newest}");
+    }
+}
+
+/// The commits of the applications, by the times of their starts, in the order of the journal.
+fn taken_in(alloc: Global, events: &[Event]) -> Result<Vec<i64>, AllocError> {
+    let mut taken = Vec::with_capacity(alloc, events.len())?;
+    for event in events {
+        if let Event::App { commit, .. } = event {
+            taken.push(commit.at)?;
+        }
+    }
+    Ok(taken)
+}
+
+/// The numbers of an application's commits rise, and under each the journal has that commit.
+fn check_numbers(rt: &impl Abort, report: &Report, taken: &[i64], base: u16) {
+    let mut last = 0;
+    let mut at = i64::from(base);
+    for number in report.numbers.as_slice() {
+        at = at.saturating_add(1);
+        assert!(rt; *number > last, "{number} after {last}");
+        last = *number;
+        let commit = taken.get(number.saturating_sub(1) as usize).copied();
+        assert_eq!(rt; commit, Some(at), "under {last}");
+    }
+}
+
+/// The numbers of the audio commits in the journal rise, under each is the commit that was made so, and the last one is there.
+fn check_audio(rt: &impl Abort, report: &Report, events: &[Event]) {
+    let mut last = 0;
+    for event in events {
+        if let Event::Audio { number, commit, .. } = event {
+            assert!(rt; *number > last, "{number} after {last}");
+            last = *number;
+            assert_eq!(rt; commit.at, i64::from(AUDIO).saturating_add_unsigned(last));
+        }
+    }
+    assert_eq!(rt; last, report.numbers.len() as u64);
+}
+
+fn check_outcome(rt: &impl Abort, alloc: Global, outcome: &Outcome) -> Result<(), AllocError> {
+    let Outcome {
+        ended,
+        audio,
+        one,
+        other,
+    } = outcome;
+    assert!(rt; !ended.full, "there was room");
+    check_seen(rt, audio, &ended.published);
+    check_seen(rt, one, &ended.published);
+    check_seen(rt, other, &ended.published);
+    let taken = taken_in(alloc, &ended.events)?;
+    let made = (one.numbers.len() as u64).saturating_add(other.numbers.len() as u64);
+    assert_eq!(rt; taken.len() as u64, made);
+    check_numbers(rt, one, &taken, ONE);
+    check_numbers(rt, other, &taken, OTHER);
+    check_audio(rt, audio, &ended.events);
     Ok(())
+}
+
+/// The threads run over that cell, and what they did and saw fits the journal and the states published.
+pub fn run_threads<C: StateCell<9> + Sync, R: Threads + Wait + Sync + Abort>(
+    rt: &R,
+    alloc: Global,
+    way: &C::Way,
+) -> Result<(), AllocError>
+where
+    C::Way: Sync,
+{
+    let parts = parts_of::<C>(alloc, way, EVENTS)?;
+    let outcome = run_link::<C, Brand, R>(rt, alloc, way, parts)?;
+    assert!(rt; outcome.is_some(), "the first pass has room");
+    match outcome {
+        Some(outcome) => check_outcome(rt, alloc, &outcome),
+        None => Ok(()),
+    }
 }

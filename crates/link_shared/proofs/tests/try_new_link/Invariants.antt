@@ -1,14 +1,13 @@
-use Rattle.link_shared.specs.Name.{no_table}
 use Rattle.link_shared.proofs.tests.try_new_link.Given as goal
 
 abbrev pub ghosts-try_link-N-LinkName : goal.ghosts-try_link-N-LinkName
 ghosts-try_link-N-LinkName g a = record {
-  app_states = g.C.StateCell.cell a.loose.cell;
-  audio_states = no_table;
-  audio_commits = no_table;
-  queue = a.loose.queue.table.shared.table_id;
-  whole = a.loose.blank.parts;
+  app_states = a.parts.app_states;
+  audio_states = a.parts.audio_states;
+  audio_commits = a.parts.audio_commits;
+  queue = a.parts.queue;
+  whole = a.parts.shares;
 }
 
 abbrev pub ghosts-try_link-N-Ledger : goal.ghosts-try_link-N-Ledger
-ghosts-try_link-N-Ledger g a = record { name = a.loose.blank.name; parts = a.loose.blank.parts }
+ghosts-try_link-N-Ledger g a = record { name = a.parts.ledger; parts = a.parts.shares }
