@@ -147,11 +147,11 @@ def datagrams():
         yield b"_link_v\x01\x01" + bytes(length - 9)
 
 
-def main():
+def main(program):
     given = list(datagrams())
     # Digits of upper case for every other one.
     text = "".join((d.hex().upper() if k % 2 else d.hex()) + "\n" for k, d in enumerate(given))
-    run = subprocess.run([sys.argv[1], "decode"], input=text, capture_output=True, text=True)
+    run = subprocess.run([program, "decode"], input=text, capture_output=True, text=True)
     told, failed = run.stdout.split("\n")[:-1], 0
     if run.returncode != 0 or len(told) != len(given):
         print(f"the program ended with {run.returncode} after {len(told)} lines for {len(given)} datagrams: {run.stderr}")
@@ -166,4 +166,7 @@ def main():
 
 
 if __name__ == "__main__":
-    sys.exit(main())
+    if len(sys.argv) != 2:
+        print(__doc__, file=sys.stderr)
+        sys.exit(2)
+    sys.exit(main(sys.argv[1]))

@@ -68,8 +68,8 @@ def offset_of(points):
 class Ids:
     """PCG with 64 bits of state, XSH RR."""
 
-    def __init__(self, seed):
-        self.state, self.increment = 0, 1
+    def __init__(self, seed, stream=0):
+        self.state, self.increment = 0, 2 * stream + 1
         self.advance()
         self.state = (self.state + seed) % 2**64
         self.advance()
@@ -539,4 +539,7 @@ def main():
 
 
 if __name__ == "__main__":
+    if len(sys.argv) != 1:
+        print(__doc__, file=sys.stderr)
+        sys.exit(2)
     sys.exit(main())

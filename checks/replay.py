@@ -493,8 +493,7 @@ def show(program, text):
     print(f"line {at + 1} of the output:\n  wanted {''.join(ours[at : at + 1])}\n  told   {''.join(theirs[at : at + 1])}")
 
 
-def main():
-    program, seed = sys.argv[1], int(sys.argv[2]) if len(sys.argv) > 2 else 1
+def main(program, seed):
     passed, failed, faults, reached = 0, 0, 0, Counter()
     for text in scripts(random.Random(seed)):
         want = wanted(text, reached)
@@ -515,4 +514,7 @@ def main():
 
 
 if __name__ == "__main__":
-    sys.exit(main())
+    if len(sys.argv) not in (2, 3):
+        print(__doc__, file=sys.stderr)
+        sys.exit(2)
+    sys.exit(main(sys.argv[1], int(sys.argv[2]) if len(sys.argv) > 2 else 1))

@@ -11,10 +11,21 @@ import sys
 HEAD = b"replay 1\nnode QRSTUVWX 1 500000 1 1000000\ngate 127.0.0.1:20809\n"
 OPENING = b"state 0 500000 0 1000000 0 0 0 1 0 1000000 0 0\n"
 
-WORDS = b"""\
-jorazhil: these words are no command of this program; what it takes:
-  replay    reads a script on standard input and writes what the node sends and shows
-  decode    reads datagrams in hex on standard input, one a line, and writes a line that tells what each says
+COMMANDS = b"""\
+Usage: jorazhil <COMMAND>
+
+  jorazhil replay < SCRIPT        reads a script on standard input, and writes what the node sends and shows
+  jorazhil decode < DATAGRAMS     reads datagrams in hex on standard input, one a line, and writes a line that tells what each says
+  jorazhil load <SEED> <COUNT>    runs a node through generated events, and writes how much there was and the last state
+"""
+REPLAY = b"Usage: jorazhil replay < SCRIPT\n"
+DECODE = b"Usage: jorazhil decode < DATAGRAMS\n"
+LOAD = b"""\
+Usage: jorazhil load <SEED> <COUNT>
+
+Arguments:
+  <SEED>   the seed of the events, from 0 to 18446744073709551615
+  <COUNT>  how many events, from 1 to 524288
 """
 INPUT = b"jorazhil: standard input could not be read; nothing was written\n"
 SINK = b"jorazhil: standard output could not be written; what was written is the front of the output\n"
@@ -23,17 +34,30 @@ TOO_LONG = b"jorazhil: the input is longer than 16777216 bytes; nothing was writ
 EVENT = b"an event: `rx`, `tick`, `app`, `audio` or `end`"
 
 
+def words_at_fault(reason, forms):
+    return b"jorazhil: " + reason + b"\n\n" + forms
+
+
 def at_fault(line, column, expected, found):
     return b"jorazhil: line %d, column %d: expected %s, found %s; nothing was written\n" % (line, column, expected, found)
 
 
 # The words, the bytes on standard input, the status and the text on standard error. Standard output stays empty.
 TEXTS = [
-    ([], HEAD, 2, WORDS),
-    (["listen"], HEAD, 2, WORDS),
-    (["replay", "x"], HEAD, 2, WORDS),
-    (["decode", "x"], b"00\n", 2, WORDS),
-    ([b"replay\xff"], HEAD, 2, WORDS),
+    ([], HEAD, 2, words_at_fault(b"no command was given", COMMANDS)),
+    (["listen"], HEAD, 2, words_at_fault(b'"listen" is no command', COMMANDS)),
+    (["--help"], HEAD, 2, words_at_fault(b"a runtime for tempo sessions", COMMANDS)),
+    (["replay", "x"], HEAD, 2, words_at_fault(b'"x" is one word too many: replay takes no other word, and reads standard input', REPLAY)),
+    (["decode", "x"], b"00\n", 2, words_at_fault(b'"x" is one word too many: decode takes no other word, and reads standard input', DECODE)),
+    (["replay", "--help"], HEAD, 2, words_at_fault(b"replay reads standard input", REPLAY)),
+    ([b"replay\xff"], HEAD, 2, words_at_fault(b"a word is not UTF-8 text", COMMANDS)),
+    (["load"], b"", 2, words_at_fault(b"the following required arguments were not provided:\n  <SEED>\n  <COUNT>", LOAD)),
+    (["load", "7", "0"], b"", 2, words_at_fault(b"invalid value '0' for '<COUNT>': 0 is not in 1..=524288", LOAD)),
+    (["load", "7", "524289"], b"", 2, words_at_fault(b"invalid value '524289' for '<COUNT>': 524289 is not in 1..=524288", LOAD)),
+    (["load", "1e3", "5"], b"", 2, words_at_fault(b"invalid value '1e3' for '<SEED>': invalid digit found in string", LOAD)),
+    (["load", "7", "5", "x"], b"", 2, words_at_fault(b"unexpected argument 'x' found", LOAD)),
+    (["load", "7", "-1"], b"", 2, words_at_fault(b"unexpected argument '-1' found", LOAD)),
+    (["load", "--help"], b"", 2, words_at_fault(b"load runs a node through generated events", LOAD)),
     (["replay"], b"replay 2\n", 8, at_fault(1, 8, b"`replay 1`", b'"2"')),
     (["replay"], b"replay 1\n", 8, at_fault(2, 1, b"`node` and a node's id, seed, tempo, sync and opening moment", b"the end of the text")),
     (
@@ -72,11 +96,11 @@ def read_failures(program):
 
 def write_failures(program):
     """A standard output that can't be written: a full device, and a file that may hold no more than a part."""
-    for word, text in (("replay", HEAD), ("decode", b"00\n")):
+    for words, text in ((["replay"], HEAD), (["decode"], b"00\n"), (["load", "7", "40"], b"")):
         if os.path.exists("/dev/full"):
             with open("/dev/full", "wb") as full:
-                status, _, error = run(program, [word], input=text, stdout=full)
-            yield f"{word} to a full device", (status, error), (7, SINK)
+                status, _, error = run(program, words, input=text, stdout=full)
+            yield f"{words[0]} to a full device", (status, error), (7, SINK)
     closed = subprocess.run(
         ["/bin/sh", "-c", 'exec "$0" replay >&-', program], input=HEAD, stdout=subprocess.PIPE, stderr=subprocess.PIPE, timeout=60, check=False
     )
