@@ -1,18 +1,17 @@
 #!/usr/bin/env bash
-# What the triple buffer costs: bench/cells.sh [RUNS]. In a temporary folder it proves and builds a program that makes and reads rows of 9 and of
-# 11 words in 3,000 rounds of 1,000 calls, and runs it RUNS times (three where not given).
-# One thread: `read` finds nothing new; `publish` makes rows that no one reads; `both` makes a row and reads it. Two threads: one makes rows
-# while the other reads; of each only the rounds count during which the other went on. Beside them `store` and `load` write and read as many
-# plain words, in turn in four rows of a list.
-# It prints in nanoseconds a call: `best`, the least that a round took in all runs; `middle`, what half of the rounds stay below, in the best
-# run; `ratio`, the first over that of `store`; and how many rounds counted. Then the machine. Two threads that have no processor each count
-# few rounds, and their middle one tells of the waiting for a processor.
-set -eu
-# shellcheck source=bench/prepare.sh
-. "$(dirname "${BASH_SOURCE[0]}")/prepare.sh"
+# What the triple buffer costs: bench/cells.sh [RUNS]. In a temporary folder it proves and builds a program that makes and reads rows of 9
+# and of 11 words in 3,000 rounds of 1,000 calls, and runs it RUNS times (three where not given). Where there is a C++ compiler (CXX,
+# clang++, g++ or c++) each run is followed by one of the same loops over a triple buffer in C++ of the same widths and layout, without
+# proofs: three rows of words and one atomic word that has the back row and whether it is fresh, in two forms. `ordered`: each word is
+# stored with sequential consistency, as ours is. `relaxed`: the words are relaxed, and the one exchange alone orders them. One thread:
+# `read` finds nothing new; `publish` makes rows that no one reads; `both` makes a row and reads it. Two threads: one makes rows while the
+# other reads; of each only the rounds count during which the other went on. Beside them `store` and `load` write and read as many plain
+# words, in turn in four rows of a list. A figure is what a call took in the best round of all runs and, in brackets, in the middle one of
+# the best run. Two threads that have no processor each count few rounds, and their middle one tells of the waiting for a processor.
+# shellcheck source=bench/shared.sh
+. "$(dirname "${BASH_SOURCE[0]}")/shared.sh"
 prepare bench_cells audio_handoff triple_buffer
-cd "$crate"
-cat >src/main.rt <<'RT'
+cat >"$crate/src/main.rt" <<'RT'
 //! Times the calls of `triple_buffer`. A line for each measure: its name, the words of a row, the rounds that count, the nanoseconds of
 //! 1,000 calls in the best of them and in the middle one, and the words that were read, folded.
 #![tactic(auto)]
@@ -406,66 +405,250 @@ fn main(rt: HostRuntime) -> io::Result<()> {
 }
 RT
 
-# What each loop keeps: invariant FUNCTION LOOP FACT.
-invariant() {
-    mkdir -p "proofs/$1"
-    cat >"proofs/$1/Invariants.antt" <<ANTT
-use Rattle.std.proofs.Common.{◌≡◌, ◌+◌, ◌*◌, length}
-use Rattle.triple_buffer.specs.Views.{writer_in}
-use Rattle.bench_cells.proofs.$1.Given as goal
-
-abbrev pub invariant-loop-$2 : goal.invariant-loop-$2
-invariant-loop-$2 g l = $3
-ANTT
-}
+views='Rattle.triple_buffer.specs.Views.{writer_in}'
 writer='l.writer.seat.table_id ≡ l.cell.table.shared.table_id'
 reader='l.reader.seat.table_id ≡ l.cell.table.shared.table_id'
 made='length (writer_in l.writer.seat.me.0).made'
-invariant publish_round k "record { cell : $writer; made : $made ≡ l.k + l.made }"
-invariant read_round read "$reader"
-invariant round_of_both k "record { writer : $writer; reader : $reader; made : $made ≡ l.k + l.made }"
-invariant time_reads round "$reader"
-invariant time_publishes round "record { cell : $writer; made : $made ≡ l.round * 1000 + 1 }"
-invariant time_both round "record { writer : $writer; reader : $reader; made : $made ≡ l.round * 1000 + 3000001 }"
-invariant publish_beside round "record { cell : $writer; made : $made ≡ l.round * 1000 + 1 }"
-invariant read_beside round "$reader"
-
+invariant publish_round k 'g l' "record { cell : $writer; made : $made ≡ l.k + l.made }" "$views"
+invariant read_round read 'g l' "$reader"
+invariant round_of_both k 'g l' "record { writer : $writer; reader : $reader; made : $made ≡ l.k + l.made }" "$views"
+invariant time_reads round 'g l' "$reader"
+invariant time_publishes round 'g l' "record { cell : $writer; made : $made ≡ l.round * 1000 + 1 }" "$views"
+invariant time_both round 'g l' "record { writer : $writer; reader : $reader; made : $made ≡ l.round * 1000 + 3000001 }" "$views"
+invariant publish_beside round 'g l' "record { cell : $writer; made : $made ≡ l.round * 1000 + 1 }" "$views"
+invariant read_beside round 'g l' "$reader"
 build
-python3 - "$program" "${1:-3}" <<'PY'
-import os, subprocess, sys
 
-program, runs = sys.argv[1], int(sys.argv[2])
-SHOWN = {
-    "store": "as many plain words stored",
-    "load": "as many plain words loaded",
-    "read": "read, nothing new",
-    "publish": "publish",
-    "both": "publish and read",
-    "publish_beside": "publish, the other thread reads",
-    "read_beside": "read, the other thread publishes",
+# The same loops in C++. Its lines have the same words.
+cat >"$folder/triple.cpp" <<'CPP'
+#include <algorithm>
+#include <array>
+#include <atomic>
+#include <chrono>
+#include <cstdint>
+#include <cstdio>
+#include <thread>
+
+constexpr std::uint64_t ROUNDS = 3000;
+
+struct Ordered {
+    static constexpr auto word = std::memory_order_seq_cst, look = std::memory_order_seq_cst, swap = std::memory_order_seq_cst;
+    static constexpr const char *name = "ordered";
+};
+
+struct Relaxed {
+    static constexpr auto word = std::memory_order_relaxed, look = std::memory_order_relaxed, swap = std::memory_order_acq_rel;
+    static constexpr const char *name = "relaxed";
+};
+
+// Word 0 is the state, 4 * fresh + back; the row at place r begins at word r * W + 1. The reader begins at 0, the back row at 1, the writer at 2.
+template <int W, class Order>
+struct Triple {
+    std::atomic<std::uint64_t> table[3 * W + 1];
+    std::uint64_t reader = 0, writer = 2;
+
+    Triple() {
+        for (auto &word : table) word.store(0);
+        table[0].store(1);
+    }
+
+    void publish(const std::array<std::uint64_t, W> &row, std::uint64_t &place) {
+        for (int j = 0; j < W; j++) table[place * W + 1 + j].store(row[j], Order::word);
+        place = table[0].exchange(4 | place, Order::swap) & 3;
+    }
+
+    std::array<std::uint64_t, W> read(std::uint64_t &place) {
+        if (table[0].load(Order::look) & 4) place = table[0].exchange(place, Order::swap) & 3;
+        std::array<std::uint64_t, W> row;
+        for (int j = 0; j < W; j++) row[j] = table[place * W + 1 + j].load(Order::word);
+        return row;
+    }
+};
+
+struct Times {
+    std::uint64_t counts[2048] = {}, least = UINT64_MAX, sum = 0;
+
+    void add(std::uint64_t ns, std::uint64_t folded) {
+        counts[std::min<std::uint64_t>(ns / 250, 2047)]++;
+        least = std::min(least, ns);
+        sum += folded;
+    }
+
+    void print(const char *form, const char *name, int width) const {
+        std::uint64_t rounds = 0, below = 0, ns = 0;
+        for (auto count : counts) rounds += count;
+        for (auto count : counts) {
+            if (below <= rounds / 2) ns += 250;
+            below += count;
+        }
+        std::printf("%s_%s %d %llu %llu %llu %llu\n", form, name, width, (unsigned long long)rounds, (unsigned long long)least,
+                    (unsigned long long)ns, (unsigned long long)sum);
+    }
+};
+
+std::uint64_t now() {
+    return std::chrono::duration_cast<std::chrono::nanoseconds>(std::chrono::steady_clock::now().time_since_epoch()).count();
 }
-SCALE = 511  # the program counts rounds of more than so many nanoseconds a call as one
+
+template <int W>
+std::array<std::uint64_t, W> row_of(std::uint64_t n) {
+    std::array<std::uint64_t, W> row;
+    row.fill(n);
+    return row;
+}
+
+template <int W>
+std::uint64_t folded(const std::array<std::uint64_t, W> &row) {
+    std::uint64_t sum = 0;
+    for (auto word : row) sum += word;
+    return sum;
+}
+
+template <int W, class Order>
+[[gnu::noinline]] std::uint64_t publish_round(Triple<W, Order> &cell, std::uint64_t place, std::uint64_t made) {
+    for (std::uint64_t k = 0; k < 1000; k++) cell.publish(row_of<W>(made + k), place);
+    return place;
+}
+
+template <int W, class Order>
+[[gnu::noinline]] std::uint64_t read_round(Triple<W, Order> &cell, std::uint64_t &place, std::uint64_t &oldest, std::uint64_t &newest) {
+    std::uint64_t sum = 0;
+    oldest = UINT64_MAX;
+    for (int k = 0; k < 1000; k++) {
+        auto row = cell.read(place);
+        sum += folded<W>(row);
+        oldest = std::min(oldest, row[0]);
+        newest = row[0];
+    }
+    return sum;
+}
+
+template <int W, class Order>
+[[gnu::noinline]] std::uint64_t round_of_both(Triple<W, Order> &cell, std::uint64_t made) {
+    std::uint64_t sum = 0;
+    for (std::uint64_t k = 0; k < 1000; k++) {
+        cell.publish(row_of<W>(made + k), cell.writer);
+        sum += folded<W>(cell.read(cell.reader));
+    }
+    return sum;
+}
+
+template <int W, class Order>
+void alone() {
+    static Triple<W, Order> cell;
+    static Times reads, publishes, both;
+    std::uint64_t oldest, newest;
+    for (std::uint64_t round = 0; round < ROUNDS; round++) {
+        auto start = now();
+        auto sum = read_round(cell, cell.reader, oldest, newest);
+        reads.add(now() - start, sum);
+    }
+    for (std::uint64_t round = 0; round < ROUNDS; round++) {
+        auto start = now();
+        cell.writer = publish_round(cell, cell.writer, round * 1000 + 1);
+        publishes.add(now() - start, 0);
+    }
+    for (std::uint64_t round = 0; round < ROUNDS; round++) {
+        auto start = now();
+        auto sum = round_of_both(cell, round * 1000 + 3000001);
+        both.add(now() - start, sum);
+    }
+    reads.print(Order::name, "read", W);
+    publishes.print(Order::name, "publish", W);
+    both.print(Order::name, "both", W);
+}
+
+template <int W, class Order>
+void beside() {
+    static Triple<W, Order> cell;
+    static Times reads, publishes;
+    static std::atomic<std::uint64_t> ended, done;
+    std::thread writes([] {
+        for (std::uint64_t round = 0; round < ROUNDS; round++) {
+            auto start = now(), before = ended.load();
+            cell.writer = publish_round(cell, cell.writer, round * 1000 + 1);
+            auto rounds = ended.load() - before, ns = now() - start;
+            if (rounds >= 2) publishes.add(ns, 0);
+        }
+        done.store(1);
+    });
+    std::thread looks([] {
+        for (std::uint64_t round = 0;; round++) {
+            std::uint64_t oldest, newest;
+            auto start = now();
+            auto sum = read_round(cell, cell.reader, oldest, newest);
+            auto ns = now() - start;
+            ended.store(round);
+            if (done.load()) break;
+            if (newest - oldest >= 40) reads.add(ns, sum);
+        }
+    });
+    writes.join();
+    looks.join();
+    publishes.print(Order::name, "publish_beside", W);
+    reads.print(Order::name, "read_beside", W);
+}
+
+int main() {
+    alone<9, Ordered>();
+    beside<9, Ordered>();
+    alone<9, Relaxed>();
+    beside<9, Relaxed>();
+    alone<11, Ordered>();
+    beside<11, Ordered>();
+    alone<11, Relaxed>();
+    beside<11, Relaxed>();
+}
+CPP
+other=
+for compiler in ${CXX:-} clang++ g++ c++; do
+  command -v "$compiler" >/dev/null || continue
+  if "$compiler" -std=c++17 -O2 -pthread -o "$folder/triple" "$folder/triple.cpp"; then
+    other=$folder/triple
+    echo "$0: the C++ is compiled by $("$compiler" --version | head -n 1)" >&2
+    break
+  fi
+done
+[ -n "$other" ] || echo "$0: there is no C++ compiler, so nothing stands beside" >&2
+
+figures "$program" "${1:-3}" ${other:+"$other"} <<'PY'
+import sys
+from figures import Table, lines_of, note
+
+table = Table()
+programs, runs = [sys.argv[1], *sys.argv[3:]], int(sys.argv[2])
+CALLS = {
+    "read": "`read`, nothing new",
+    "publish": "`publish`",
+    "both": "`publish` and `read`",
+    "publish_beside": "`publish` while another thread reads",
+    "read_beside": "`read` while another thread publishes",
+}
+SHOWN = {"store": "as many words stored plainly", "load": "as many words loaded plainly", **CALLS}
+for form, told in (("ordered", "C++, each store sequentially consistent"), ("relaxed", "C++, words relaxed and one exchange")):
+    SHOWN.update({f"{form}_{name}": f"{told}: {call.replace('`', '')}" for name, call in CALLS.items()})
+FEW = 500  # with fewer rounds a row would tell of the waiting for a processor
+SCALE = 511  # the programs count rounds of more than so many nanoseconds a call as one
 best, middle, counted = {}, {}, {}
 for _ in range(runs):
-    for line in subprocess.run([program], stdout=subprocess.PIPE, check=True, text=True).stdout.splitlines():
-        name, *numbers = line.split()
-        words, rounds, least, half, folded = map(int, numbers)
-        if name == "both" and folded != words * sum(range(3_000_001, 6_000_001)):
-            sys.exit(f"the rows of {words} words that were read aren't those that were made")
-        key = words, name
-        counted[key] = counted.get(key, 0) + rounds
-        if rounds != 0:
-            best[key] = min(best.get(key, float("inf")), least / 1000)
-            middle[key] = min(middle.get(key, float("inf")), half / 1000)
-print(f"{'nanoseconds a call':36}{'words':>6}{'best':>9}{'middle':>9}{'ratio':>8}{'rounds':>8}")
+    for program in programs:
+        for name, *numbers in lines_of(program, 1):
+            words, rounds, least, half, folded = map(int, numbers)
+            if name.endswith("both") and folded != words * sum(range(3_000_001, 6_000_001)):
+                sys.exit(f"{name}: the rows of {words} words that were read aren't those that were made")
+            key = words, name
+            counted[key] = counted.get(key, 0) + rounds
+            if rounds != 0:
+                best[key] = min(best.get(key, float("inf")), least / 1000)
+                middle[key] = min(middle.get(key, float("inf")), half / 1000)
 for (words, name), rounds in counted.items():
-    if rounds == 0:
-        print(f"{SHOWN[name]:36}{words:6}   no round counts: no two processors were free at a time")
+    what = f"{SHOWN[name]}, {words} words"
+    if rounds < FEW:
+        note(f"{what}: no row, since only {rounds} rounds count: seldom were two processors free at a time")
         continue
     at = words, name
-    half = f"{middle[at]:9.1f}" if middle[at] < SCALE else f"{'over ' + str(SCALE):>9}"
-    print(f"{SHOWN[name]:36}{words:6}{best[at]:9.1f}{half}{best[at] / best[words, 'store']:8.1f}{rounds:8}")
-model = next((line.split(":", 1)[1].strip() for line in open("/proc/cpuinfo") if line.startswith("model name")), "unknown")
-print(f"runs          {runs}, load {os.getloadavg()[0]:.1f} at the end")
-print(f"machine       {os.cpu_count()} processors, {model}")
+    half = f"{middle[at]:.1f}" if middle[at] < SCALE else f"over {SCALE}"
+    table.add(what, f"{best[at]:.1f} ns ({half})")
+    note(f"{what}: {best[at] / best[words, 'store']:.1f} times the plain stores, {rounds} rounds")
+table.show()
 PY

@@ -1,14 +1,11 @@
 #!/usr/bin/env bash
-# What the edits, conversions and rows of client_state cost: bench/client.sh [RUNS]. In a temporary folder it proves and builds a program that
-# calls each of them in 1,000 rounds of 10,000 calls, and runs it RUNS times (three where not given). State, timelines and times are others at
-# each call. They lie within 2^39 microseconds or microbeats of 0 (six days), and the quantum is a bar of 1 to 8 beats. The results are folded
-# into a number that is the same in each run.
-# It prints in nanoseconds a call: `round`, the least that a round took; `loop`, the same of a loop that only makes and folds the numbers
-# given; `call`, what is left of the first without the second, and the aim for it; `ratio`, the first over the second; `whole`, the time of all
-# rounds in the best run, which shows what else the machine did. Then the machine.
-set -eu
-# shellcheck source=bench/prepare.sh
-. "$(dirname "${BASH_SOURCE[0]}")/prepare.sh"
+# What the edits, conversions and rows of client_state cost: bench/client.sh [RUNS]. In a temporary folder it proves and builds a program
+# that calls each of them in 1,000 rounds of 10,000 calls, and runs it RUNS times (three where not given). State, timelines and times are
+# others at each call. They lie within 2^39 microseconds or microbeats of 0 (six days), and the quantum is a bar of 1 to 8 beats. The
+# results are folded into a number that is the same in each run. A figure is the least that a round took in all runs, less a loop that
+# only makes and folds the numbers given.
+# shellcheck source=bench/shared.sh
+. "$(dirname "${BASH_SOURCE[0]}")/shared.sh"
 prepare bench_client client_state ghost_xform timeline_math lk_base
 cat >"$crate/src/main.rt" <<'RT'
 //! Times the calls of `client_state`. A line for each: its name, the calls of a round, the nanoseconds of the best round and of all, and the
@@ -269,11 +266,12 @@ fn main(rt: HostRuntime) -> io::Result<()> {
 }
 RT
 build
-python3 - "$program" "${1:-3}" <<'PY'
-import os, subprocess, sys
+figures "$program" "${1:-3}" <<'PY'
+import sys
+from figures import Table, add_call, timed
 
-program, runs = sys.argv[1], int(sys.argv[2])
-ROUNDS = 1000
+table = Table()
+told = timed(sys.argv[1], int(sys.argv[2]), 1000)
 ROWS = [  # the call, the loop without it, and the aim in nanoseconds
     ("client_from_session", "two_timelines", 38),
     ("session_from_client", "two_timelines", 38),
@@ -284,21 +282,8 @@ ROWS = [  # the call, the loop without it, and the aim in nanoseconds
     ("row", "one_state", 10),
     ("from_row", "one_row", 10),
 ]
-least, whole, folded = {}, {}, {}
-for _ in range(runs):
-    for line in subprocess.run([program], stdout=subprocess.PIPE, check=True, text=True).stdout.splitlines():
-        name, calls, best, all_rounds, result = line.split()
-        calls = int(calls)
-        least[name] = min(least.get(name, float("inf")), int(best) / calls)
-        whole[name] = min(whole.get(name, float("inf")), int(all_rounds) / calls / ROUNDS)
-        if folded.setdefault(name, result) != result:
-            sys.exit(f"the results of {name} differ from run to run")
-print(f"{'nanoseconds a call':24}{'round':>8}{'loop':>8}{'call':>8}{'aim':>12}{'ratio':>8}{'whole':>8}   folded")
+SHOWN = {"between": "Commit::between", "row": "State::row", "from_row": "State::from_row"}
 for name, base, aim in ROWS:
-    call = least[name] - least[base]
-    told = f"{aim} {'met' if call < aim else 'missed'}"
-    print(f"{name:24}{least[name]:8.1f}{least[base]:8.1f}{call:8.1f}{told:>12}{least[name] / least[base]:8.1f}{whole[name]:8.1f}   {folded[name]}")
-model = next((line.split(":", 1)[1].strip() for line in open("/proc/cpuinfo") if line.startswith("model name")), "unknown")
-print(f"runs          {runs}, load {os.getloadavg()[0]:.1f} at the end")
-print(f"machine       {os.cpu_count()} processors, {model}")
+    add_call(table, f"`{SHOWN.get(name, name)}`", told[name], told[base], aim)
+table.show()
 PY

@@ -1,20 +1,16 @@
 #!/usr/bin/env bash
-# How fast the built program decodes: bench/decode.sh [LINES] makes LINES datagrams in hex (1,000,000 where not given), drawn from alives, responses,
-# pings, pongs, byes and damaged ones, in texts of at most 16,000,000 bytes, since a text may have 16,777,216. It runs the program on each text once
-# to warm up and then three times, and prints of the fastest round: MB of text a second, datagrams a second, and the peak resident memory over the
-# size of the largest text; then what a loop of `read_datagram` alone takes over 10,000 of the same datagrams in memory, in a program that is proved
-# and built in a temporary folder (the best of 100 rounds, a walk that reads nothing taken off). Beside them the time of `cat` over the same texts, and the
-# machine.
-set -eu
-here=$(cd "$(dirname "${BASH_SOURCE[0]}")/.." && pwd)
-lines=${1:-1000000}
-"$here/jorazhil" replay <"$here/examples/one-alive.script" >/dev/null
-folder=$(mktemp -d)
-trap 'rm -rf "$folder"' EXIT
-tar -C "$here" --exclude='crates/*/out' -cf - crates crates.txt HANDLES | tar -C "$folder" -xf -
-echo "bench_datagrams: lk_base link_payload asdp_messages" >>"$folder/crates.txt"
-mkdir -p "$folder/crates/bench_datagrams/src"
-cat >"$folder/crates/bench_datagrams/src/main.rt" <<'RT'
+# How fast the built program decodes: bench/decode.sh [LINES] makes LINES datagrams in hex (1,000,000 where not given), drawn from alives,
+# responses, pings, pongs, byes and damaged ones, in texts of at most 16,000,000 bytes, since a text may have 16,777,216. It runs the
+# program on each text once to warm up and then three times, and tells of the fastest round: MB of text a second, datagrams a second, and
+# the peak resident memory over the size of the largest text; then what a loop of `read_datagram` alone takes over 10,000 of the same
+# datagrams in memory, in a program that is proved and built in a temporary folder (the best of 100 rounds, a walk that reads nothing
+# taken off). JORAZHIL_PROGRAM names another program than the built one.
+# shellcheck source=bench/shared.sh
+. "$(dirname "${BASH_SOURCE[0]}")/shared.sh"
+built
+decoder=$program
+prepare bench_decode lk_base link_payload asdp_messages
+cat >"$crate/src/main.rt" <<'RT'
 //! Times `read_datagram` over the datagrams on standard input, each after its length in two bytes, in slots of 600 bytes. It prints the
 //! datagrams of a round, the nanoseconds of the best round and of the best that only walks over them, and how many were read as messages.
 #![tactic(auto)]
@@ -68,10 +64,10 @@ fn main(rt: HostRuntime) -> io::Result<()> {
     println!(rt; "{} {read} {walked} {messages}", text.len() / 600)
 }
 RT
-cd "$folder/crates/bench_datagrams"
-rt run --jobs 1 </dev/null >"$folder/build.log" 2>&1 || { cat "$folder/build.log" >&2; exit 1; }
+build
+lines=${1:-1000000}
 mkdir "$folder/texts"
-python3 - "$folder" "$lines" <<'PY'
+figures "$folder" "$lines" <<'PY'
 import os, random, struct, sys
 
 folder, lines = sys.argv[1], int(sys.argv[2])
@@ -129,40 +125,30 @@ with open(os.path.join(folder, "slots"), "wb") as slots:
 keep()
 PY
 # Measured by a process of its own, since a child's peak memory is at least that of the process that starts it.
-python3 - "$here/crates/link_daemon/out/link_daemon" "$folder" "$lines" <<'PY'
-import os, subprocess, sys, time
+figures "$decoder" "$program" "$folder" "$lines" <<'PY'
+import os, subprocess, sys
+from figures import Table, note, run
 
-program, folder, lines = sys.argv[1], sys.argv[2], int(sys.argv[3])
+decoder, reader, folder, lines = *sys.argv[1:4], int(sys.argv[4])
+table = Table()
 out = os.path.join(folder, "out")
 texts = [os.path.join(folder, "texts", name) for name in sorted(os.listdir(os.path.join(folder, "texts")))]
-
-def timed(words, text):
-    with open(text) as given, open(out, "w") as taken:
-        start = time.perf_counter()
-        child = subprocess.Popen(words, stdin=given, stdout=taken)
-        _, status, used = os.wait4(child.pid, 0)
-        return time.perf_counter() - start, os.waitstatus_to_exitcode(status), used
-
-rounds = []
+rounds, peak = [], 0
 for _ in range(4):
-    runs = [timed([program, "decode"], text) for text in texts]
-    if any(status != 0 for _, status, _ in runs):
-        sys.exit("the program did not end with status 0")
-    rounds.append([sum(column) for column in zip(*((seconds, used.ru_utime, used.ru_stime) for seconds, _, used in runs))])
-    peak = max(used.ru_maxrss for _, _, used in runs) * 1024
-seconds, user, system = min(rounds[1:])
+    runs = [run([decoder, "decode"], text, out) for text in texts]
+    rounds.append((sum(seconds for seconds, _, _ in runs), sum(used for _, used, _ in runs)))
+    peak = max(one for _, _, one in runs)
+seconds, used = min(rounds[1:])
 total, largest = sum(os.path.getsize(text) for text in texts), max(os.path.getsize(text) for text in texts)
-cat = min(sum(timed(["cat"], text)[0] for text in texts) for _ in range(3))
+cat = min(sum(run(["cat"], text, out)[0] for text in texts) for _ in range(3))
 with open(os.path.join(folder, "slots")) as slots:
-    told = subprocess.run([os.path.join(folder, "crates/bench_datagrams/out/bench_datagrams")], stdin=slots, stdout=subprocess.PIPE, check=True).stdout.split()
+    told = subprocess.run([reader], stdin=slots, stdout=subprocess.PIPE, check=True).stdout.split()
 walked, read, bare, messages = map(int, told)
-model = next((line.split(":", 1)[1].strip() for line in open("/proc/cpuinfo") if line.startswith("model name")), "unknown")
-print(f"text          {total / 1e6:10.1f} MB, {lines} datagrams, in {len(texts)} texts")
-print(f"time          {seconds:10.3f} s, of it {user:.3f} s of the processor and {system:.3f} s of the system")
-print(f"text read     {total / 1e6 / seconds:10.1f} MB/s")
-print(f"datagrams     {lines / seconds:10.0f} a second")
-print(f"peak memory   {peak / 1e6:10.1f} MB, {peak / largest:.2f} times the largest text")
-print(f"over cat      {seconds / cat:10.2f} times the time of cat ({cat:.3f} s)")
-print(f"read alone    {(read - bare) / walked:10.1f} ns a datagram ({bare / walked:.1f} of the walk taken off), {messages} of {walked} are messages")
-print(f"machine       {os.cpu_count()} processors, {model}")
+megabytes = total / 1e6 / seconds
+table.add(f"`decode` of {lines:,} datagrams, {total / 1e6:.0f} MB in {len(texts)} texts: text a second", f"{megabytes:.0f} MB", "at least 150 MB", megabytes >= 150)
+table.add("`decode`: datagrams a second", f"{lines / seconds:,.0f}")
+table.add(f"`decode`: peak memory, a text of {largest / 1e6:.0f} MB", f"{peak / 1e6:.1f} MB, {peak / largest:.2f} times the text")
+table.add("`read_datagram` over drawn datagrams of six kinds, most of them not in the cache", f"{(read - bare) / walked:.1f} ns")
+note(f"{seconds:.3f} s, {used:.3f} s of the processor, {seconds / cat:.2f} times the time of cat; {messages} of {walked} datagrams are messages")
+table.show()
 PY

@@ -1,14 +1,11 @@
 #!/usr/bin/env bash
-# What a measurement costs: bench/measure.sh [RUNS]. In a temporary folder it proves and builds a program that finds the offset of 101 points
-# (100 rounds of 1,000 calls), and takes pongs that count (100 rounds of 2,000 measurements, each a start and 50 pongs that give two points),
-# and runs it RUNS times (three where not given). The points are others at each call, drawn from within 2^20 half microseconds and in no order;
-# the times of the pongs are others too. The results are folded into a number that is the same in each run.
-# It prints in nanoseconds a call: `round`, the least that a round took; `loop`, the same of a loop that only makes and folds what is given;
-# `call`, what is left of the first without the second, and the aim for it; `ratio`, the first over the second; `whole`, the time of all rounds
-# in the best run, which shows what else the machine did. Then the machine.
-set -eu
-# shellcheck source=bench/prepare.sh
-. "$(dirname "${BASH_SOURCE[0]}")/prepare.sh"
+# What a measurement costs: bench/measure.sh [RUNS]. In a temporary folder it proves and builds a program that finds the offset of 101
+# points (100 rounds of 1,000 calls), and takes pongs that count (100 rounds of 2,000 measurements, each a start and 50 pongs that give
+# two points), and runs it RUNS times (three where not given). The points are others at each call, drawn from within 2^20 half
+# microseconds and in no order; the times of the pongs are others too. The results are folded into a number that is the same in each run.
+# A figure is the least that a round took in all runs, less a loop that only makes and folds what is given.
+# shellcheck source=bench/shared.sh
+. "$(dirname "${BASH_SOURCE[0]}")/shared.sh"
 prepare bench_measure ping_measure ghost_xform link_payload lk_base
 cat >"$crate/src/main.rt" <<'RT'
 //! Times the calls of a measurement. A line for each: its name, the calls of a round, the nanoseconds of the best round and of all, the pings
@@ -182,33 +179,17 @@ fn main(rt: HostRuntime) -> io::Result<()> {
 }
 RT
 build
-python3 - "$program" "${1:-3}" <<'PY'
-import os, subprocess, sys
+figures "$program" "${1:-3}" <<'PY'
+import sys
+from figures import Table, add_call, timed
 
-program, runs = sys.argv[1], int(sys.argv[2])
+table = Table()
 ROUNDS = 100
-ROWS = [  # the call, the loop without it, what is printed, and the aim in nanoseconds
-    ("offset", "no_offset", "offset_of 101 points", 900),
-    ("pong", "no_pong", "a pong that counts", 25),
-]
-least, whole, folded = {}, {}, {}
-for _ in range(runs):
-    for line in subprocess.run([program], stdout=subprocess.PIPE, check=True, text=True).stdout.splitlines():
-        name, calls, best, all_rounds, *results = line.split()
-        calls = int(calls)
-        least[name] = min(least.get(name, float("inf")), int(best) / calls)
-        whole[name] = min(whole.get(name, float("inf")), int(all_rounds) / calls / ROUNDS)
-        if folded.setdefault(name, (calls * ROUNDS, *results)) != (calls * ROUNDS, *results):
-            sys.exit(f"the results of {name} differ from run to run")
-for name, (calls, pings, _) in folded.items():
-    if int(pings) != (calls if name.endswith("pong") else 0):
-        sys.exit(f"{name} answered {pings} pings in {calls} calls")
-print(f"{'nanoseconds a call':26}{'round':>8}{'loop':>8}{'call':>8}{'aim':>12}{'ratio':>8}{'whole':>8}   folded")
-for name, base, shown, aim in ROWS:
-    call = least[name] - least[base]
-    told = f"{aim} {'met' if call < aim else 'missed'}"
-    print(f"{shown:26}{least[name]:8.1f}{least[base]:8.1f}{call:8.1f}{told:>12}{least[name] / least[base]:8.1f}{whole[name]:8.1f}   {folded[name][2]}")
-model = next((line.split(":", 1)[1].strip() for line in open("/proc/cpuinfo") if line.startswith("model name")), "unknown")
-print(f"runs          {runs}, load {os.getloadavg()[0]:.1f} at the end")
-print(f"machine       {os.cpu_count()} processors, {model}")
+told = timed(sys.argv[1], int(sys.argv[2]), ROUNDS)
+for name, call in told.items():
+    if int(call.results[0]) != (call.calls * ROUNDS if name.endswith("pong") else 0):
+        sys.exit(f"{name} answered {call.results[0]} pings in {call.calls * ROUNDS} calls")
+add_call(table, "`offset_of` over 101 points", told["offset"], told["no_offset"], 900)
+add_call(table, "`Measure::pong`, a pong that counts", told["pong"], told["no_pong"], 25)
+table.show()
 PY

@@ -1,14 +1,11 @@
 #!/usr/bin/env bash
-# What the sums of timeline_math cost: bench/numbers.sh [RUNS]. In a temporary folder it proves and builds a program that calls each of them in
-# 100 rounds (of 100,000 calls, and of 10,000 blocks), and runs it RUNS times (three where not given). The timeline and the place that is asked
-# for are others at each call. Near ones lie within 2^39 microseconds of 0 (six days), far ones within 2^59. A block is 20,000 microseconds,
-# and the quantum a bar of 1 to 8 beats. The results are folded into a number that is the same in each run.
-# It prints in nanoseconds a call: `round`, the least that a round took; `loop`, the same of a loop that only makes and folds the numbers
-# given; `call`, what is left of the first without the second, and the aim for it; `ratio`, the first over the second; `whole`, the time of all
-# rounds in the best run, which shows what else the machine did. Then the machine.
-set -eu
-# shellcheck source=bench/prepare.sh
-. "$(dirname "${BASH_SOURCE[0]}")/prepare.sh"
+# What the sums of timeline_math cost: bench/numbers.sh [RUNS]. In a temporary folder it proves and builds a program that calls each of
+# them in 100 rounds (of 100,000 calls, and of 10,000 blocks), and runs it RUNS times (three where not given). The timeline and the place
+# that is asked for are others at each call. Near ones lie within 2^39 microseconds of 0 (six days), far ones within 2^59. A block is
+# 20,000 microseconds, and the quantum a bar of 1 to 8 beats. The results are folded into a number that is the same in each run. A figure
+# is the least that a round took in all runs, less a loop that only makes and folds the numbers given.
+# shellcheck source=bench/shared.sh
+. "$(dirname "${BASH_SOURCE[0]}")/shared.sh"
 prepare bench_numbers timeline_math lk_base
 cat >"$crate/src/main.rt" <<'RT'
 //! Times the calls of `timeline_math`. A line for each: its name, the calls of a round, the nanoseconds of the best round and of all, the
@@ -243,41 +240,29 @@ fn main(rt: HostRuntime) -> io::Result<()> {
 }
 RT
 build
-python3 - "$program" "${1:-3}" <<'PY'
-import os, subprocess, sys
+figures "$program" "${1:-3}" <<'PY'
+import sys
+from figures import Table, add_call, timed
 
-program, runs = sys.argv[1], int(sys.argv[2])
+table = Table()
 ROUNDS = 100
 ROWS = [  # the call, the loop without it, what is printed, and the aim in nanoseconds
-    ("beat_at", "nothing", "beat_at, near", 20),
-    ("time_at", "nothing", "time_at, near", None),
-    ("encoded_beat", "nothing", "encoded_beat, near", 40),
-    ("silent_block", "no_block", "clicks of a block with no beat, near", 100),
-    ("clicking_block", "no_block", "clicks of a block with one, near", None),
-    ("far_beat_at", "far_nothing", "beat_at, far", None),
-    ("far_time_at", "far_nothing", "time_at, far", None),
-    ("far_encoded_beat", "far_nothing", "encoded_beat, far", None),
-    ("far_silent_block", "far_no_block", "clicks of a block with no beat, far", None),
-    ("far_clicking_block", "far_no_block", "clicks of a block with one, far", None),
+    ("beat_at", "nothing", "`beat_at`, within 6 days of the origin", 20),
+    ("time_at", "nothing", "`time_at`, near", None),
+    ("encoded_beat", "nothing", "`encoded_beat`, near", 40),
+    ("silent_block", "no_block", "`clicks` of 20,000 microseconds without a beat, near", 100),
+    ("clicking_block", "no_block", "`clicks` of 20,000 microseconds with a beat, near", None),
+    ("far_beat_at", "far_nothing", "`beat_at`, far", None),
+    ("far_time_at", "far_nothing", "`time_at`, far", None),
+    ("far_encoded_beat", "far_nothing", "`encoded_beat`, far", None),
+    ("far_silent_block", "far_no_block", "`clicks` of 20,000 microseconds without a beat, far", None),
+    ("far_clicking_block", "far_no_block", "`clicks` of 20,000 microseconds with a beat, far", None),
 ]
-least, whole, folded = {}, {}, {}
-for _ in range(runs):
-    for line in subprocess.run([program], stdout=subprocess.PIPE, check=True, text=True).stdout.splitlines():
-        name, calls, best, all_rounds, *results = line.split()
-        calls = int(calls)
-        least[name] = min(least.get(name, float("inf")), int(best) / calls)
-        whole[name] = min(whole.get(name, float("inf")), int(all_rounds) / calls / ROUNDS)
-        if folded.setdefault(name, (calls * ROUNDS, *results)) != (calls * ROUNDS, *results):
-            sys.exit(f"the results of {name} differ from run to run")
-for name, (calls, clicks, _) in folded.items():
-    if int(clicks) != (calls if name.endswith("clicking_block") else 0):
-        sys.exit(f"{name} found {clicks} clicks in {calls} calls")
-print(f"{'nanoseconds a call':38}{'round':>8}{'loop':>8}{'call':>8}{'aim':>12}{'ratio':>8}{'whole':>8}   folded")
+told = timed(sys.argv[1], int(sys.argv[2]), ROUNDS)
+for name, call in told.items():
+    if int(call.results[0]) != (call.calls * ROUNDS if name.endswith("clicking_block") else 0):
+        sys.exit(f"{name} found {call.results[0]} clicks in {call.calls * ROUNDS} calls")
 for name, base, shown, aim in ROWS:
-    call = least[name] - least[base]
-    told = "" if aim is None else f"{aim} {'met' if call < aim else 'missed'}"
-    print(f"{shown:38}{least[name]:8.1f}{least[base]:8.1f}{call:8.1f}{told:>12}{least[name] / least[base]:8.1f}{whole[name]:8.1f}   {folded[name][2]}")
-model = next((line.split(":", 1)[1].strip() for line in open("/proc/cpuinfo") if line.startswith("model name")), "unknown")
-print(f"runs          {runs}, load {os.getloadavg()[0]:.1f} at the end")
-print(f"machine       {os.cpu_count()} processors, {model}")
+    add_call(table, shown, told[name], told[base], aim)
+table.show()
 PY

@@ -1,17 +1,14 @@
 #!/usr/bin/env bash
-# What the calls of peer_gateway cost: bench/peers.sh [RUNS]. In a temporary folder it proves and builds a program that calls each of them in
-# 100 rounds (of 2,000 calls) over tables of 8, 128 and 512 rows, and runs it RUNS times (three where not given). The rows stand on four gates,
-# as many on each, and all are in one session of which half tell an endpoint. `known` sees peers of the table again, one after the other, each
-# later than the last, so that its entry goes from the front of the list by limit to the end; `new` sees a peer that isn't there, which the goodbye
-# after it takes out again, and `bye` is that goodbye: what both cost together is halved. `prune` ends nothing; `count` goes over all rows.
-# The results are folded into a number that is the same in each run.
-# It prints in nanoseconds a call: `round`, the least that a round took, less its loop alone; `whole`, the time of all rounds in the best run, which shows what else
-# the machine did; the aim. Then the machine.
-set -eu
-# shellcheck source=bench/prepare.sh
-. "$(dirname "${BASH_SOURCE[0]}")/prepare.sh"
+# What the calls of peer_gateway cost: bench/peers.sh [RUNS]. In a temporary folder it proves and builds a program that calls each of them
+# in 100 rounds (of 2,000 calls) over tables of 8, 128 and 512 rows, and runs it RUNS times (three where not given). The rows stand on
+# four gates, as many on each, and all are in one session of which half tell an endpoint. `known` sees peers of the table again, one after
+# the other, each later than the last, so that its entry goes from the front of the list by limit to the end; `new` sees a peer that isn't
+# there, which the goodbye after it takes out again, and `bye` is that goodbye: what both cost together is halved. `prune` ends nothing;
+# `count` goes over all rows. The results are folded into a number that is the same in each run. A figure is the least that a round took
+# in all runs, less the loop alone.
+# shellcheck source=bench/shared.sh
+. "$(dirname "${BASH_SOURCE[0]}")/shared.sh"
 prepare bench_peers peer_gateway lk_base
-mkdir -p "$crate/proofs/round_of" "$crate/proofs/filled" "$crate/proofs/tell"
 cat >"$crate/src/main.rt" <<'RT'
 //! Times the calls of `peer_gateway`. A line for each: its name, the rows of the table, the calls of a round, the nanoseconds of the best round
 //! and of all, and the results folded into one number.
@@ -155,44 +152,24 @@ fn main(rt: HostRuntime) -> io::Result<()> {
 }
 RT
 for name in round_of:k filled:n tell:round; do
-    function=${name%:*} loop=${name#*:}
-    cat >"$crate/proofs/$function/Invariants.antt" <<ANTT
-use Rattle.std.proofs.Common.{◌≡◌}
-use Rattle.bench_peers.proofs.$function.Given as goal
-
-abbrev pub invariant-loop-$loop : goal.invariant-loop-$loop
-invariant-loop-$loop l = l.peers.gates ≡ 4
-ANTT
+    invariant "${name%:*}" "${name#*:}" l 'l.peers.gates ≡ 4'
 done
 build
-python3 - "$program" "${1:-3}" <<'PY'
-import os, subprocess, sys
+figures "$program" "${1:-3}" <<'PY'
+import sys
+from figures import Table, add_call, timed
 
-program, runs = sys.argv[1], int(sys.argv[2])
-ROUNDS = 100
+table = Table()
 ROWS = [  # the call, what is printed, how many calls it is, and the aims in nanoseconds by rows
-    ("known", "saw, known", 1, {8: 60, 512: 400}),
-    ("new_and_bye", "saw, new, and bye: each", 2, {}),
-    ("prune", "prune of nothing", 1, {}),
-    ("count", "count", 1, {512: 1000}),
+    ("known", "`Peers::saw` of a known peer", 1, {8: 60, 512: 400}),
+    ("new_and_bye", "`Peers::saw` of a new peer, and `bye`, each", 2, {}),
+    ("prune", "`Peers::prune` of nothing", 1, {}),
+    ("count", "`Peers::count`", 1, {512: 1000}),
 ]
-least, whole, folded = {}, {}, {}
-for _ in range(runs):
-    for line in subprocess.run([program], stdout=subprocess.PIPE, check=True, text=True).stdout.splitlines():
-        name, rows, calls, best, all_rounds, *results = line.split()
-        key, calls = (name, -(-int(rows) // 8) * 8), int(calls)
-        least[key] = min(least.get(key, float("inf")), int(best) / calls)
-        whole[key] = min(whole.get(key, float("inf")), int(all_rounds) / calls / ROUNDS)
-        if folded.setdefault(key, results) != results:
-            sys.exit(f"the results of {name} differ from run to run")
-print(f"{'nanoseconds a call':30}{'rows':>6}{'round':>9}{'loop':>8}{'aim':>14}{'whole':>9}   folded")
+# The table of the new peer has a row less.
+told = {(name, -(-int(rows) // 8) * 8): call for (name, rows), call in timed(sys.argv[1], int(sys.argv[2]), 100, keys=2).items()}
 for name, shown, parts, aims in ROWS:
     for rows in (8, 128, 512):
-        call = (least[name, rows] - least["nothing", rows]) / parts
-        aim = aims.get(rows)
-        told = "" if aim is None else f"{aim} {'met' if call <= aim else 'missed'}"
-        print(f"{shown:30}{rows:6}{call:9.1f}{least['nothing', rows]:8.1f}{told:>14}{whole[name, rows] / parts:9.1f}   {folded[name, rows][0]}")
-model = next((line.split(":", 1)[1].strip() for line in open("/proc/cpuinfo") if line.startswith("model name")), "unknown")
-print(f"runs          {runs}, load {os.getloadavg()[0]:.1f} at the end")
-print(f"machine       {os.cpu_count()} processors, {model}")
+        add_call(table, f"{shown}, {rows} rows", told[name, rows], told["nothing", rows], aims.get(rows), parts)
+table.show()
 PY

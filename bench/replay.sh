@@ -1,35 +1,40 @@
 #!/usr/bin/env bash
-# How fast the built program replays: bench/replay.sh [EVENTS] (1,000,000 where not given). JORAZHIL_PROGRAM names another program than the built one.
-# Its scripts are made by bench/scripts.py, which tells what is in them, into a temporary folder. Each is replayed once to warm up and then three times.
+# How fast the built program replays: bench/replay.sh [EVENTS] (1,000,000 where not given). JORAZHIL_PROGRAM names another program than
+# the built one. Its scripts are made by bench/scripts.py, which tells what is in them, into a temporary folder. Each is replayed once to
+# warm up and then three times.
 #
-# 1. `alives`, and `mixed` with 10 and with 500 peers, the output into a file: of the run that took the least time MB of script and events a second; the
-#    time an event with 500 peers over that with 10; and the greatest peak resident memory. That is the program's own: the process that starts it holds
-#    no script, and its own peak, below which no peak of a child can be told, stands beside.
-# 2. What an event of each kind costs with 10 and with 500 peers, the output thrown away, in nanoseconds of the processor (user and system). `whole` is
-#    the run over its events: a line is read twice, its step is taken, and what follows is written. `idle` is the same for the idle form of the script,
-#    whose lines are as long and do less. `step` is the difference: the step beyond one that does nothing, with the lines that it writes, of which there
-#    are `bytes` an event. So it is the step alone where these are 0. For `app` and `audio` it is what a timeline that is taken costs beyond one that
-#    meets a spent origin; both write a state. For `end` it is a step that does nothing, and the reading of its two words: no step costs less, but for that.
-#
-# Beside them `cat` over the alives, and the machine.
-set -eu
-here=$(cd "$(dirname "${BASH_SOURCE[0]}")/.." && pwd)
-events=${1:-1000000}
-program=${JORAZHIL_PROGRAM:-}
-if [ -z "$program" ]; then
-  "$here/jorazhil" replay <"$here/examples/one-alive.script" >/dev/null
-  program=$here/crates/link_daemon/out/link_daemon
-fi
-folder=$(mktemp -d)
-trap 'rm -rf "$folder"' EXIT
-
+# 1. `alives`, and `mixed` with 10 and with 500 peers, the output into a file: of the run that took the least time MB of script and events
+#    a second; the time an event with 500 peers over that with 10; and the greatest peak resident memory. That is the program's own: the
+#    process that starts it holds no script, and its own peak, below which no peak of a child can be told, is noted.
+# 2. What an event of each kind costs with 10 and with 500 peers, the output thrown away, in nanoseconds of the processor (user and
+#    system). `whole` is the run over its events: a line is read twice, its step is taken, and what follows is written. `step` is that
+#    less the same for the idle form of the script, whose lines are as long and do less: the step beyond one that does nothing, with the
+#    lines that it writes, of which there are so many bytes an event. So it is the step alone where these are 0. For `app` and `audio` it
+#    is what a timeline that is taken costs beyond one that meets a spent origin; both write a state. For `end` it is a step that does
+#    nothing, and the reading of its two words: no step costs less, but for that.
+# shellcheck source=bench/shared.sh
+. "$(dirname "${BASH_SOURCE[0]}")/shared.sh"
+built
+figures "$program" "$folder" "$here/bench/scripts.py" "${1:-1000000}" <<'PY'
 # The events of one kind are a quarter as many. Nothing large is held by the process that measures.
-python3 - "$program" "$folder" "$here/bench/scripts.py" "$events" <<'PY'
-import os, resource, subprocess, sys, time
+import os, resource, subprocess, sys
+from figures import Table, note, run
 
 program, folder, maker, events = *sys.argv[1:4], int(sys.argv[4])
 script, out = os.path.join(folder, "script"), os.path.join(folder, "out")
-KINDS = "response alive ping passed pongs bye tick app audio end".split()
+table = Table()
+KINDS = {
+    "response": "a response of a known peer",
+    "alive": "an alive, with its response",
+    "ping": "a ping, with its pong",
+    "passed": "a pong that nobody waits for",
+    "pongs": "a pong that counts, with the next ping",
+    "bye": "a bye and a response, each",
+    "tick": "a tick with nothing due",
+    "app": "an application commit, beyond a spent one",
+    "audio": "an audio commit, beyond a spent one",
+    "end": "an end without destinations, beyond a comment",
+}
 
 
 def make(name, peers, count):
@@ -38,41 +43,35 @@ def make(name, peers, count):
     return os.path.getsize(script)
 
 
-def run(words, status=0, taker=os.devnull):
-    """Seconds, seconds of the processor, peak memory in bytes."""
-    with open(script) as given, open(taker, "w") as taken:
-        start = time.perf_counter()
-        child = subprocess.Popen(words, stdin=given, stdout=taken, stderr=subprocess.DEVNULL)
-        _, ended, used = os.wait4(child.pid, 0)
-        seconds = time.perf_counter() - start
-    if os.waitstatus_to_exitcode(ended) != status:
-        sys.exit(f"{words} did not end with status {status}")
-    return seconds, used.ru_utime + used.ru_stime, used.ru_maxrss * 1024
-
-
-def least(status=0, taker=os.devnull):
-    runs = [run([program, "replay"], status, taker) for _ in range(4)][1:]
+def least(taker=os.devnull):
+    runs = [run([program, "replay"], script, taker) for _ in range(4)][1:]
     return min(seconds for seconds, _, _ in runs), min(used for _, used, _ in runs), max(peak for _, _, peak in runs)
 
 
-def line(what, text):
-    print(f"{what:<28}{text}", flush=True)
-
-
-def whole(name, peers):
-    """Times a script whose output goes into a file, and prints that. The seconds an event."""
+def whole(name, peers, aim):
+    """Times a script whose output goes into a file. The seconds an event."""
     size, count = make(name, peers, events), events + peers
-    seconds, used, peak = least(0, out)
+    seconds, used, peak = least(out)
     with open(out, "rb") as text:
         text.seek(-64, os.SEEK_END)
         last = text.read().split(b"\n")[-2].decode()
     if last.split(" ")[:2] != ["done", str(count)]:
         sys.exit(f"{name}: the last line is {last!r}")
-    name += f", {peers} peers" if peers else ""
-    line(f"{name}: script", f"{size / 1e6:8.1f} MB, {os.path.getsize(out) / 1e6:.1f} MB of output, {last}")
-    line(f"{name}: time", f"{seconds:8.3f} s, {used:.3f} s of the processor")
-    line(f"{name}: speed", f"{size / 1e6 / seconds:8.1f} MB/s, {count / seconds:,.0f} events a second")
-    line(f"{name}: peak memory", f"{peak / 1e6:8.1f} MB, {peak / size:.2f} times the script; less 32 MB it is {max(0, peak - 32e6) / size:.2f} times")
+    what = f"`replay` of `{name}`" + (f", {peers} peers" if peers else "")
+    megabytes, rate = size / 1e6 / seconds, count / seconds
+    note(f"{what}: {size / 1e6:.1f} MB of script, {os.path.getsize(out) / 1e6:.1f} MB of output, {seconds:.3f} s, {used:.3f} s of the processor, {last}")
+    if "MB" in aim:
+        table.add(f"{what}: script a second", f"{megabytes:.0f} MB", f"at least {aim['MB']} MB", megabytes >= aim["MB"])
+    if "events" in aim:
+        table.add(f"{what}: events a second", f"{rate:,.0f}", f"at least {aim['events']:,}", rate >= aim["events"])
+    else:
+        table.add(f"{what}: events a second", f"{rate:,.0f}")
+    table.add(
+        f"{what}: peak memory, script of {size / 1e6:.0f} MB",
+        f"{peak / 1e6:.1f} MB, {peak / size:.2f} times the script",
+        "at most 1.2 times the script and 32 MB",
+        peak <= 1.2 * size + 32e6,
+    )
     return seconds / count
 
 
@@ -82,22 +81,19 @@ def kind_costs(name, peers):
     idle = least()[1]
     make(name, peers, events // 4)
     full = least()[1]
-    run([program, "replay"], 0, out)
-    ns = [1e9 * seconds / count for seconds in (full, idle, full - idle)]
-    line(f"{name}, {peers} peers", "".join(f"{n:9.0f}" for n in (*ns, os.path.getsize(out) / count)))
+    run([program, "replay"], script, out)
+    ns = [1e9 * seconds / count for seconds in (full, full - idle)]
+    table.add(f"`replay`, {KINDS[name]}, {peers} peers: whole; step; written", f"{ns[0]:,.0f} ns; {ns[1]:,.0f} ns; {os.path.getsize(out) / count:.0f} bytes")
 
 
-alone = whole("alives", 0)
-cat = min(run(["cat"], 0, out)[0] for _ in range(3))
-line("alives over cat", f"{alone * events / cat:8.2f} times the time of cat ({cat:.3f} s)")
-few, many = whole("mixed", 10), whole("mixed", 500)
-line("500 peers over 10", f"{many / few:8.2f} times the time an event")
-line("this process: memory", f"{resource.getrusage(resource.RUSAGE_SELF).ru_maxrss * 1024 / 1e6:8.1f} MB")
-print(f"\n{'ns an event':<28}{'whole':>9}{'idle':>9}{'step':>9}{'bytes':>9}")
+alone = whole("alives", 0, {"MB": 150})
+cat = min(run(["cat"], script, out)[0] for _ in range(3))
+note(f"alives: {alone * events / cat:.2f} times the time of cat ({cat:.3f} s)")
+few, many = whole("mixed", 10, {"events": 700_000}), whole("mixed", 500, {})
+table.add("`replay` of `mixed`: time an event with 500 peers over 10", f"{many / few:.2f} times", "at most 3 times", many <= 3 * few)
+note(f"the memory of the process that starts it: {resource.getrusage(resource.RUSAGE_SELF).ru_maxrss * 1024 / 1e6:.1f} MB")
 for name in KINDS:
     for peers in (10, 500):
         kind_costs(name, peers)
-with open("/proc/cpuinfo") as told:
-    model = next((given.split(":", 1)[1].strip() for given in told if given.startswith("model name")), "unknown")
-print(f"\n{os.cpu_count()} processors, {model}")
+table.show()
 PY

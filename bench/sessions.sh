@@ -1,15 +1,12 @@
 #!/usr/bin/env bash
-# What the sessions' table costs: bench/sessions.sh [RUNS]. In a temporary folder it proves and builds a program that calls `Sessions::saw` and
-# `Sessions::measured` in 100 rounds of 10,000 calls, with no other session, 8 and 64 of them, and runs it RUNS times (three where not given).
-# The ids are drawn. The timeline that is seen is another one at each call; it never counts, so each call finds the table as it was. `saw` is
-# called of the current session, of the last other one and, with 64 others, of one that isn't known. `measured` is called of the last other
-# one, which is behind by a second or more and so never joined.
-# It prints in nanoseconds a call: `round`, the least that a round took; `loop`, the same of a loop that only makes and folds the numbers
-# given; `call`, what is left of the first without the second; `ratio`, the first over the second; `whole`, the time of all rounds in the best
-# run, which shows what else the machine did. Then the machine.
-set -eu
-# shellcheck source=bench/prepare.sh
-. "$(dirname "${BASH_SOURCE[0]}")/prepare.sh"
+# What the sessions' table costs: bench/sessions.sh [RUNS]. In a temporary folder it proves and builds a program that calls
+# `Sessions::saw` and `Sessions::measured` in 100 rounds of 10,000 calls, with no other session, 8 and 64 of them, and runs it RUNS times
+# (three where not given). The ids are drawn. The timeline that is seen is another one at each call; it never counts, so each call finds
+# the table as it was. `saw` is called of the current session, of the last other one and, with 64 others, of one that isn't known.
+# `measured` is called of the last other one, which is behind by a second or more and so never joined. A figure is the least that a round
+# took in all runs, less a loop that only makes and folds the numbers given.
+# shellcheck source=bench/shared.sh
+. "$(dirname "${BASH_SOURCE[0]}")/shared.sh"
 prepare bench_sessions session_choice ghost_xform lk_base
 cat >"$crate/src/main.rt" <<'RT'
 //! Times the calls of `session_choice`. A line for each measure: its name, the number of others, the calls of a round, the nanoseconds of the
@@ -184,35 +181,24 @@ fn main(rt: HostRuntime) -> io::Result<()> {
 }
 RT
 build
-python3 - "$program" "${1:-3}" <<'PY'
-import os, subprocess, sys
+figures "$program" "${1:-3}" <<'PY'
+import sys
+from figures import Table, add_call, timed
 
-program, runs = sys.argv[1], int(sys.argv[2])
+table = Table()
 ROUNDS = 100
 SHOWN = {  # what is printed, and which answer each call has: kept, full or stayed
-    "saw_current": ("saw, the current session", 0),
-    "saw_last": ("saw, the last other one", 0),
-    "saw_stranger": ("saw, one that has no room", 1),
-    "measured_last": ("measured, the last other one stays", 2),
+    "saw_current": ("`Sessions::saw` of the current session", 0),
+    "saw_last": ("`Sessions::saw` of the last other one", 0),
+    "saw_stranger": ("`Sessions::saw` of one that has no room", 1),
+    "measured_last": ("`Sessions::measured` of the last other one, which stays", 2),
 }
-least, whole, folded = {}, {}, {}
-for _ in range(runs):
-    for line in subprocess.run([program], stdout=subprocess.PIPE, check=True, text=True).stdout.splitlines():
-        name, others, calls, best, all_rounds, *results = line.split()
-        key, calls = (name, int(others)), int(calls)
-        least[key] = min(least.get(key, float("inf")), int(best) / calls)
-        whole[key] = min(whole.get(key, float("inf")), int(all_rounds) / calls / ROUNDS)
-        if folded.setdefault(key, results) != results:
-            sys.exit(f"the results of {name} differ from run to run")
-        if name in SHOWN and int(results[SHOWN[name][1]]) != calls * ROUNDS:
-            sys.exit(f"{name} with {others} others had other answers: {results}")
-print(f"{'nanoseconds a call':38}{'others':>8}{'round':>8}{'loop':>8}{'call':>8}{'ratio':>8}{'whole':>8}")
-for (name, others) in folded:
+told = timed(sys.argv[1], int(sys.argv[2]), ROUNDS, keys=2)
+for (name, others), call in told.items():
     if name in SHOWN:
-        key, base = (name, others), ("nothing", others)
-        call = least[key] - least[base]
-        print(f"{SHOWN[name][0]:38}{others:8}{least[key]:8.1f}{least[base]:8.1f}{call:8.1f}{least[key] / least[base]:8.1f}{whole[key]:8.1f}")
-model = next((line.split(":", 1)[1].strip() for line in open("/proc/cpuinfo") if line.startswith("model name")), "unknown")
-print(f"runs          {runs}, load {os.getloadavg()[0]:.1f} at the end")
-print(f"machine       {os.cpu_count()} processors, {model}")
+        shown, answer = SHOWN[name]
+        if int(call.results[answer]) != call.calls * ROUNDS:
+            sys.exit(f"{name} with {others} others had other answers: {call.results}")
+        add_call(table, f"{shown}, {others} others", call, told["nothing", others])
+table.show()
 PY

@@ -1,0 +1,107 @@
+"""What the scripts here share in Python: running what is measured, and rows of docs/PERFORMANCE.md."""
+import os
+import resource
+import subprocess
+import sys
+import time
+from collections import namedtuple
+
+HEAD = "| what | figure | aim | script | on what | date |\n|---|---|---|---|---|---|"
+
+
+def note(text):
+    """For whoever watches; no row."""
+    print(text, file=sys.stderr, flush=True)
+
+
+def spent(used):
+    return used.ru_utime + used.ru_stime
+
+
+def worked():
+    """The seconds that all processors have worked or were taken away, and those of this process and its children; None where nobody tells."""
+    try:
+        with open("/proc/stat") as told:
+            user, nice, system, _, _, irq, softirq, steal = map(int, told.readline().split()[1:9])
+    except (OSError, ValueError):
+        return None
+    whole = (user + nice + system + irq + softirq + steal) / os.sysconf("SC_CLK_TCK")
+    return whole, spent(resource.getrusage(resource.RUSAGE_SELF)) + spent(resource.getrusage(resource.RUSAGE_CHILDREN))
+
+
+def machine():
+    try:
+        with open("/proc/cpuinfo") as told:
+            model = next((line.split(":", 1)[1].strip() for line in told if line.startswith("model name")), "unknown processor")
+    except OSError:
+        model = "unknown processor"
+    return f"{os.cpu_count()} processors, {model.replace('(R)', '').replace(' Processor', '').replace(' CPU', '')}"
+
+
+class Table:
+    """Rows, and what else the machine did from the first thought of them to `show`."""
+
+    def __init__(self):
+        self.rows, self.start, self.before = [], time.perf_counter(), worked()
+
+    def add(self, what, figure, aim=None, met=None):
+        """The aim is text, and so is the figure; whether it is met is told beside it."""
+        told = "" if aim is None else aim if met is None else f"{aim}: {'met' if met else 'missed'}"
+        self.rows.append(f"| {what} | {figure} | {told} |")
+
+    def beside(self):
+        after = worked()
+        if after is None or self.before is None:
+            return f"load {os.getloadavg()[0]:.1f}"
+        others = (after[0] - self.before[0] - (after[1] - self.before[1])) / (time.perf_counter() - self.start)
+        return "nothing else" if others < 0.1 else f"beside other work on {others:.1f} of them"
+
+    def show(self):
+        end = f" `{os.environ['SCRIPT']}` | {machine()}, {self.beside()} | {time.strftime('%Y-%m-%d')} |"
+        print(HEAD)
+        for row in self.rows:
+            print(row + end)
+
+
+def run(words, given=os.devnull, taken=os.devnull):
+    """Seconds, seconds of the processor, peak memory in bytes, of a run over two files that ends with status 0."""
+    with open(given) as source, open(taken, "w") as sink:
+        start = time.perf_counter()
+        child = subprocess.Popen(words, stdin=source, stdout=sink)
+        _, ended, used = os.wait4(child.pid, 0)
+        seconds = time.perf_counter() - start
+    if os.waitstatus_to_exitcode(ended) != 0:
+        sys.exit(f"{words} did not end with status 0")
+    return seconds, spent(used), used.ru_maxrss * 1024
+
+
+Call = namedtuple("Call", "calls least whole results")
+
+
+def lines_of(program, runs):
+    """The words of each line that the program prints, over all its runs."""
+    for _ in range(runs):
+        for line in subprocess.run([program], stdin=subprocess.DEVNULL, stdout=subprocess.PIPE, check=True, text=True).stdout.splitlines():
+            yield line.split()
+
+
+def timed(program, runs, rounds, keys=1):
+    """By the first words of the lines `KEY .. CALLS BEST ALL RESULT ..` that a program prints: the calls of a round, the nanoseconds a call in the best
+    round and over all rounds of the best run, and the results, which are the same in each run."""
+    found = {}
+    for words in lines_of(program, runs):
+        key = words[0] if keys == 1 else tuple(words[:keys])
+        calls, best, whole = map(int, words[keys : keys + 3])
+        call = Call(calls, best / calls, whole / calls / rounds, tuple(words[keys + 3 :]))
+        old = found.setdefault(key, call)
+        if (old.calls, old.results) != (call.calls, call.results):
+            sys.exit(f"the results of {key} differ from run to run")
+        found[key] = call._replace(least=min(old.least, call.least), whole=min(old.whole, call.whole))
+    return found
+
+
+def add_call(table, what, call, loop, aim=None, parts=1):
+    """A row for a call: what is left of its best round without the loop's own. Where a round has several calls at a time, what each took."""
+    ns = (call.least - loop.least) / parts
+    table.add(what, f"{ns:.1f} ns", None if aim is None else f"at most {aim:,} ns", aim is not None and ns <= aim)
+    note(f"{what}: round {call.least:.1f} ns, loop {loop.least:.1f}, whole {call.whole:.1f}, folded {' '.join(call.results)}")

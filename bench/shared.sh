@@ -1,0 +1,56 @@
+# shellcheck shell=bash
+# Sourced by each script here. What they measure comes on standard output as rows of docs/PERFORMANCE.md; what else there is to tell of it
+# comes on standard error.
+#   prepare NAME DEP ..   makes `folder`, a temporary copy of the crates, in which a program NAME over these crates has a folder of its
+#                         own beside them, `crate`, with an empty src/; and works there from then on
+#   build                 proves and builds that program, which is then at `program`
+#   built                 sets `program` to what JORAZHIL_PROGRAM names, or to the clone's own, which is built first where it isn't yet
+#   invariant ..          writes what a loop of that program keeps
+#   figures WORD ..       runs the Python on standard input with these words; it may import bench/figures.py and bench/scripts.py
+# The folder is removed at the end.
+set -eu
+unset CDPATH
+here=$(cd -P -- "$(dirname -- "${BASH_SOURCE[0]}")/.." && pwd)
+folder=$(mktemp -d)
+trap 'rm -rf "$folder"' EXIT
+
+prepare() {
+  command -v rt >/dev/null || { echo "$0: there is no rt on the PATH" >&2; exit 1; }
+  local name=$1
+  shift
+  tar -C "$here" --exclude='crates/*/out' -cf - crates crates.txt HANDLES | tar -C "$folder" -xf -
+  echo "$name: $*" >>"$folder/crates.txt"
+  crate=$folder/crates/$name
+  program=$crate/out/$name
+  mkdir -p "$crate/src"
+  cd "$crate"
+}
+
+build() {
+  echo "$0: proving what is measured; this takes some minutes where nothing is kept of it" >&2
+  (cd "$crate" && rt run --jobs 1 </dev/null >"$folder/build.log" 2>&1) || { tail -n 40 "$folder/build.log" >&2; exit 1; }
+}
+
+built() {
+  program=${JORAZHIL_PROGRAM:-}
+  if [ -z "$program" ]; then
+    "$here/jorazhil" replay <"$here/examples/one-alive.script" >/dev/null
+    # shellcheck disable=SC2034 # for the script that sources this
+    program=$here/crates/link_daemon/out/link_daemon
+  fi
+}
+
+# invariant FUNCTION LOOP PARAMETERS FACT [IMPORT ..]
+invariant() {
+  local function=$1 loop=$2 parameters=$3 fact=$4
+  shift 4
+  mkdir -p "$crate/proofs/$function"
+  {
+    printf 'use %s\n' 'Rattle.std.proofs.Common.{◌≡◌, ◌≤◌, ◌+◌, ◌*◌, length}' "$@" "Rattle.${crate##*/}.proofs.$function.Given as goal"
+    printf '\nabbrev pub invariant-loop-%s : goal.invariant-loop-%s\ninvariant-loop-%s %s = %s\n' "$loop" "$loop" "$loop" "$parameters" "$fact"
+  } >"$crate/proofs/$function/Invariants.antt"
+}
+
+figures() {
+  SCRIPT=bench/$(basename -- "$0") PYTHONPATH=$here/bench PYTHONDONTWRITEBYTECODE=1 python3 - "$@"
+}
