@@ -30,3 +30,4 @@ pub mod StartingLemmas
 pub mod MeasuredLemmas
 pub mod CountingLemmas
 pub mod DueLemmas
+pub mod OnGateLemmas

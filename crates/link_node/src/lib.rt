@@ -29,7 +29,8 @@ pub use laws::{
     runs_go_on, timelines_are_brought,
 };
 pub use news::{
-    alives_are_answered, broadcasts_reach_all, ends_say_goodbye, news_is_noted, pings_are_answered,
+    alives_are_answered, broadcasts_reach_all, datagrams_go_out_on_gates, ends_say_goodbye,
+    news_is_noted, pings_are_answered,
 };
 pub use node::Node;
 pub use sends::{Sending, Sends};

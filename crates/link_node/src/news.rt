@@ -1,6 +1,7 @@
 //! What is sent to whom, and that news is told: laws for what stands above. To call one is to know it.
 
 ghost use Rattle.std.specs.Prelude.{◌≡◌, ◌≤◌, ◌<◌, [], ◌∷◌, length, ◌⊎◌, ℕ, ℤ, List, Some, Ok, IsTrue, slice_get, true, false};
+ghost use Rattle.std.specs.List.{AllByRecursion};
 ghost use Rattle.lk_base.specs.declared.endpoint.Endpoint.{Endpoint};
 ghost use Rattle.lk_base.specs.declared.endpoint.Gate.{Gate};
 ghost use Rattle.asdp_messages.specs.Datagram as message;
@@ -8,11 +9,12 @@ ghost use Rattle.asdp_messages.specs.Reading.{reading_of};
 ghost use Rattle.asdp_messages.specs.declared.message.StateMsg.{StateMsg};
 ghost use Rattle.peer_gateway.specs.Happenings.{Has};
 ghost use Rattle.link_node.specs.Arrival.{is_heard};
-ghost use Rattle.link_node.specs.Config.{GateValue};
-ghost use Rattle.link_node.specs.Event.{EventValue};
+ghost use Rattle.link_node.specs.Config.{ConfigValue, GateValue};
+ghost use Rattle.link_node.specs.Event.{EventValue, SendingValue};
 ghost use Rattle.link_node.specs.Event as event;
 ghost use Rattle.link_node.specs.Machine.{Machine};
 ghost use Rattle.link_node.specs.News.{IsResponse, HasAlive, IsDue, IsNoted, pong_of, bye_to};
+ghost use Rattle.link_node.specs.Runs.{AreFitting, sent_of};
 ghost use Rattle.link_node.specs.Settling.{held_in, same_held};
 ghost use Rattle.link_node.specs.Step.{step_of, sends_of};
 
@@ -54,4 +56,10 @@ pub fn ends_say_goodbye()
     ensures { (m : Machine) (now : ℤ) (gate : Gate) (setup : GateValue) (to : Endpoint)
         → slice_get m.config.gates gate.0 ≡ Some setup → Has setup.destinations to
         → Has (sends_of m (event.End now)) (bye_to m gate to) }
+{}
+
+/// Each datagram of a run goes out on a gate of the node.
+pub fn datagrams_go_out_on_gates()
+    ensures { (config : ConfigValue) (now : ℤ) (es : List EventValue) → AreFitting (length config.gates) 0 0 es
+        → AllByRecursion (λ (s : SendingValue). s.gate.0 < length config.gates) (sent_of config now es) }
 {}
