@@ -59,9 +59,12 @@ impl<C: StateCell<9>, N: LinkName> Model for Hub<C, N> {
 }
 
 impl<C: StateCell<9>, N: LinkName> Hub<C, N> {
-    ghost use Rattle.std.specs.Prelude.{◌≡◌, map};
+    ghost use Rattle.std.specs.Prelude.{◌≡◌, ◌≤◌, length, map};
+    ghost use Rattle.lk_base.specs.Ranges.{IsMoment};
+    ghost use Rattle.link_node.specs.Config.{IsConfig};
     ghost use Rattle.link_node.specs.Due.{due_of};
     ghost use Rattle.link_node.specs.Event.{event_value};
+    ghost use Rattle.link_node.specs.Runs.{AreFitting};
     ghost use Rattle.link_shared.specs.Hub.{machine_of};
 
     /// The earliest moment at which a tick has work, in microseconds. Waits: no. Memory: none.
@@ -71,16 +74,21 @@ impl<C: StateCell<9>, N: LinkName> Hub<C, N> {
         self.keeper.node.due()
     }
 
-    /// The greatest moment of an event so far, the opening's among them, in microseconds. Waits: no. Memory: none.
+    /// The greatest moment of an event so far, the opening's among them, in microseconds, 0..=2^55. Waits: no. Memory: none.
     pub fn moment(&self) -> i64
-        ensures { result ≡ (machine_of self.now).moment }
+        ensures moment { result ≡ (machine_of self.now).moment }
+        ensures range { IsMoment result }
+        ensures opening { IsConfig self.now.config × IsMoment self.now.opened_at }
     {
         self.keeper.node.moment()
     }
 
-    /// The events taken, in order. Waits: no. Memory: none.
+    /// The events taken, in order: each was one that the node could take, and there are no more than the journal takes. Waits: no.
+    /// Memory: none.
     pub fn journal(&self) -> &[Event]
-        ensures { map event_value result.now ≡ self.now.journal }
+        ensures events { map event_value result.now ≡ self.now.journal }
+        ensures fits { AreFitting (length self.now.config.gates) 0 0 self.now.journal }
+        ensures room { length self.now.journal ≤ self.now.most }
     {
         &self.keeper.journal
     }
