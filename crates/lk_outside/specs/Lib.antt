@@ -1,7 +1,17 @@
 pub mod Faults
 pub mod Source
 pub mod Sink
+pub mod Contents
+pub mod Arrivals
+pub mod Port
+pub mod Audio
+pub mod Pace
 pub mod Failing
 pub mod BytesSource
 pub mod BytesSink
+pub mod Coming
+pub mod ListPort
+pub mod ListAudio
+pub mod ListPace
 pub mod Transfer
+pub use Rattle.lk_base.specs.Ranges

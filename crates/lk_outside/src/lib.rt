@@ -1,21 +1,36 @@
 //! The outside as the runtime sees it: traits whose objects may tell what they hold and count their
 //! faults, objects in memory that tell all of it, and the two calls that move a whole text.
 //!
-//! In reading order: `source`, `sink`, `failing`, `bytes_source`, `bytes_sink`, `transfer`, `tests`.
+//! In reading order: the traits `source`, `sink`, `port`, `audio`, `pace`; `failing`, `copies`; the
+//! objects in memory `bytes_source`, `bytes_sink`, `list_port`, `list_audio`, `list_pace`; `transfer`,
+//! `tests`.
 #![tactic(auto)]
 
+mod audio;
 mod bytes_sink;
 mod bytes_source;
+mod copies;
 mod failing;
+mod list_audio;
+mod list_pace;
+mod list_port;
+mod pace;
+mod port;
 mod sink;
 mod source;
 #[cfg(test)]
 mod tests;
 mod transfer;
 
+pub use audio::{Audio, Next, Played};
 pub use bytes_sink::BytesSink;
 pub use bytes_source::BytesSource;
-pub use failing::{READ, WRITE};
+pub use failing::{BIND, NEXT, PLAY, READ, RECEIVE, SEND, WRITE};
+pub use list_audio::ListAudio;
+pub use list_pace::ListPace;
+pub use list_port::{ListPort, Post};
+pub use pace::Pace;
+pub use port::{Arrival, Bound, Port, Posted};
 pub use sink::{Put, Sink};
 pub use source::{Source, Taken};
 pub use transfer::{InputFault, read_all, write_whole};

@@ -1,5 +1,8 @@
 //! What no clause says: that the calls succeed where memory is left, and worked transfers.
 
+mod list_audio;
+mod list_port;
+
 use crate::{BytesSink, BytesSource, InputFault, READ, WRITE, read_all, write_whole};
 use std::alloc::{AllocError, Global};
 use std::test::Fail;

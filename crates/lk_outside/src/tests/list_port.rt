@@ -1,0 +1,267 @@
+//! A port in memory: which calls fail, and what stands after each.
+
+ghost use Rattle.std.specs.Prelude.{◌≤◌, length, All, IfOk};
+ghost use Rattle.lk_base.specs.Ranges.{IsMoment};
+ghost use Rattle.lk_outside.specs.Coming.{IsToCome};
+
+use crate::{Arrival, BIND, Bound, ListPort, Port, Posted, RECEIVE, SEND};
+use lk_base::{Endpoint, Gate, Wire};
+use std::alloc::{AllocError, Global};
+use std::process::Abort;
+use std::test::Fail;
+
+const HERE: Endpoint = Endpoint {
+    addr: 0x7F00_0001,
+    port: 5001,
+};
+
+const THERE: Endpoint = Endpoint {
+    addr: 0x7F00_0001,
+    port: 5002,
+};
+
+const AWAY: Endpoint = Endpoint {
+    addr: 0x0A00_0001,
+    port: 6001,
+};
+
+// What a receive answered: the gate, the first byte and the moment of a datagram, or another answer.
+#[derive(Clone, Copy, Debug, PartialEq, Eq)]
+enum Answer {
+    Came(u8, Option<u8>, i64),
+    Waited(i64),
+    Closed,
+    Failed,
+}
+
+fn answer_of(arrival: &Arrival) -> Answer {
+    match arrival {
+        Arrival::Datagram {
+            gate,
+            bytes,
+            now,
+            ..
+        } => Answer::Came(gate.0, bytes.first().copied(), *now),
+        Arrival::Idle(now) => Answer::Waited(*now),
+        Arrival::Closed => Answer::Closed,
+        Arrival::Failed => Answer::Failed,
+    }
+}
+
+// A datagram of one byte.
+fn datagram(gate: u8, byte: u8, now: i64) -> Arrival
+    requires { IsMoment now }
+    ensures { IsToCome result }
+{
+    let mut bytes = Wire::new();
+    bytes.push(byte);
+    Arrival::Datagram {
+        gate: Gate(gate),
+        from: AWAY,
+        bytes,
+        now,
+    }
+}
+
+// A datagram on gate 0 at 5, time alone until 7 and a datagram on gate 1 at 9.
+fn three_arrivals(alloc: Global) -> Result<Vec<Arrival>, AllocError>
+    ensures { IfOk result (λ arrivals. All IsToCome arrivals.items) }
+{
+    Ok(vec![in alloc;
+        datagram(0, b'a', 5),
+        Arrival::Idle(7),
+        datagram(1, b'b', 9),
+    ]?)
+}
+
+// Receives once for each of these answers.
+fn expect_answers(rt: &impl Abort, port: &mut ListPort, want: &[Answer]) {
+    for (k, answer) in want.iter().enumerate() {
+        assert!(rt; !port.gates().is_empty());
+        assert_eq!(rt; answer_of(&port.receive(0)), *answer, "at receive {k}");
+    }
+}
+
+// Sends one byte after the other on gate 0, each with its answer.
+fn expect_sends(rt: &impl Abort, port: &mut ListPort, want: &[(u8, Posted)]) {
+    for (byte, answer) in want {
+        assert!(rt; !port.gates().is_empty());
+        assert_eq!(rt;
+            port.send(Gate(0), AWAY, &[*byte]),
+            *answer,
+            "at byte {byte}"
+        );
+    }
+}
+
+// Binds these gates: whether that fails, and the gates bound afterwards.
+fn expect_gates(rt: &impl Abort, port: &mut ListPort, gates: &[Endpoint], want: (bool, &[Endpoint]))
+    requires { (1 ≤ length gates.now) × (length gates.now ≤ 4) }
+{
+    let fails = port.bind(gates) == Bound::Failed;
+    assert_eq!(rt; fails, want.0);
+    assert_eq!(rt; port.gates(), want.1);
+}
+
+// How many arrivals were given, datagrams posted and calls failed.
+fn expect_counts(rt: &impl Abort, port: &ListPort, want: (usize, usize, u64)) {
+    let counts = (port.given().len(), port.posts().len(), port.fault_count());
+    assert_eq!(rt; counts, want);
+}
+
+// One post a byte, each from gate 0.
+fn expect_posts(rt: &impl Abort, port: &ListPort, want: &[u8]) {
+    assert_eq!(rt; port.posts().len(), want.len());
+    for (post, byte) in port.posts().iter().zip(want) {
+        assert_eq!(rt; (post.gate, post.to), (Gate(0), AWAY));
+        assert_eq!(rt; post.bytes.as_slice(), [*byte].as_slice());
+    }
+}
+
+// A port whose call of this kind and number fails.
+fn port_of(
+    alloc: Global,
+    arrivals: Vec<Arrival>,
+    room: usize,
+    failing: (u8, u64),
+) -> Result<ListPort, AllocError>
+    requires { All IsToCome arrivals.items }
+{
+    ListPort::new(alloc, arrivals, room, vec![in alloc; failing]?)
+}
+
+#[test]
+fn a_failing_bind_leaves_the_gates_of_before(rt: HostRuntime) -> Result<(), Fail> {
+    let alloc = rt.alloc();
+    let one = [HERE].as_slice();
+    let two = [HERE, THERE].as_slice();
+    let other = [AWAY].as_slice();
+    // The bind that fails, and the gates after each of three.
+    for (call, first, second, third) in [
+        (1, [].as_slice(), two, other),
+        (2, one, one, other),
+        (3, one, two, two),
+    ] {
+        let mut port = port_of(alloc, Vec::new(alloc), 0, (BIND, call))?;
+        expect_gates(&rt, &mut port, &[HERE], (call == 1, first));
+        expect_gates(&rt, &mut port, &[HERE, THERE], (call == 2, second));
+        expect_gates(&rt, &mut port, &[AWAY], (call == 3, third));
+        expect_counts(&rt, &port, (0, 0, 1));
+    }
+    Ok(())
+}
+
+#[test]
+fn a_failing_receive_takes_nothing(rt: HostRuntime) -> Result<(), Fail> {
+    let alloc = rt.alloc();
+    let first = Answer::Came(0, Some(b'a'), 5);
+    let second = Answer::Waited(7);
+    let third = Answer::Came(1, Some(b'b'), 9);
+    // The receive that fails, and the answers of the first four.
+    for (call, answers) in [
+        (1, [Answer::Failed, first, second, third]),
+        (2, [first, Answer::Failed, second, third]),
+        (3, [first, second, Answer::Failed, third]),
+    ] {
+        let mut port = port_of(alloc, three_arrivals(alloc)?, 0, (RECEIVE, call))?;
+        expect_gates(&rt, &mut port, &[HERE, THERE], (false, &[HERE, THERE]));
+        expect_answers(&rt, &mut port, &answers[..3]);
+        // One of the three receives failed.
+        expect_counts(&rt, &port, (2, 0, 1));
+        expect_answers(&rt, &mut port, &answers[3..]);
+        expect_counts(&rt, &port, (3, 0, 1));
+    }
+    Ok(())
+}
+
+#[test]
+fn a_failing_send_posts_nothing(rt: HostRuntime) -> Result<(), Fail> {
+    let alloc = rt.alloc();
+    let (sent, failed) = (Posted::Sent, Posted::Failed);
+    // The send that fails, the answers to a, b and c, and the bytes posted.
+    for (call, answers, posted) in [
+        (1, [(b'a', failed), (b'b', sent), (b'c', sent)], b"bc"),
+        (2, [(b'a', sent), (b'b', failed), (b'c', sent)], b"ac"),
+        (3, [(b'a', sent), (b'b', sent), (b'c', failed)], b"ab"),
+    ] {
+        let mut port = port_of(alloc, Vec::new(alloc), 3, (SEND, call))?;
+        expect_gates(&rt, &mut port, &[HERE], (false, &[HERE]));
+        expect_sends(&rt, &mut port, &answers);
+        expect_posts(&rt, &port, posted);
+        expect_counts(&rt, &port, (0, 2, 1));
+    }
+    Ok(())
+}
+
+#[test]
+fn a_datagram_waits_until_its_gate_is_bound(rt: HostRuntime) -> Result<(), Fail> {
+    let alloc = rt.alloc();
+    let arrivals = vec![in alloc; datagram(1, b'b', 9)]?;
+    let mut port = ListPort::new(alloc, arrivals, 0, Vec::new(alloc))?;
+    expect_gates(&rt, &mut port, &[HERE], (false, &[HERE]));
+    expect_answers(&rt, &mut port, &[Answer::Failed, Answer::Failed]);
+    expect_counts(&rt, &port, (0, 0, 2));
+    expect_gates(&rt, &mut port, &[HERE, THERE], (false, &[HERE, THERE]));
+    expect_answers(&rt, &mut port, &[Answer::Came(1, Some(b'b'), 9)]);
+    expect_counts(&rt, &port, (1, 0, 2));
+    Ok(())
+}
+
+#[test]
+fn a_port_without_arrivals_is_closed_again_and_again(rt: HostRuntime) -> Result<(), Fail> {
+    let alloc = rt.alloc();
+    let mut port = ListPort::new(alloc, Vec::new(alloc), 0, Vec::new(alloc))?;
+    expect_gates(&rt, &mut port, &[HERE], (false, &[HERE]));
+    expect_answers(
+        &rt,
+        &mut port,
+        &[Answer::Closed, Answer::Closed, Answer::Closed],
+    );
+    expect_counts(&rt, &port, (0, 0, 0));
+    Ok(())
+}
+
+#[test]
+fn a_send_without_room_fails(rt: HostRuntime) -> Result<(), Fail> {
+    let alloc = rt.alloc();
+    let (sent, failed) = (Posted::Sent, Posted::Failed);
+    // The room, the answers to a, b and c, the posts and the faults.
+    for (room, answers, posts, faults) in [
+        (0, [(b'a', failed), (b'b', failed), (b'c', failed)], 0, 3),
+        (1, [(b'a', sent), (b'b', failed), (b'c', failed)], 1, 2),
+        (2, [(b'a', sent), (b'b', sent), (b'c', failed)], 2, 1),
+        (3, [(b'a', sent), (b'b', sent), (b'c', sent)], 3, 0),
+    ] {
+        let mut port = ListPort::new(alloc, Vec::new(alloc), room, Vec::new(alloc))?;
+        expect_gates(&rt, &mut port, &[HERE], (false, &[HERE]));
+        expect_sends(&rt, &mut port, &answers);
+        expect_counts(&rt, &port, (0, posts, faults));
+    }
+    Ok(())
+}
+
+// Sends these bytes, and they alone are posted.
+fn expect_sent(rt: &impl Abort, port: &mut ListPort, bytes: &[u8], want: Posted) {
+    assert!(rt; !port.gates().is_empty());
+    assert_eq!(rt; port.send(Gate(0), AWAY, bytes), want);
+    for post in port.posts() {
+        assert_eq!(rt; post.bytes.as_slice(), bytes);
+    }
+}
+
+#[test]
+fn a_datagram_of_514_bytes_is_too_long(rt: HostRuntime) -> Result<(), Fail> {
+    let alloc = rt.alloc();
+    // The length, the answer, the posts and the faults.
+    for (length, answer, posts, faults) in [
+        (0, Posted::Sent, 1, 0),
+        (513, Posted::Sent, 1, 0),
+        (514, Posted::Failed, 0, 1),
+    ] {
+        let mut port = ListPort::new(alloc, Vec::new(alloc), 1, Vec::new(alloc))?;
+        expect_gates(&rt, &mut port, &[HERE], (false, &[HERE]));
+        expect_sent(&rt, &mut port, &vec![in alloc; 7u8; length]?, answer);
+        expect_counts(&rt, &port, (0, posts, faults));
+    }
+    Ok(())
+}
