@@ -172,7 +172,7 @@ one_of command exclusive once words input input' out out' (status.TooLong limit)
     ap end_past (same_limit ∙ sym same_limit')
 
 pub replay_exclusive : AreExclusive replay_command
-replay_exclusive text output line fault (config, now, es, script, same) = fault.1 config now es script
+replay_exclusive text output line fault (config, now, es, script, same) = fault.1 (config, now, es, script)
 
 pub decode_exclusive : AreExclusive decode_command
 decode_exclusive text output line fault whole = bad_and_decoded text output line fault whole

@@ -22,7 +22,7 @@ use Rattle.link_text.proofs.CommitLemmas.{t_is_no_s}
 use Rattle.link_text.proofs.EventLemmas.{line_words, moment_within, tempo_within}
 use Rattle.link_text.proofs.HeadLemmas.{endpoint_one, truth_one, mag_less, first_differs}
 
-signed_one : (m n : ℤ) → IsWithinLimit m → IsWithinLimit n → signed_decimal m ≡ signed_decimal n → m ≡ n
+pub signed_one : (m n : ℤ) → IsWithinLimit m → IsWithinLimit n → signed_decimal m ≡ signed_decimal n → m ≡ n
 signed_one m n small_m small_n same = signed_decimal_injective m n (mag_less m small_m) (mag_less n small_n) same
 
 -- ---- commits

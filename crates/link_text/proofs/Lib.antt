@@ -6,11 +6,14 @@ mod NumberLemmas
 mod EndpointLemmas
 mod LineWordLemmas
 mod PlaceLemmas
+mod FirstFaultLemmas
 mod CommitLemmas
 mod EventLemmas
 mod HeadLemmas
 mod EventUniqueLemmas
 mod ScriptLemmas
+mod LiveLineLemmas
+mod LiveLemmas
 mod NextLemmas
 mod WrittenHeadLemmas
 mod WrittenScriptLemmas

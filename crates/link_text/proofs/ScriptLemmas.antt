@@ -2,7 +2,7 @@
 use Rattle.std.proofs.Common.{◌≡◌, ◌⊎◌, inl, inr, refl, sym, ◌∙◌, ap, subst, arith, rules, ℤ, pos, ℕ, ◌+◌, ◌-◌, ◌≤◌, ◌^◌, false, List, [], ◌∷◌, ◌++◌, length, map, drop}
 use Rattle.std.specs.List.{All, flat_map}
 use Rattle.std.proofs.lemmas.Int.{ints}
-use Rattle.std.proofs.lemmas.List.{append_assoc, append-nil, append_cancel_right}
+use Rattle.std.proofs.lemmas.List.{append_assoc, append-nil}
 use Rattle.std.proofs.lemmas.List.Concat.{flat_map-cons}
 use Rattle.std.proofs.lemmas.List.Elements.{All-head, All-nil, All-push}
 use Rattle.lk_base.specs.Endpoint.{IsEndpoint}
@@ -14,130 +14,42 @@ use Rattle.link_text.specs.declared.head_read.Node.{Node}
 use Rattle.link_text.specs.declared.place.Place.{Place}
 use Rattle.link_text.specs.HeadParts.{gate_line, to_line, config_of, IsNode, LacksTo, LacksGate, AreFull}
 use Rattle.link_text.specs.Places.{IsAhead, HasEvents, HasBadEvent, counting_from, audio_of}
-use Rattle.link_text.specs.ReplayScript.{IsHead, IsGate, IsEventLine, AreEventLines, IsScript, IsNoScript, BeginsScript, IsFirstFault, IsLineFault, IsChecked, version_line, node_line, gate_lines, head_lines}
-use Rattle.link_text.proofs.PlaceLemmas.{counting-append, counting_counted}
+use Rattle.link_text.specs.ReplayScript.{IsHead, IsGate, IsEventLine, AreEventLines, IsScript, IsSomeScript, IsLineFault, IsChecked, version_line, node_line, gate_lines, head_lines}
+use Rattle.link_text.proofs.FirstFaultLemmas as faults
+use Rattle.link_text.proofs.FirstFaultLemmas.{IsCounted, BeginAlike, alike_first, line_fault}
 use Rattle.link_text.proofs.HeadLemmas.{lacks_gate_as, AreOneNode, node_one, gates_one, opened, gate_no_to, events_no_gate, events_no_to, full_events}
 use Rattle.link_text.proofs.EventUniqueLemmas.{event_among, events_push, audio_push}
 
 -- ---- how lines go on to a script
 
-pub record Continues (said more : List (List ℕ)) : Type 0 where
+-- the lines that count are those of a script
+pub record SaysScript (lines : List (List ℕ)) : Type 0 where
   pub config : ConfigValue
   pub now : ℤ
   pub es : List EventValue
   pub rest : List (List ℕ)
   pub head : IsHead config now
-  pub lines : said ++ more ≡ head_lines config now ++ rest
+  pub lines_are : lines ≡ head_lines config now ++ rest
   pub events : AreEventLines (length config.gates) 0 rest es
 
--- some lines that count make a script of these
-pub record Starts (said : List (List ℕ)) : Type 0 where
-  pub more : List (List ℕ)
-  pub goes : Continues said more
-  pub counts : counting_in more ≡ more
-
--- both lists are empty, or they begin with one line
-abbrev pub BeginAlike : List (List ℕ) → List (List ℕ) → Type 0
-BeginAlike lines more = ((lines ≡ []) × (more ≡ [])) ⊎ ((x : List ℕ) × (xs : List (List ℕ)) × (ys : List (List ℕ)) × (lines ≡ x ∷ xs) × (more ≡ x ∷ ys))
-
-alike_first : (lines more : List (List ℕ)) (y : List ℕ) (ys : List (List ℕ)) → BeginAlike lines more → more ≡ y ∷ ys
-    → (rest : List (List ℕ)) × (lines ≡ y ∷ rest)
-alike_first lines more y ys (inl none) is = absurd (differ (sym none.1 ∙ is))
-  where
-    differ : [] ≡ y ∷ ys → ⊥
-    differ h = cc
-alike_first lines more y ys (inr (x, xs, zs, first, second)) is =
-    let one : x ≡ y = cc (second, is) in
-    (xs, first ∙ ap (λ (l : List ℕ). l ∷ xs) one)
-
--- ---- faults
-
-pub no_script : (text : List ℕ) (k : ℕ) → IsFirstFault text k → IsNoScript text
-no_script text k (inl at) config now es s =
-    at.fault (record {
-      config = config;
-      now = now;
-      es = es;
-      rest = at.after;
-      script = subst (λ (lines : List (List ℕ)). IsScript lines config now es) (at.split ∙ sym (append_assoc at.before (at.line ∷ []) at.after)) s;
-    })
-no_script text k (inr short) config now es s = short.fault config now es s
-
-pub counted : (text : List ℕ) (place : Place) (said : List (List ℕ)) (ahead : IsAhead text place)
-    → counting_in (lines_of text) ≡ said ++ counting_from text place.at → counting_in ahead.before ≡ said
-counted text place said ahead is =
-    append_cancel_right (counting_in ahead.before) said (counting_from text place.at)
-    (sym (counting-append ahead.before (lines_of (drop place.at text))) ∙ sym (ap counting_in ahead.lines) ∙ is)
-
-begins : (before said : List (List ℕ)) → counting_in before ≡ said → Starts said → BeginsScript before
-begins before said is starts = record {
-  config = starts.goes.config;
-  now = starts.goes.now;
-  es = starts.goes.es;
-  rest = starts.more;
-  script = record {
-    head = starts.goes.head;
-    rest = starts.goes.rest;
-    said = counting-append before starts.more ∙ ap (λ (ls : List (List ℕ)). ls ++ counting_in starts.more) is
-        ∙ ap (λ (ls : List (List ℕ)). said ++ ls) starts.counts ∙ starts.goes.lines;
-    events = starts.goes.events;
-  };
+script_counted : IsCounted IsSomeScript SaysScript
+script_counted = record {
+  says = λ lines (config, now, es, s). record { config = config; now = now; es = es; rest = s.rest; head = s.head; lines_are = s.said; events = s.events };
+  is_text = λ lines s. (s.config, s.now, s.es, record { head = s.head; rest = s.rest; said = s.lines_are; events = s.events });
 }
 
-fault_by : (text : List ℕ) (place : Place) (said there : List (List ℕ)) → length text ≤ 2 ^ 32 - 2 → (ahead : IsAhead text place)
-    → counting_in (lines_of text) ≡ said ++ counting_from text place.at → Starts said
-    → ((more : List (List ℕ)) → BeginAlike (counting_from text place.at) more → Continues said more → ⊥)
-    → lines_of (drop place.at text) ≡ there → IsFirstFault text place.number
-fault_by text place said [] short ahead is starts none lines =
-    let whole : lines_of text ≡ ahead.before = ahead.lines ∙ ap (λ (ls : List (List ℕ)). ahead.before ++ ls) lines ∙ append-nil ahead.before in
-    inr (record {
-      number = ahead.numbered ∙ ap (λ (ls : List (List ℕ)). length ls + 1) (sym whole);
-      begins = subst BeginsScript (sym whole) (begins ahead.before said (counted text place said ahead is) starts);
-      fault = λ config now es s. none [] (inl (ap counting_in lines, refl)) (record {
-        config = config;
-        now = now;
-        es = es;
-        rest = s.rest;
-        head = s.head;
-        lines = ap (λ (ls : List (List ℕ)). said ++ ls) (sym (ap counting_in lines)) ∙ sym is ∙ s.said;
-        events = s.events;
-      });
-    })
-fault_by text place said (x ∷ after) short ahead is starts none lines =
-    let counts = ahead.stops x after lines in
-    let here : counting_from text place.at ≡ x ∷ counting_in after = ap counting_in lines ∙ counting_counted x after counts in
-    inl (record {
-      before = ahead.before;
-      line = x;
-      after = after;
-      split = ahead.lines ∙ ap (λ (ls : List (List ℕ)). ahead.before ++ ls) lines;
-      number = ahead.numbered;
-      begins = begins ahead.before said (counted text place said ahead is) starts;
-      fault = λ b. none (x ∷ counting_in b.rest) (inr (x, counting_in after, counting_in b.rest, here, refl)) (record {
-        config = b.config;
-        now = b.now;
-        es = b.es;
-        rest = b.script.rest;
-        head = b.script.head;
-        lines = going b ∙ b.script.said;
-        events = b.script.events;
-      });
-    })
-  where
-    going : (b : BeginsScript (ahead.before ++ x ∷ [])) → said ++ x ∷ counting_in b.rest ≡ counting_in ((ahead.before ++ x ∷ []) ++ b.rest)
-    going b =
-        ap (λ (ls : List (List ℕ)). ls ++ x ∷ counting_in b.rest) (sym (counted text place said ahead is))
-        ∙ ap (λ (ls : List (List ℕ)). counting_in ahead.before ++ ls) (sym (counting_counted x b.rest (ahead.stops x after lines)))
-        ∙ sym (counting-append ahead.before (x ∷ b.rest))
-        ∙ ap counting_in (sym (append_assoc ahead.before (x ∷ []) b.rest))
+abbrev Continues : List (List ℕ) → List (List ℕ) → Type 0
+Continues said more = SaysScript (said ++ more)
+
+abbrev pub Starts : List (List ℕ) → Type 0
+Starts said = faults.Starts SaysScript said
 
 pub fault_here : (text : List ℕ) (place : Place) (said : List (List ℕ)) → length text ≤ 2 ^ 32 - 2 → (ahead : IsAhead text place)
     → counting_in (lines_of text) ≡ said ++ counting_from text place.at → Starts said
     → ((more : List (List ℕ)) → BeginAlike (counting_from text place.at) more → Continues said more → ⊥)
     → IsLineFault text place.number
 fault_here text place said short ahead is starts none =
-    let first = fault_by text place said (lines_of (drop place.at text)) short ahead is starts none refl in
-    record { first = first; none = no_script text place.number first; counted = omega (arith, ahead.small, ahead.within) }
+    line_fault IsSomeScript SaysScript text place said script_counted short ahead is starts none
 
 -- ---- lines of heads
 
@@ -154,10 +66,10 @@ node_in_head config now is = record {
   moment = is.moment;
 }
 
-abbrev some_gate : GateValue
+abbrev pub some_gate : GateValue
 some_gate = record { local = record { addr = 0; port = 0 }; destinations = [] }
 
-some_gate_is : IsGate some_gate
+pub some_gate_is : IsGate some_gate
 some_gate_is = record { local = (omega arith, omega arith); few = omega arith; destinations = All-nil IsEndpoint }
 
 abbrev one_gate : ConfigValue → ConfigValue
@@ -172,7 +84,7 @@ one_gate_is config now is = record {
   moment = is.moment;
 }
 
-some_gate_lines : flat_map gate_lines (some_gate ∷ []) ≡ gate_line (record { addr = 0; port = 0 }) ∷ []
+pub some_gate_lines : flat_map gate_lines (some_gate ∷ []) ≡ gate_line (record { addr = 0; port = 0 }) ∷ []
 some_gate_lines = flat_map-cons gate_lines some_gate [] ∙ append-nil (gate_lines some_gate)
 
 abbrev some_node : ConfigValue
@@ -202,7 +114,7 @@ goes_on config now said more is lines = record {
   es = [];
   rest = [];
   head = one_gate_is config now is;
-  lines = lines ∙ ap (λ (ls : List (List ℕ)). version_line ∷ node_line config now ∷ ls) (sym some_gate_lines)
+  lines_are = lines ∙ ap (λ (ls : List (List ℕ)). version_line ∷ node_line config now ∷ ls) (sym some_gate_lines)
       ∙ sym (head_open (one_gate config) now) ∙ sym (append-nil (head_lines (one_gate config) now));
   events = tt;
 }
@@ -232,7 +144,7 @@ pub starts_events : (config : ConfigValue) (now : ℤ) (lines : List (List ℕ))
     → AreEventLines (length config.gates) 0 lines es → Starts (head_lines config now ++ lines)
 starts_events config now lines es head are = record {
   more = [];
-  goes = record { config = config; now = now; es = es; rest = lines; head = head; lines = append-nil (head_lines config now ++ lines); events = are };
+  goes = record { config = config; now = now; es = es; rest = lines; head = head; lines_are = append-nil (head_lines config now ++ lines); events = are };
   counts = refl;
 }
 
@@ -241,19 +153,19 @@ starts_events config now lines es head are = record {
 pub no_version : (lines : List (List ℕ)) → ((rest : List (List ℕ)) → lines ≡ version_line ∷ rest → ⊥)
     → (more : List (List ℕ)) → BeginAlike lines more → Continues [] more → ⊥
 no_version lines none more alike goes =
-    let first = goes.lines ∙ ap (λ (ls : List (List ℕ)). ls ++ goes.rest) (head_open goes.config goes.now) in
+    let first = goes.lines_are ∙ ap (λ (ls : List (List ℕ)). ls ++ goes.rest) (head_open goes.config goes.now) in
     let there = alike_first lines more version_line (node_line goes.config goes.now ∷ (flat_map gate_lines goes.config.gates ++ goes.rest)) alike first in
     none there.0 there.1
 
 pub no_node : (lines : List (List ℕ)) → ((config : ConfigValue) (now : ℤ) (rest : List (List ℕ)) → IsNode config now → lines ≡ node_line config now ∷ rest → ⊥)
     → (more : List (List ℕ)) → BeginAlike lines more → Continues (version_line ∷ []) more → ⊥
 no_node lines none more alike goes =
-    let both = goes.lines ∙ ap (λ (ls : List (List ℕ)). ls ++ goes.rest) (head_open goes.config goes.now) in
+    let both = goes.lines_are ∙ ap (λ (ls : List (List ℕ)). ls ++ goes.rest) (head_open goes.config goes.now) in
     let first : more ≡ node_line goes.config goes.now ∷ (flat_map gate_lines goes.config.gates ++ goes.rest) = cc both in
     let there = alike_first lines more (node_line goes.config goes.now) (flat_map gate_lines goes.config.gates ++ goes.rest) alike first in
     none goes.config goes.now there.0 (node_in_head goes.config goes.now goes.head) there.1
 
-some_first : (gates : List GateValue) (rest : List (List ℕ)) → 1 ≤ length gates → All IsGate gates
+pub some_first : (gates : List GateValue) (rest : List (List ℕ)) → 1 ≤ length gates → All IsGate gates
     → (e : Endpoint) × (ls : List (List ℕ)) × IsEndpoint e × (flat_map gate_lines gates ++ rest ≡ gate_line e ∷ ls)
 some_first [] rest some each = absurd (omega arith)
 some_first (g ∷ gates) rest some each =
@@ -263,7 +175,7 @@ pub no_gate : (lines : List (List ℕ)) (config : ConfigValue) (now : ℤ) → L
     → (more : List (List ℕ)) → BeginAlike lines more → Continues (version_line ∷ node_line config now ∷ []) more → ⊥
 no_gate lines config now (inr full) more alike goes = omega arith
 no_gate lines config now (inl none) more alike goes =
-    let all = goes.lines ∙ ap (λ (ls : List (List ℕ)). ls ++ goes.rest) (head_open goes.config goes.now) in
+    let all = goes.lines_are ∙ ap (λ (ls : List (List ℕ)). ls ++ goes.rest) (head_open goes.config goes.now) in
     let gates : more ≡ flat_map gate_lines goes.config.gates ++ goes.rest = cc all in
     let first = some_first goes.config.gates goes.rest goes.head.opens.some_gate goes.head.gates in
     let there = alike_first lines more (gate_line first.0) first.1 alike (gates ∙ first.3) in
@@ -279,11 +191,11 @@ lacks_to_alike : (count : ℕ) (x : List ℕ) (xs ys : List (List ℕ)) → Lack
 lacks_to_alike count x xs ys (inl none) = inl (λ e more range same. none e xs range (ap (λ (l : List ℕ). l ∷ xs) (head_same x ys (to_line e) more same)))
 lacks_to_alike count x xs ys (inr full) = inr full
 
-lacks_gate_alike : (count : ℕ) (x : List ℕ) (xs ys : List (List ℕ)) → LacksGate count (x ∷ xs) → LacksGate count (x ∷ ys)
+pub lacks_gate_alike : (count : ℕ) (x : List ℕ) (xs ys : List (List ℕ)) → LacksGate count (x ∷ xs) → LacksGate count (x ∷ ys)
 lacks_gate_alike count x xs ys (inl none) = inl (λ e more range same. none e xs range (ap (λ (l : List ℕ). l ∷ xs) (head_same x ys (gate_line e) more same)))
 lacks_gate_alike count x xs ys (inr full) = inr full
 
-full_alike : (gates : List GateValue) (x : List ℕ) (xs ys : List (List ℕ)) → AreFull gates (x ∷ xs) → AreFull gates (x ∷ ys)
+pub full_alike : (gates : List GateValue) (x : List ℕ) (xs ys : List (List ℕ)) → AreFull gates (x ∷ xs) → AreFull gates (x ∷ ys)
 full_alike [] x xs ys full = tt
 full_alike (g ∷ []) x xs ys full = (lacks_to_alike (length g.destinations) x xs ys full.0, tt)
 full_alike (g ∷ h ∷ gates) x xs ys full =
@@ -344,7 +256,7 @@ no_event c now said lines x xs es is full lacks there are none more (inr (y, zs,
     (subst (λ (ls : List (List ℕ)). AreFull c.gates (said ++ ls)) there full)
     (subst (λ (ls : List (List ℕ)). LacksGate (length c.gates) (said ++ ls)) there lacks)
     are none
-    (sym (append_assoc (head_lines c now) said (x ∷ bs)) ∙ ap (λ (ls : List (List ℕ)). (head_lines c now ++ said) ++ ls) (sym more_is) ∙ goes.lines) goes.events
+    (sym (append_assoc (head_lines c now) said (x ∷ bs)) ∙ ap (λ (ls : List (List ℕ)). (head_lines c now ++ said) ++ ls) (sym more_is) ∙ goes.lines_are) goes.events
 
 -- ---- the whole script
 

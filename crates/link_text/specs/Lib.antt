@@ -5,10 +5,13 @@ pub mod Line
 pub mod Spaced
 pub mod GateLines
 pub mod ReadingLine
+pub mod FirstFault
 pub mod ReplayScript
+pub mod LiveScript
 pub mod EventDetails
 pub mod HeadParts
 pub mod Places
+pub mod LiveParts
 pub mod ReplayText
 pub mod LoadRun
 pub mod Load

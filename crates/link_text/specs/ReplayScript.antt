@@ -14,6 +14,7 @@ use Rattle.client_state.specs.declared.commit.Commit.{Commit}
 use Rattle.link_node.specs.Config.{ConfigValue, GateValue, IsConfig}
 use Rattle.link_node.specs.Event.{EventValue, Rx, Tick, App, Audio, End, moment_of, audio_after}
 use Rattle.link_text.specs.Lines.{lines_of, counting_in}
+use Rattle.link_text.specs.FirstFault as faults
 use Rattle.link_text.specs.Words.{joined, truth_text_of, endpoint_text_of}
 
 -- ---- the head
@@ -122,44 +123,31 @@ pub record IsScript (lines : List (List ℕ)) (config : ConfigValue) (now : ℤ)
 abbrev pub IsScriptOf : List ℕ → ConfigValue → ℤ → List EventValue → Type 0
 IsScriptOf text config now es = IsScript (lines_of text) config now es
 
+-- some config, opening moment and events are said by these lines
+abbrev pub IsSomeScript : List (List ℕ) → Type 0
+IsSomeScript lines = (config : ConfigValue) × (now : ℤ) × (es : List EventValue) × IsScript lines config now es
+
 -- the text is no script
 abbrev pub IsNoScript : List ℕ → Type 0
-IsNoScript text = (config : ConfigValue) (now : ℤ) (es : List EventValue) → IsScriptOf text config now es → ⊥
+IsNoScript text = faults.IsNone IsSomeScript text
 
 -- ---- the first line at fault
 
--- some script begins with these lines
-pub record BeginsScript (lines : List (List ℕ)) : Type 0 where
-  pub config : ConfigValue
-  pub now : ℤ
-  pub es : List EventValue
-  pub rest : List (List ℕ)
-  pub script : IsScript (lines ++ rest) config now es
+abbrev pub BeginsScript : List (List ℕ) → Type 0
+BeginsScript lines = faults.Begins IsSomeScript lines
 
--- the lines before begin a script, and with this line they begin none
-pub record IsFaultAt (lines : List (List ℕ)) (k : ℕ) : Type 0 where
-  pub before : List (List ℕ)
-  pub line : List ℕ
-  pub after : List (List ℕ)
-  pub split : lines ≡ before ++ line ∷ after
-  pub number : k ≡ length before + 1
-  pub begins : BeginsScript before
-  pub fault : BeginsScript (before ++ line ∷ []) → ⊥
+abbrev pub IsFaultAt : List (List ℕ) → ℕ → Type 0
+IsFaultAt lines k = faults.IsFaultAt IsSomeScript lines k
 
--- the lines begin a script, and a line that it needs is absent
-pub record IsCutShort (lines : List (List ℕ)) (k : ℕ) : Type 0 where
-  pub number : k ≡ length lines + 1
-  pub begins : BeginsScript lines
-  pub fault : (config : ConfigValue) (now : ℤ) (es : List EventValue) → IsScript lines config now es → ⊥
+abbrev pub IsCutShort : List (List ℕ) → ℕ → Type 0
+IsCutShort lines k = faults.IsCutShort IsSomeScript lines k
 
 -- the first line at fault, counted from 1, those passed over among them
 abbrev pub IsFirstFault : List ℕ → ℕ → Type 0
-IsFirstFault text k = IsFaultAt (lines_of text) k ⊎ IsCutShort (lines_of text) k
+IsFirstFault text k = faults.IsFirstFault IsSomeScript text k
 
-pub record IsLineFault (text : List ℕ) (k : ℕ) : Type 0 where
-  pub first : IsFirstFault text k
-  pub none : IsNoScript text
-  pub counted : k < 2 ^ 32
+abbrev pub IsLineFault : List ℕ → ℕ → Type 0
+IsLineFault text k = faults.IsLineFault IsSomeScript text k
 
 -- ---- from a place on
 

@@ -1,11 +1,15 @@
 //! Laws of scripts and of loads, for what stands above: to call one is to know it.
 
-ghost use Rattle.std.specs.Prelude.{◌≡◌, ◌≤◌, ◌<◌, ◌+◌, ◌^◌, ℕ, ℤ, List, length};
-ghost use Rattle.link_node.specs.Config.{ConfigValue};
+ghost use Rattle.std.specs.Prelude.{◌≡◌, ◌≤◌, ◌<◌, ◌+◌, ◌^◌, ℕ, ℤ, Bool, List, length};
+ghost use Rattle.link_node.specs.Config.{ConfigValue, GateValue};
 ghost use Rattle.link_node.specs.Event.{EventValue};
 ghost use Rattle.link_node.specs.Runs.{AreFitting};
+ghost use Rattle.link_text.specs.Lines.{lines_of};
+ghost use Rattle.link_text.specs.LiveScript.{Command, IsFirstLiveFault, IsLiveScript, IsLiveText};
 ghost use Rattle.link_text.specs.Load.{HasOneLoadText};
 ghost use Rattle.link_text.specs.ReplayScript.{IsHead, IsScriptOf, IsFirstFault, IsNoScript, AreSayable, SaysFrom, written_script_of};
+ghost use Rattle.link_text.specs.declared.live_script.AppCommand.{AppCommand};
+ghost use Rattle.link_text.specs.declared.live_script.BlockCommand.{BlockCommand};
 
 /// What is written for a node and its events is a script of just that node and those events.
 pub fn written_scripts_are_read()
@@ -32,4 +36,17 @@ pub fn scripts_fit_nodes()
 /// What is told of a load, whose commits follow the states that its node shows, goes by its seed and its number of events.
 pub fn one_load_text()
     ensures { HasOneLoadText }
+{}
+
+/// A text says one setup and one list of commands at most, so one list of each kind, and one line of a text outside the grammar of live
+/// scripts is the first at fault.
+pub fn one_live_script()
+    ensures script { (text : List ℕ) (m n : ℤ) (s t : Bool) (gs hs : List GateValue) (cs ds : List Command)
+        → IsLiveScript (lines_of text) m s gs cs → IsLiveScript (lines_of text) n t hs ds → (m ≡ n) × (s ≡ t) × (gs ≡ hs) × (cs ≡ ds) }
+    ensures lists { (text : List ℕ) (m n : ℤ) (s t : Bool) (gs hs : List GateValue) (apps others : List AppCommand)
+        (blocks further : List BlockCommand) → IsLiveText text m s gs apps blocks → IsLiveText text n t hs others further
+        → (m ≡ n) × (s ≡ t) × (gs ≡ hs) × (apps ≡ others) × (blocks ≡ further) }
+    ensures fault { (text : List ℕ) (k j : ℕ) → IsFirstLiveFault text k → IsFirstLiveFault text j → k ≡ j }
+    ensures no_fault { (text : List ℕ) (k : ℕ) (m : ℤ) (s : Bool) (gs : List GateValue) (apps : List AppCommand)
+        (blocks : List BlockCommand) → IsFirstLiveFault text k → IsLiveText text m s gs apps blocks → ⊥ }
 {}

@@ -1,4 +1,4 @@
-//! Why a line of a replay script is at fault, for people: only that it is safe is proved of it.
+//! Why a line of a script is at fault, for people: only that it is safe is proved of it.
 
 ghost use Rattle.std.specs.Prelude.{◌≤◌, ◌<◌, ◌-◌, ◌^◌, length};
 
@@ -38,55 +38,78 @@ impl fmt::Display for Reason {
     }
 }
 
+/// What a script says besides its gates.
+#[derive(Clone, Copy, Debug, PartialEq, Eq)]
+enum Kind {
+    /// A node, and events.
+    Replay,
+    /// A setup, and commands.
+    Live,
+}
+
 /// What a script has on its next line.
 #[derive(Clone, Copy, Debug, PartialEq, Eq)]
 enum Stage {
     Version,
-    Node,
+    /// The line of a node or of a setup.
+    Opening,
     /// So many gates stand, the last with so many destinations.
     Gates { gates: u8, destinations: u8 },
-    /// With the number of the last audio commit.
-    Events { gates: u8, audio: u64 },
+    /// Events, with the number of the last audio commit, or commands.
+    Body { gates: u8, audio: u64 },
 }
 
-/// Why a line of a script, counted from 1, is at fault, where those before it are not. Memory: none.
+/// Why a line of a replay script, counted from 1, is at fault, where those before it are not. Memory: none.
 pub fn explain(text: &[u8], line: u32) -> Reason
+    requires { length text.now ≤ 2 ^ 32 - 2 }
+{
+    explain_as(Kind::Replay, text, line)
+}
+
+/// Why a line of a live script, counted from 1, is at fault, where those before it are not. Memory: none.
+pub fn explain_live(text: &[u8], line: u32) -> Reason
+    requires { length text.now ≤ 2 ^ 32 - 2 }
+{
+    explain_as(Kind::Live, text, line)
+}
+
+fn explain_as(kind: Kind, text: &[u8], line: u32) -> Reason
     requires { length text.now ≤ 2 ^ 32 - 2 }
 {
     let mut stage = Stage::Version;
     let mut place = first_place(text);
     while place.at < text.len() && place.number < line as usize {
         let (here, next) = line_from(text, place);
-        stage = stage_behind(stage, here);
+        stage = stage_behind(kind, stage, here);
         place = next;
     }
     if place.at >= text.len() {
         return Reason {
-            expected: expected_at(stage),
+            expected: expected_at(kind, stage),
             column: 1,
             found: Found::TextEnd,
         };
     }
-    explained(line_from(text, place).0, stage)
+    explained(kind, line_from(text, place).0, stage)
 }
 
 // What a script has behind a line.
-fn stage_behind(stage: Stage, line: &[u8]) -> Stage {
+fn stage_behind(kind: Kind, stage: Stage, line: &[u8]) -> Stage {
     match stage {
-        Stage::Version => Stage::Node,
-        Stage::Node => Stage::Gates {
+        Stage::Version => Stage::Opening,
+        Stage::Opening => Stage::Gates {
             gates: 0,
             destinations: 0,
         },
         Stage::Gates {
             gates,
             destinations,
-        } => behind_gates(gates, destinations, line),
-        Stage::Events { gates, audio } => behind_event(gates, audio, line),
+        } => behind_gates(kind, gates, destinations, line),
+        Stage::Body { gates, audio } => behind_body(kind, gates, audio, line),
     }
 }
 
-fn behind_gates(gates: u8, destinations: u8, line: &[u8]) -> Stage {
+fn behind_gates(kind: Kind, gates: u8, destinations: u8, line: &[u8]) -> Stage {
     if gate_of(line).is_some() {
         return Stage::Gates {
             gates: gates.saturating_add(1),
@@ -99,41 +122,86 @@ fn behind_gates(gates: u8, destinations: u8, line: &[u8]) -> Stage {
             destinations: destinations.saturating_add(1),
         };
     }
-    behind_event(gates, 0, line)
+    behind_body(kind, gates, 0, line)
 }
 
-fn behind_event(gates: u8, audio: u64, line: &[u8]) -> Stage {
-    if gates == 0 || gates > 4 {
-        return Stage::Events { gates, audio };
+fn behind_body(kind: Kind, gates: u8, audio: u64, line: &[u8]) -> Stage {
+    if kind == Kind::Live || gates == 0 || gates > 4 {
+        return Stage::Body { gates, audio };
     }
     let audio = match event_of(line, gates, audio) {
         Some(event) => audio_behind(&event, audio),
         None => audio,
     };
-    Stage::Events { gates, audio }
+    Stage::Body { gates, audio }
 }
 
 // What the first word of a line is expected to be.
-fn expected_at(stage: Stage) -> Expected {
+fn expected_at(kind: Kind, stage: Stage) -> Expected {
+    match kind {
+        Kind::Replay => expected_in_replay(stage),
+        Kind::Live => expected_in_live(stage),
+    }
+}
+
+fn expected_in_replay(stage: Stage) -> Expected {
     match stage {
         Stage::Version => Expected::Version,
-        Stage::Node => Expected::Node,
+        Stage::Opening => Expected::Node,
         Stage::Gates {
             gates,
             destinations,
-        } => {
-            if gates == 0 {
-                Expected::Gate
-            } else if gates >= 4 && destinations >= 32 {
-                Expected::Event
-            } else if gates >= 4 {
-                Expected::DestinationOrEvent
-            } else if destinations >= 32 {
-                Expected::GateOrEvent
-            } else {
-                Expected::GateDestinationOrEvent
-            }
-        }
-        Stage::Events { .. } => Expected::Event,
+        } => match lines_open(gates, destinations) {
+            Open::Gate => Expected::Gate,
+            Open::GateOrDestination => Expected::GateDestinationOrEvent,
+            Open::FurtherGate => Expected::GateOrEvent,
+            Open::Destination => Expected::DestinationOrEvent,
+            Open::Neither => Expected::Event,
+        },
+        Stage::Body { .. } => Expected::Event,
+    }
+}
+
+fn expected_in_live(stage: Stage) -> Expected {
+    match stage {
+        Stage::Version => Expected::LiveVersion,
+        Stage::Opening => Expected::Setup,
+        Stage::Gates {
+            gates,
+            destinations,
+        } => match lines_open(gates, destinations) {
+            Open::Gate => Expected::Gate,
+            Open::GateOrDestination => Expected::GateDestinationOrCommand,
+            Open::FurtherGate => Expected::GateOrCommand,
+            Open::Destination => Expected::DestinationOrCommand,
+            Open::Neither => Expected::Command,
+        },
+        Stage::Body { .. } => Expected::Command,
+    }
+}
+
+/// Which lines of gates may follow.
+enum Open {
+    /// The first gate has to.
+    Gate,
+    GateOrDestination,
+    /// The last gate has all its destinations.
+    FurtherGate,
+    /// All gates stand.
+    Destination,
+    Neither,
+}
+
+fn lines_open(gates: u8, destinations: u8) -> Open {
+    if gates == 0 {
+        Open::Gate
+    } else if gates >= 4 && destinations >= 32 {
+        Open::Neither
+    } else if gates >= 4 {
+        Open::Destination
+    } else if destinations >= 32 {
+        Open::FurtherGate
+    } else {
+        Open::GateOrDestination
     }
 }

@@ -1,4 +1,5 @@
 mod explanations;
+mod live;
 mod load;
 mod scripts;
 mod writing;

@@ -27,6 +27,18 @@ pub enum Expected {
     /// A start, or the end of the line.
     Start,
     LineEnd,
+    LiveVersion,
+    Setup,
+    GateDestinationOrCommand,
+    GateOrCommand,
+    DestinationOrCommand,
+    Command,
+    BlockNumber,
+    /// What an application does.
+    Act,
+    /// What an audio thread does.
+    BlockAct,
+    Beat,
 }
 
 impl Expected {
@@ -57,6 +69,18 @@ impl Expected {
             Expected::Parts => "`t` and a timeline, `s` and a start, or the end of the line",
             Expected::Start => "`s` and a start, or the end of the line",
             Expected::LineEnd => "the end of the line",
+            Expected::LiveVersion => "`link 1`",
+            Expected::Setup => "`setup` and a tempo and a sync",
+            Expected::GateDestinationOrCommand => "`gate`, `to` or a command: `at` or `block`",
+            Expected::GateOrCommand =>
+                "`gate` or a command, as the gate has 32 destinations: `at` or `block`",
+            Expected::DestinationOrCommand =>
+                "`to` or a command, as there are four gates: `at` or `block`",
+            Expected::Command => "a command: `at` or `block`",
+            Expected::BlockNumber => "the number of a block from 1 to 524288",
+            Expected::Act => "`tempo`, `force`, `request`, `play`, `stop` or `look`",
+            Expected::BlockAct => "`tempo`, `play` or `stop`",
+            Expected::Beat => "a beat from -1152921504606846976 to 1152921504606846976 microbeats",
         }
     }
 }

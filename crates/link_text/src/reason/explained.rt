@@ -1,22 +1,23 @@
 //! Where a line stops to be what is expected.
 
 use crate::event_read::AUDIO_MAX;
-use crate::reason::{Excerpt, Expected, Found, Reason, Stage, expected_at};
+use crate::live_read::BLOCK_MAX;
+use crate::reason::{Excerpt, Expected, Found, Kind, Reason, Stage, expected_at};
 use crate::values::{
     bytes_in, endpoint_in, id_in, moment_in, number_in, signed_in, tempo_in, truth_in,
 };
 use crate::words::{first_word, is_word, next_word};
 
 /// Why a line is at fault at a stage of a script.
-pub(crate) fn explained(line: &[u8], stage: Stage) -> Reason {
+pub(crate) fn explained(kind: Kind, line: &[u8], stage: Stage) -> Reason {
     match stage {
-        Stage::Version => version(line),
-        Stage::Node => node(line),
+        Stage::Version => version(kind, line),
+        Stage::Opening => opening(kind, line),
         Stage::Gates {
             gates,
             destinations,
-        } => head(line, stage, gates, destinations),
-        Stage::Events { gates, audio } => event(line, stage, gates, audio),
+        } => head(kind, line, stage, gates, destinations),
+        Stage::Body { gates, audio } => body(kind, line, stage, gates, audio),
     }
 }
 
@@ -58,18 +59,30 @@ fn column_of(start: usize) -> u32 {
     u32::try_from(start).unwrap_or(u32::MAX).saturating_add(1)
 }
 
-fn version(line: &[u8]) -> Reason {
+fn version(kind: Kind, line: &[u8]) -> Reason {
+    let expected = expected_at(kind, Stage::Version);
     let (word, left) = first_word(line);
-    if !is_word(word, b"replay") {
-        return at(0, word, left, Expected::Version);
+    let named = match kind {
+        Kind::Replay => is_word(word, b"replay"),
+        Kind::Live => is_word(word, b"link"),
+    };
+    if !named {
+        return at(0, word, left, expected);
     }
     let Some((number, rest)) = next_word(left) else {
-        return behind(line, left, Expected::Version);
+        return behind(line, left, expected);
     };
     if !is_word(number, b"1") {
-        return behind(line, left, Expected::Version);
+        return behind(line, left, expected);
     }
     behind(line, rest, Expected::LineEnd)
+}
+
+fn opening(kind: Kind, line: &[u8]) -> Reason {
+    match kind {
+        Kind::Replay => node(line),
+        Kind::Live => setup(line),
+    }
 }
 
 fn node(line: &[u8]) -> Reason {
@@ -95,7 +108,21 @@ fn node(line: &[u8]) -> Reason {
     behind(line, left, Expected::LineEnd)
 }
 
-fn head(line: &[u8], stage: Stage, gates: u8, destinations: u8) -> Reason {
+fn setup(line: &[u8]) -> Reason {
+    let (word, left) = first_word(line);
+    if !is_word(word, b"setup") {
+        return at(0, word, left, Expected::Setup);
+    }
+    let Some((_, sync)) = tempo_in(left) else {
+        return behind(line, left, Expected::Tempo);
+    };
+    let Some((_, left)) = truth_in(sync) else {
+        return behind(line, sync, Expected::Truth);
+    };
+    behind(line, left, Expected::LineEnd)
+}
+
+fn head(kind: Kind, line: &[u8], stage: Stage, gates: u8, destinations: u8) -> Reason {
     let (word, left) = first_word(line);
     let first = is_word(word, b"gate") && gates < 4;
     let further = is_word(word, b"to") && gates > 0 && destinations < 32;
@@ -105,7 +132,14 @@ fn head(line: &[u8], stage: Stage, gates: u8, destinations: u8) -> Reason {
             None => behind(line, left, Expected::Endpoint),
         };
     }
-    event(line, stage, gates, 0)
+    body(kind, line, stage, gates, 0)
+}
+
+fn body(kind: Kind, line: &[u8], stage: Stage, gates: u8, audio: u64) -> Reason {
+    match kind {
+        Kind::Replay => event(line, stage, gates, audio),
+        Kind::Live => command(line, stage, gates),
+    }
 }
 
 fn event(line: &[u8], stage: Stage, gates: u8, audio: u64) -> Reason {
@@ -115,7 +149,7 @@ fn event(line: &[u8], stage: Stage, gates: u8, audio: u64) -> Reason {
     let sound = is_word(word, b"audio");
     let alone = is_word(word, b"tick") || is_word(word, b"end");
     if gates == 0 || !(arrival || app || sound || alone) {
-        return at(0, word, left, expected_at(stage));
+        return at(0, word, left, expected_at(Kind::Replay, stage));
     }
     let Some((_, rest)) = moment_in(left) else {
         return behind(line, left, Expected::Moment);
@@ -201,4 +235,56 @@ fn start(line: &[u8], left: &[u8], expected: Expected) -> Reason {
         return behind(line, stamp, Expected::Signed);
     };
     behind(line, left, Expected::LineEnd)
+}
+
+fn command(line: &[u8], stage: Stage, gates: u8) -> Reason {
+    let (word, left) = first_word(line);
+    let app = is_word(word, b"at");
+    if gates == 0 || !(app || is_word(word, b"block")) {
+        return at(0, word, left, expected_at(Kind::Live, stage));
+    }
+    if app {
+        return match moment_in(left) {
+            Some((_, rest)) => act(line, rest),
+            None => behind(line, left, Expected::Moment),
+        };
+    }
+    match number_in(left, BLOCK_MAX) {
+        Some((0, _)) => behind(line, left, Expected::BlockNumber),
+        Some((_, rest)) => shared_act(line, rest, Expected::BlockAct),
+        None => behind(line, left, Expected::BlockNumber),
+    }
+}
+
+fn act(line: &[u8], left: &[u8]) -> Reason {
+    let Some((word, rest)) = next_word(left) else {
+        return behind(line, left, Expected::Act);
+    };
+    if is_word(word, b"force") || is_word(word, b"request") {
+        return match signed_in(rest) {
+            Some((_, left)) => behind(line, left, Expected::LineEnd),
+            None => behind(line, rest, Expected::Beat),
+        };
+    }
+    if is_word(word, b"look") {
+        return behind(line, rest, Expected::LineEnd);
+    }
+    shared_act(line, left, Expected::Act)
+}
+
+// What an application and an audio thread do alike.
+fn shared_act(line: &[u8], left: &[u8], expected: Expected) -> Reason {
+    let Some((word, rest)) = next_word(left) else {
+        return behind(line, left, expected);
+    };
+    if is_word(word, b"tempo") {
+        return match tempo_in(rest) {
+            Some((_, left)) => behind(line, left, Expected::LineEnd),
+            None => behind(line, rest, Expected::Tempo),
+        };
+    }
+    if is_word(word, b"play") || is_word(word, b"stop") {
+        return behind(line, rest, Expected::LineEnd);
+    }
+    behind(line, left, expected)
 }

@@ -1,12 +1,13 @@
-use Rattle.link_text.proofs.ScriptLemmas.{no_script}
-use Rattle.link_text.proofs.OneScriptLemmas.{one_config, one_fault}
+use Rattle.link_text.specs.ReplayScript.{IsSomeScript}
+use Rattle.link_text.proofs.FirstFaultLemmas.{no_text, one_fault}
+use Rattle.link_text.proofs.OneScriptLemmas.{one_config}
 use Rattle.link_text.proofs.laws.one_script.Goals as goal
 
 pub returns-clause-config : goal.returns-clause-config
 returns-clause-config c = one_config
 
 pub returns-clause-fault : goal.returns-clause-fault
-returns-clause-fault c = one_fault
+returns-clause-fault c = one_fault IsSomeScript
 
 pub returns-clause-no_fault : goal.returns-clause-no_fault
-returns-clause-no_fault c = λ text k config now es first is. no_script text k first config now es is
+returns-clause-no_fault c = λ text k config now es first is. no_text IsSomeScript text k first (config, now, es, is)

@@ -1,0 +1,9 @@
+use Rattle.link_text.specs.LiveScript.{block}
+use Rattle.link_text.proofs.LiveLineLemmas.{some_command, none_command}
+use Rattle.link_text.proofs.live_read.block_command_of.Goals as goal
+
+pub returns-clause-some : goal.returns-clause-some
+returns-clause-some c = some_command block c.args.line.now c.block_command_in.result c.block_command_in.ensures.some
+
+pub returns-clause-none : goal.returns-clause-none
+returns-clause-none c = none_command block c.args.line.now c.block_command_in.result c.block_command_in.ensures.none
