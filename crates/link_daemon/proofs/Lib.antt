@@ -10,3 +10,14 @@ mod StatusLemmas
 mod FaultLineLemmas
 mod OneStatusLemmas
 mod ValidInputLemmas
+mod JournalLemmas
+mod HeardLemmas
+mod GoneLemmas
+mod CountLemmas
+mod GrownLemmas
+mod TurnsLemmas
+mod RunningLemmas
+mod AskLemmas
+mod PostLemmas
+mod LoopLemmas
+mod SocketLemmas

@@ -2,10 +2,15 @@ pub mod Outlet
 pub mod HexLines
 pub mod DecodeText
 pub mod Adapters
+pub mod Sockets
 pub mod Replaying
 pub mod LoadWords
 pub mod LoadCommand
 pub mod Loading
+pub mod Journal
+pub mod Turns
+pub mod Network
+pub mod Running
 pub mod Statuses
 pub mod TextFaults
 pub mod OneStatus

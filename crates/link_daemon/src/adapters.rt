@@ -1,12 +1,24 @@
-//! The real things: the words of the command line, and the standard streams behind the traits of the outside. As a source and a sink the
-//! streams tell nothing of contents; what each makes of its reader or writer is a clause of its own.
+//! The real things: the words of the command line, and the standard streams, the clock, the sockets and the click behind the traits of the
+//! outside. To these traits they tell nothing of contents; what each makes of its reader, its writer or its own fields is a clause of its
+//! own.
+//!
+//! In reading order: `behind_name`, `std_source`, `std_sink`; `host_clock`, which the devices share, `clock_pace`, `click_audio`, `udp_port`;
+//! `tests`.
 
 mod behind_name;
+mod click_audio;
+mod clock_pace;
+mod host_clock;
 mod std_sink;
 mod std_source;
 #[cfg(test)]
 mod tests;
+mod udp_port;
 
 pub use behind_name::BehindName;
+pub use click_audio::ClickAudio;
+pub use clock_pace::ClockPace;
+pub use host_clock::HostClock;
 pub use std_sink::StdSink;
 pub use std_source::StdSource;
+pub use udp_port::UdpPort;

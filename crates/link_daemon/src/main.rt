@@ -2,7 +2,7 @@
 //!
 //! In reading order: `top` (the top call), `command_line`, `status`, `laws`; `text_command` (a command that reads a whole text and writes
 //! another), `reason`, `text_fault`, `run_text`, `outlet`; `replay`, `replay_lines`, `counts`; `decode`, `hex_lines`; `load`,
-//! `load_words`; `usage` (what is told of other words); `adapters`.
+//! `load_words`; `network` (the loop that owns the network); `usage` (what is told of other words); `adapters`.
 #![tactic(auto)]
 
 mod adapters;
@@ -13,6 +13,7 @@ mod hex_lines;
 mod laws;
 mod load;
 mod load_words;
+mod network;
 mod outlet;
 mod reason;
 mod replay;

@@ -5,6 +5,7 @@ mod faults;
 mod grammar;
 mod large;
 mod load;
+mod network;
 mod reasons;
 mod replay;
 mod usage;

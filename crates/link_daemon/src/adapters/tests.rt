@@ -1,5 +1,7 @@
 //! The adapters over readers, writers and arguments in memory.
 
+mod devices;
+
 use super::{BehindName, StdSink, StdSource};
 use lk_outside::{Put, Sink, Source, Taken};
 use std::env::{Env, FillError};
