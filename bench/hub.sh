@@ -507,7 +507,7 @@ fn time_link<C: StateCell<9>, N: LinkName, R: Wait + Clock + Print>(
         hub,
         audio,
         app,
-    } = Link::<C, N>::make(alloc, parts)?;
+    } = Link::<C, N>::make(parts);
     let mut bench = Bench {
         link,
         hub,

@@ -1,6 +1,7 @@
 pub mod Name
 pub mod Queue
 pub mod Passes
+pub mod Handed
 pub mod Desk
 pub mod Audio
 pub mod Parts

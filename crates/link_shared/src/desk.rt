@@ -82,6 +82,7 @@ impl<C: StateCell<9>, N: LinkName> Desk<C, N> {
             × ((view pass.new).pushed ≡ ((view pass.old).pushed ++ between) ++ commit ∷ [])) }
         ensures number { IfOk result (λ number. number ≡ length (view pass.new).pushed) }
         ensures made { OnOk result (share.new.amount ≡ share.old.amount + 1) }
+        ensures few { OnOk result (share.new.amount ≤ 2 ^ 60) }
         ensures sole { IfOk result (λ number. share.old.parts ≡ N.parts → share.new.amount ≡ number) }
         ensures busy { IfErr result (λ busy. (busy.commit ≡ commit) × ((view pass.new).pushed ≡ (view pass.old).pushed)
             × (share.new.amount ≡ share.old.amount) × WasBusy (view pass.old).pushed) }

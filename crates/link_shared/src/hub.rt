@@ -1,18 +1,21 @@
 //! The hub: the one owner of the machine, to whom every event comes, in one order.
 
 use crate::keeper::Keeper;
-use crate::link::AppPass;
 use crate::name::LinkName;
 use crate::queue::QueuePass;
 use audio_handoff::StateCell;
 use link_node::Event;
 use std::marker::Model;
+use std::sync::ledger::Share;
 
 mod drain;
+mod handed;
 mod heard;
 mod hearing;
 mod last_turn;
 mod turn;
+
+pub(crate) use handed::HandedPass;
 
 /// What the network thread has of a link: the machine with its journal, the reader of the audio thread's commits, the pass that pops the
 /// applications' commits, and the passes handed in.
@@ -26,7 +29,9 @@ pub struct Hub<C: StateCell<9>, N: LinkName> {
     // Pops the applications' commits.
     pub(crate) pass: QueuePass,
     // The passes handed in, at most 16, for which there is room.
-    pub(crate) handed: Vec<AppPass<C, N>>,
+    pub(crate) handed: Vec<HandedPass<C>>,
+    // Their shares, merged into one.
+    pub(crate) share: Share<N>,
 }
 
 impl<C: StateCell<9>, N: LinkName> Model for Hub<C, N> {
@@ -34,6 +39,7 @@ impl<C: StateCell<9>, N: LinkName> Model for Hub<C, N> {
     ghost use Rattle.crossbeam_queue.specs.Passes.{view as hand_of};
     ghost use Rattle.link_node.specs.Config.{config_value};
     ghost use Rattle.link_node.specs.Event.{event_value};
+    ghost use Rattle.link_shared.specs.Handed.{AreHanded, app_view_of};
     ghost use Rattle.link_shared.specs.Hub.{HubView};
     ghost use Rattle.link_shared.specs.Journal.{app_commits_in};
     ghost use Rattle.link_shared.specs.Keeper.{AreFirstOf, WereRead};
@@ -48,14 +54,15 @@ impl<C: StateCell<9>, N: LinkName> Model for Hub<C, N> {
       reads = (C.reading h.commits).seen;
       popped = (hand_of h.pass).popped;
       quits = (hand_of h.pass).quits_popped;
-      handed = h.handed.items;
+      handed = map (app_view_of N.whole) h.handed.items;
     } };
 
     ghost invariant = { λ h. ((C.reading h.commits).cell ≡ N.audio_commits)
         × (h.pass.table_id ≡ N.queue) × (h.pass.me.1 ≡ []) × ((hand_of h.pass).pops ≡ true)
         × AreFirstOf h.keeper.most (length h.keeper.journal.items) (app_commits_in (map event_value h.keeper.journal.items)) (hand_of h.pass).popped
         × WereRead (C.reading h.commits).seen (map event_value h.keeper.journal.items)
-        × (length h.handed.items ≤ 16) × (16 ≤ vec_capacity h.handed) };
+        × (16 ≤ vec_capacity h.handed)
+        × AreHanded N.app_states N.queue N.whole N.parts h.handed.items h.share.parts h.share.amount };
 }
 
 impl<C: StateCell<9>, N: LinkName> Hub<C, N> {

@@ -1,5 +1,5 @@
 //! A link as it is opened, with what each thread has of it.
-ghost use Rattle.std.specs.Prelude.{◌≡◌, [], true, None, IfOk};
+ghost use Rattle.std.specs.Prelude.{◌≡◌, [], true, None};
 ghost use Rattle.link_shared.specs.Audio.{AudioView};
 ghost use Rattle.link_shared.specs.Hub.{new_hub};
 ghost use Rattle.link_shared.specs.Passes.{AppView};
@@ -13,12 +13,8 @@ use crate::parts::{NewCell, Parts};
 use crate::queue::show_pass;
 use audio_handoff::StateCell;
 use client_state::Own;
-use std::alloc::{AllocError, Global};
 use std::marker::PhantomData;
 use std::sync::Mutex;
-
-/// How many applications' passes can be handed in before the last turn.
-const HANDED: usize = 16;
 
 /// A link as it is opened, with what each thread has of it.
 #[derive(Drop)]
@@ -33,17 +29,15 @@ pub struct Opened<C: StateCell<9>, N: LinkName> {
 }
 
 impl<C: StateCell<9>, N: LinkName> Link<C, N> {
-    /// The link of these parts, which its type names.
-    /// Waits: no. Memory: room for 16 passes that are handed in.
-    pub fn make(alloc: Global, parts: Parts<C>) -> Result<Opened<C, N>, AllocError>
+    /// The link of these parts, which its type names. Waits: no. Memory: none.
+    pub fn make(parts: Parts<C>) -> Opened<C, N>
         requires cells { (parts.app_states ≡ N.app_states) × (parts.audio_states ≡ N.audio_states) × (parts.audio_commits ≡ N.audio_commits) }
         requires queue { parts.queue ≡ N.queue }
         requires ledger { (parts.ledger ≡ N.name) × (parts.shares ≡ N.parts) × (N.whole ≡ N.parts) }
-        ensures hub { IfOk result (λ opened. opened.hub ≡ new_hub parts.config parts.opened_at parts.most) }
-        ensures audio { IfOk result (λ opened. opened.audio ≡ record { seen = []; looks = []; made = [] }) }
-        ensures app { IfOk result (λ opened. opened.app ≡ record { seen = []; pushed = []; made = 0; own = None; room = 65535; sole = true }) }
+        ensures hub { result.hub ≡ new_hub parts.config parts.opened_at parts.most }
+        ensures audio { result.audio ≡ record { seen = []; looks = []; made = [] } }
+        ensures app { result.app ≡ record { seen = []; pushed = []; made = 0; own = None; room = 65535; sole = true } }
     {
-        let handed = Vec::with_capacity(alloc, HANDED)?;
         let Parts {
             app_states,
             audio_states,
@@ -58,6 +52,7 @@ impl<C: StateCell<9>, N: LinkName> Link<C, N> {
             node,
             journal,
             published,
+            handed,
         } = parts;
         let NewCell {
             cell: app_states,
@@ -74,9 +69,10 @@ impl<C: StateCell<9>, N: LinkName> Link<C, N> {
             writer: commits_writer,
             reader: commits,
         } = audio_commits;
-        let (book, share) = blank.open::<N>();
+        let (book, mut share) = blank.open::<N>();
+        let none = share.empty();
         let known = show_pass(&queue, &mut pushing);
-        Ok(Opened {
+        Opened {
             link: Link {
                 app_states,
                 audio_states,
@@ -103,6 +99,7 @@ impl<C: StateCell<9>, N: LinkName> Link<C, N> {
                 commits,
                 pass: popping,
                 handed,
+                share: none,
             },
             audio: AudioPass {
                 reader: audio_reader,
@@ -116,7 +113,8 @@ impl<C: StateCell<9>, N: LinkName> Link<C, N> {
                 share,
                 own: Own { last: None },
                 room: 65_535,
+                made: 0,
             },
-        })
+        }
     }
 }

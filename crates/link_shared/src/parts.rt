@@ -1,6 +1,7 @@
 //! The parts of a link: its cells, its queue, its node and all room that it will need.
 ghost use Rattle.std.specs.Prelude.{◌≡◌, ◌+◌, ◌≤◌, [], ◌∷◌, length, vec_capacity, IfOk};
 
+use crate::hub::HandedPass;
 use crate::queue::{Queue, QueuePass, open};
 use audio_handoff::StateCell;
 use client_state::{Commit, State};
@@ -41,10 +42,12 @@ pub struct Parts<C: StateCell<9>> {
     pub(crate) node: Node,
     pub(crate) journal: Vec<Event>,
     pub(crate) published: Vec<State>,
+    // Room for the passes that are handed in.
+    pub(crate) handed: Vec<HandedPass<C>>,
 }
 
 impl<C: StateCell<9>> Model for Parts<C> {
-    ghost use Rattle.std.specs.Prelude.{◌≡◌, [], ◌∷◌, map, vec_capacity};
+    ghost use Rattle.std.specs.Prelude.{◌≡◌, ◌≤◌, [], ◌∷◌, map, vec_capacity};
     ghost use Rattle.crossbeam_queue.specs.Passes.{view as hand_of, IsPassOf, ruled_capacity};
     ghost use Rattle.client_state.specs.State.{IsTidyState};
     ghost use Rattle.client_state.specs.Words.{words_of_state};
@@ -80,11 +83,14 @@ impl<C: StateCell<9>> Model for Parts<C> {
         × ((C.noting p.note).cell ≡ C.cell p.app_states.cell) × ((C.noting p.note).seen ≡ [])
         × (ruled_capacity p.queue ≡ 256) × (IsPassOf p.queue p.pushing × IsPassOf p.queue p.popping)
         × (hand_of p.pushing ≡ pushing_part opener) × (hand_of p.popping ≡ popping_part opener)
-        × (p.blank.parts ≡ 65536) };
+        × (p.blank.parts ≡ 65536) × (p.handed.items ≡ []) × (16 ≤ vec_capacity p.handed) };
 }
 
 // How many shares the ledger of the applications' commits has: one for each pass.
 const SHARES: u64 = 65_536;
+
+// How many applications' passes can be handed in before the last turn.
+const HANDED: usize = 16;
 
 // The opening row of the audio commits' cell, which is no commit.
 const NO_COMMIT: Commit = Commit {
@@ -100,7 +106,7 @@ impl<C: StateCell<9>> Parts<C> {
     /// The parts of a link whose node is opened with that config at that moment, and whose journal takes so many events.
     ///
     /// Waits: by the way. Memory: three cells, a queue of 256 items, the node, the journal and the list of published states
-    /// at their full length.
+    /// at their full length, and room for 16 passes that are handed in.
     pub fn new(
         alloc: Global,
         way: &C::Way,
@@ -135,6 +141,7 @@ impl<C: StateCell<9>> Parts<C> {
             node,
             journal: Vec::with_capacity(alloc, events as usize)?,
             published: first_of(alloc, events as usize + 1, state)?,
+            handed: Vec::with_capacity(alloc, HANDED)?,
         })
     }
 }

@@ -141,7 +141,7 @@ fn try_link<C: StateCell<9>, N: LinkName, R: Wait + Abort>(
     requires ledger { (parts.ledger ≡ N.name) × (parts.shares ≡ N.parts) × (N.whole ≡ N.parts) }
     requires gate { length parts.config.gates ≡ 1 }
 {
-    let opened = Link::<C, N>::make(alloc, parts)?;
+    let opened = Link::<C, N>::make(parts);
     match trial {
         Trial::Queue => fill_queue(rt, alloc, way, opened),
         Trial::Journal => fill_journal(rt, alloc, way, opened),

@@ -1,6 +1,6 @@
 //! The applications' passes that are handed in before the last turn.
 
-use crate::hub::Hub;
+use crate::hub::{HandedPass, Hub};
 use crate::link::AppPass;
 use crate::name::LinkName;
 use audio_handoff::StateCell;
@@ -13,7 +13,22 @@ impl<C: StateCell<9>, N: LinkName> Hub<C, N> {
         requires room { length self.old.handed < 16 }
         ensures { self.new ≡ record self.old { handed = self.old.handed ++ pass ∷ [] } }
     {
-        self.handed.push_reserved(pass);
+        let AppPass {
+            note,
+            pass: known,
+            share,
+            own,
+            room,
+            made,
+        } = pass;
+        self.share.merge(share);
+        self.handed.push_reserved(HandedPass {
+            note,
+            pass: known,
+            own,
+            room,
+            made,
+        });
     }
 
     /// How many passes were handed in. Waits: no. Memory: none.

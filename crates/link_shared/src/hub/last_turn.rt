@@ -41,6 +41,7 @@ impl<C: StateCell<9>, N: LinkName> Hub<C, N> {
             commits,
             mut pass,
             handed,
+            share,
         } = self;
         let Link {
             app_states,
@@ -83,6 +84,7 @@ impl<C: StateCell<9>, N: LinkName> Hub<C, N> {
             way,
             &mut reader,
             handed,
+            share,
         );
         let (events, published) = keeper.settle(app_states, audio_states, way, reader, listener);
         Ended {

@@ -26,6 +26,8 @@ pub struct AppPass<C: StateCell<9>, N: LinkName> {
     pub(crate) share: Share<N>,
     pub(crate) own: Own,
     pub(crate) room: u64,
+    // How many commits it made: the share's amount.
+    pub(crate) made: u64,
 }
 
 impl<C: StateCell<9>, N: LinkName> Model for AppPass<C, N> {
@@ -41,7 +43,8 @@ impl<C: StateCell<9>, N: LinkName> Model for AppPass<C, N> {
     } };
 
     ghost invariant = { λ p. ((C.noting p.note).cell ≡ N.app_states) × (p.pass.table_id ≡ N.queue) × (p.pass.me.1 ≡ [])
-        × (p.share.parts ≡ p.room + 1) × IsTidyOwn p.own.last × (N.whole ≡ N.parts) };
+        × (p.share.parts ≡ p.room + 1) × IsTidyOwn p.own.last × (N.whole ≡ N.parts)
+        × (p.share.amount ≡ p.made) };
 }
 
 impl<C: StateCell<9>, N: LinkName> AppPass<C, N> {
@@ -87,6 +90,7 @@ impl<C: StateCell<9>, N: LinkName> Link<C, N> {
             share: none,
             own: Own { last: None },
             room: 0,
+            made: 0,
         })
     }
 
@@ -137,10 +141,12 @@ impl<C: StateCell<9>, N: LinkName> Link<C, N> {
             pass: known,
             share,
             own,
+            made,
             ..
         } = pass;
         let mut desk = self.desk.lock(rt);
         let number = desk.commit(rt, &self.queue, known, share, commit)?;
+        *made += 1;
         own.last = Some((number, commit));
         Ok(number)
     }

@@ -314,7 +314,7 @@ where
         hub,
         audio,
         app: mut first,
-    } = Link::<C, N>::make(alloc, parts)?;
+    } = Link::<C, N>::make(parts);
     if first.room() == 0 {
         return Ok(None);
     }

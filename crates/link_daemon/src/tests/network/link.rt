@@ -68,7 +68,7 @@ fn told_of<C: StateCell<9>, N: LinkName, R: Wait + Abort>(
         mut hub,
         mut audio,
         mut app,
-    } = Link::<C, N>::make(alloc, parts)?;
+    } = Link::<C, N>::make(parts);
     let Bench { mut watch, bound } = bench;
     fill(rt, way, &link, &mut audio, &mut app, words);
     let mut sends = Sends::new(alloc)?;

@@ -6,6 +6,7 @@ use Rattle.client_state.specs.Words.{commit_of_words}
 use Rattle.link_node.specs.Config.{config_value}
 use Rattle.link_node.specs.Event.{event_value}
 use Rattle.link_shared.specs.Audio.{AudioView}
+use Rattle.link_shared.specs.Handed.{app_view_of}
 use Rattle.link_shared.specs.Hub.{HubView}
 use Rattle.link_shared.proofs.OfferLemmas.{audio_stands}
 use Rattle.link_shared.proofs.LastTurnLemmas.{offers_of, has_ended, first_of_view, published_again, fitting_again, ended_again, were_published_as, offers_all}
@@ -28,7 +29,7 @@ returns g c =
       reads = (g.C.StateCell.reading inside.commits).seen;
       popped = (view inside.pass).popped;
       quits = (view inside.pass).quits_popped;
-      handed = inside.handed.items;
+      handed = map (app_view_of g.N.LinkName.whole) inside.handed.items;
     } in
     let audio : AudioView = record {
       seen = (g.C.StateCell.reading c.audio.inside.reader).seen;

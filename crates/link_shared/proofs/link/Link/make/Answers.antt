@@ -1,9 +1,11 @@
-use Rattle.std.proofs.Common.{rules, ◌≡◌, [], ap, sym, subst, ◌∙◌, arith, length, map, w64, of_z, to_z}
+use Rattle.std.proofs.Common.{rules, ◌≡◌, ap, sym, subst, ◌∙◌, arith, length, map, w64, of_z, to_z}
 use Rattle.lk_base.specs.Ranges.{IsMoment}
 use Rattle.link_node.specs.Event.{event_value}
+use Rattle.link_shared.specs.Handed.{app_view_of}
 use Rattle.link_shared.specs.Parts.{PartsView}
 use Rattle.link_shared.specs.declared.queue.Hand.{Hand}
 use Rattle.link_shared.proofs.OpeningLemmas.{rests_unread, stands_unmoved, shown_at_opening, room_at_opening, fitting_at_opening, numbered_at_opening, none_popped, none_were_read, is_new_hub, none_made, none_is_last, is_new_audio}
+use Rattle.link_shared.proofs.HearingLemmas.{none_handed}
 use Rattle.link_shared.proofs.link.Link.make.Goals as goal
 
 pub invariant_of-new : goal.invariant_of-new
@@ -57,8 +59,8 @@ invariant_of-result-2 g c =
       ap (λ (hand : Hand). hand.pops) known.16,
       none_popped _ _ _ known.5 (ap (λ (hand : Hand). hand.popped) known.16),
       none_were_read _ _ known.5,
-      search rules,
-      search rules,
+      known.19,
+      none_handed _ _ _ _ _ _ _ known.18 c.requires.ledger.2 c.empty-none.ensures.parts c.empty-none.ensures.amount,
     )
 
 pub invariant_of-result-3 : goal.invariant_of-result-3
@@ -75,13 +77,15 @@ invariant_of-result-3 g c =
 
 pub invariant_of-result-4 : goal.invariant_of-result-4
 invariant_of-result-4 g c =
-    let known = c.parts.invariant in (
+    let known = c.parts.invariant in
+    let same = c.empty-none.ensures.same in (
       known.11 ∙ ap (λ (view : PartsView). view.app_states) c.parts.view_is ∙ c.requires.cells.0,
       c.show_pass-known.ensures.queue.1.0 ∙ ap (λ (view : PartsView). view.queue) c.parts.view_is ∙ c.requires.queue,
       c.show_pass-known.ensures.queue.1.1,
-      c.open-book.ensures.parts ∙ sym c.requires.ledger.1 ∙ sym (ap (λ (view : PartsView). view.shares) c.parts.view_is) ∙ known.17,
+      ap (λ share. share.parts) same ∙ c.open-book.ensures.parts ∙ sym c.requires.ledger.1 ∙ sym (ap (λ (view : PartsView). view.shares) c.parts.view_is) ∙ known.17,
       search rules,
       c.requires.ledger.2,
+      ap (λ share. share.amount) same ∙ c.open-book.ensures.amount,
     )
 
 pub invariant_of-result-5 : goal.invariant_of-result-5
@@ -100,7 +104,7 @@ returns-clause-hub g c =
     let same : to_z w64 (of_z w64 parts.opened_at) ≡ parts.opened_at = search rules in
     is_new_hub _ _ _ _ (ap (λ (view : PartsView). view.config) c.parts.view_is) (same ∙ ap (λ (view : PartsView). view.opened_at) c.parts.view_is)
     (ap (λ (view : PartsView). view.most) c.parts.view_is) (ap (map event_value) known.5) parts.audio_commits.unread.0 (ap (λ (hand : Hand). hand.popped) known.16)
-    (ap (λ (hand : Hand). hand.quits_popped) known.16) c.in_ok-handed.ensures.items
+    (ap (λ (hand : Hand). hand.quits_popped) known.16) (ap (map (app_view_of g.N.LinkName.whole)) known.18)
 
 pub returns-clause-audio : goal.returns-clause-audio
 returns-clause-audio g c =

@@ -24,6 +24,8 @@ invariant_of-result g c =
       search rules,
       search rules,
       search rules,
+      search rules,
+      search rules,
     )
 
 pub returns-clause-given : goal.returns-clause-given
