@@ -55,7 +55,7 @@ gone_first opening clock before more e may at gone = record {
 after_more : (laws : RunLaws) (opening : Machine) (before : List EventValue) (e : EventValue) → machine_after opening (before ++ e ∷ []) ≡ step_of (machine_after opening before) e
 after_more laws opening before e = laws.machine opening before (e ∷ []) ∙ one_after (machine_after opening before) e
 
-reached_by : (laws : RunLaws) (opening : Machine) (clock : ℤ) (before : List EventValue) (e : EventValue) → (machine_after opening before).moment ≤ℤ clock → moment_of e ≡ clock
+pub reached_by : (laws : RunLaws) (opening : Machine) (clock : ℤ) (before : List EventValue) (e : EventValue) → (machine_after opening before).moment ≤ℤ clock → moment_of e ≡ clock
     → (machine_after opening (before ++ e ∷ [])).moment ≤ℤ clock
 reached_by laws opening clock before e reached at =
     let is : (machine_after opening (before ++ e ∷ [])).moment ≡ moment_of e =

@@ -1,10 +1,14 @@
 mod LineLemmas
 mod OutletLemmas
 mod ReplayLemmas
+mod ReportLemmas
 mod CommandLemmas
 mod HexLineLemmas
 mod DecodeLemmas
+mod CommandWordLemmas
 mod LoadWordLemmas
+mod OptionLemmas
+mod LiveWordLemmas
 mod LoadLemmas
 mod StatusLemmas
 mod FaultLineLemmas
@@ -20,4 +24,10 @@ mod RunningLemmas
 mod AskLemmas
 mod PostLemmas
 mod LoopLemmas
+mod ScriptLemmas
 mod SocketLemmas
+mod EndLemmas
+mod EditLemmas
+mod CommitLemmas
+mod AudioLemmas
+mod CloseLemmas

@@ -1,40 +1,24 @@
 -- What clap read of the words of `load`.
-use Rattle.std.proofs.Common.{◌≡◌, ◌<◌, ◌≤◌, ◌∙◌, ◌-◌, ◌^◌, ℕ, zero, suc, false, ◌++◌, List, [], ◌∷◌, Some, true, codes, map, length, get_or, refl, sym, ap, ap₂, subst, ◌||◌, inl, inr, arith}
+use Rattle.std.proofs.Common.{◌≡◌, ◌<◌, ◌≤◌, ◌∙◌, ◌-◌, ◌^◌, ℕ, zero, suc, false, ◌++◌, List, [], ◌∷◌, Some, true, codes, length, get_or, refl, sym, ap, ap₂, subst, ◌||◌, arith}
 use Rattle.std.specs.List.{All, slice_index_or}
 use Rattle.std.specs.Str.{bytes_eq}
-use Rattle.std.specs.String.{string_bytes}
-use Rattle.std.specs.declared.alloc.Global.{Global}
-use Rattle.std.specs.declared.string.String.{String}
 use Rattle.std.proofs.lemmas.List.Elements.{All-nil}
 use Rattle.std.proofs.lemmas.Slice.Eq.{bytes_eq-Decides}
 use Rattle.clap.specs.Facts.{least_values}
-use Rattle.clap.specs.Words.{HasMatchesOf, IsParsedFrom, IsPlain, IsPlainArg, app_of, groups_of, new_app, rule_of, with_rule, args_of, found_of, one_of, one_text}
+use Rattle.clap.specs.Words.{IsParsedFrom, IsPlain, IsPlainArg, rule_of, with_rule, args_of, found_of, one_text}
 use Rattle.clap.specs.Built.{AddsArg, IsAuto, SameRules}
-use Rattle.clap.specs.Simple.{app_of_fields, on_top}
 use Rattle.clap.specs.declared.builder.action.ArgAction.TheVariants.{Set}
 use Rattle.clap.specs.declared.builder.arg.Arg.{Arg}
 use Rattle.clap.specs.declared.builder.command.Command.{Command}
 use Rattle.clap.specs.declared.builder.command.Command.TheViews.{out-Command}
 use Rattle.clap.specs.declared.builder.value_parser.ValueParser.TheVariants as parser
 use Rattle.clap.specs.declared.parser.matches.ArgMatches.{ArgMatches}
-use Rattle.clap.specs.declared.builder.command.Command.TheOpen.{Command-F}
 use Rattle.clap.proofs.CallerLemmas.{added_plain}
 use Rattle.clap.proofs.CallerReads.{required_reads}
-use Rattle.clap.proofs.WalkLemmas.{one_text-rows}
-use Rattle.link_daemon.specs.LoadCommand.{HasNumber, IsLoadCommand, IsNumberArg, IsNumberIn}
-use Rattle.link_daemon.specs.LoadWords.{Says, load_app, number_rule}
-
--- ---- the numbers
-
--- the number of a name, by the matches that the command has on the words
-pub said : (words : List (String Global)) (m : ArgMatches) (id : List ℕ) (number : ℕ)
-    → HasMatchesOf load_app (map string_bytes words) m → IsNumberIn m id number → Says words id number
-said words m id number matches is = (
-  is.0,
-  ap (one_of id) (sym (matches refl).0) ∙ sym (one_text-rows (found_of m) id) ∙ is.1,
-  is.2,
-  is.3,
-)
+use Rattle.link_daemon.specs.CommandWords.{HasNumber}
+use Rattle.link_daemon.specs.LoadCommand.{IsLoadCommand, IsNumberArg}
+use Rattle.link_daemon.specs.LoadWords.{number_rule}
+use Rattle.link_daemon.proofs.CommandWordLemmas.{IsBare, named, own}
 
 -- ---- the two values
 
@@ -54,14 +38,6 @@ module _ (a b : Arg) (a_is : a.id.now ≡ codes "SEED") (b_is : b.id.now ≡ cod
   only_count (suc zero) e low same = refl
   only_count (suc (suc j)) e low same = absurd (omega arith)
 
--- the first letters of a name
-named : (id : List ℕ) (first : ℕ) → get_or id 0 0 ≡ first → 1 ≤ first → id ≡ [] → ⊥
-named id first is some e = omega (arith, is, some, ap (λ (xs : List ℕ). get_or xs 0 0) e)
-
-own : (a : Arg) (id : List ℕ) → a.id.now ≡ id → get_or id 0 0 < 104 → IsAuto a → ⊥
-own a id is low (inl h) = omega (arith, low, ap (λ (xs : List ℕ). get_or xs 0 0) (sym is ∙ h))
-own a id is low (inr h) = omega (arith, low, ap (λ (xs : List ℕ). get_or xs 0 0) (sym is ∙ h))
-
 -- a value of the command is a number in its range
 number_read : (c : Command) (m : ArgMatches) → IsParsedFrom c m → IsPlain c
     → (out-Command c).has_globals ≡ false → (out-Command c).subcommand_negates_reqs ≡ false
@@ -78,7 +54,7 @@ number_read c m p plain local negates k a id least most lt at is unique some low
     (subst (λ (x : Arg). 1 ≤ least_values x) (sym at) is.least_one)
     (λ j e below same. unique j e below (subst (λ (x : Arg). bytes_eq (slice_index_or (args_of c) j e).id.now x.id.now ≡ true) at same))
     (λ empty. named id (get_or id 0 0) refl some (sym is.id_is ∙ ap (λ (x : Arg). x.id.now) (sym at) ∙ empty))
-    (λ auto. own a id is.id_is low (subst IsAuto at auto))
+    (λ auto. own a (get_or id 0 0) (ap (λ (xs : List ℕ). get_or xs 0 0) is.id_is) (λ e. omega (arith, low, e)) (λ e. omega (arith, low, e)) (subst IsAuto at auto))
     (parser.Unsigned least most) (ap (λ (x : Arg). x.value_parser) at ∙ is.parsed) in (
       read.0,
       subst (λ (w : List ℕ). one_text (found_of m) w ≡ Some read.0) (ap (λ (x : Arg). x.id.now) at ∙ is.id_is) read.1,
@@ -124,33 +100,8 @@ number_added a b id least most same is = record {
   parsed = same.parser (parser.Unsigned least most) is.parsed;
 }
 
--- the command before its values
-pub record IsBare (c : Command) : Type 0 where
-  pub app : app_of c ≡ on_top (λ shape. record shape { disable_help_flag = true; disable_version_flag = true }) (new_app (codes "load"))
-  pub none : args_of c ≡ []
-  pub groups : groups_of c ≡ []
-  pub local : (out-Command c).has_globals ≡ false
-  pub negates : (out-Command c).subcommand_negates_reqs ≡ false
-
-pub bare_command : (new worded helpless end : Command)
-    → app_of new ≡ new_app (codes "load") → args_of new ≡ [] → groups_of new ≡ [] → (out-Command new).has_globals ≡ false → (out-Command new).subcommand_negates_reqs ≡ false
-    → out-Command worded ≡ record (out-Command new) { bin_name = (out-Command worded).bin_name }
-    → out-Command helpless ≡ record (out-Command worded) { disable_help_flag = true }
-    → out-Command end ≡ record (out-Command helpless) { disable_version_flag = true }
-    → IsBare end
-bare_command new worded helpless end app none groups local negates f g h = record {
-  app = ap app_of_fields h
-      ∙ ap (on_top (λ s. record s { disable_version_flag = true })) (ap app_of_fields g
-      ∙ ap (on_top (λ s. record s { disable_help_flag = true })) (ap app_of_fields f ∙ app));
-  none = ap (λ (c : Command-F Command). c.args.items) h ∙ ap (λ (c : Command-F Command). c.args.items) g ∙ ap (λ (c : Command-F Command). c.args.items) f ∙ none;
-  groups = ap (λ (c : Command-F Command). c.groups.items) h ∙ ap (λ (c : Command-F Command). c.groups.items) g ∙ ap (λ (c : Command-F Command). c.groups.items) f ∙ groups;
-  local = ap (λ (c : Command-F Command). c.has_globals) h ∙ ap (λ (c : Command-F Command). c.has_globals) g ∙ ap (λ (c : Command-F Command). c.has_globals) f ∙ local;
-  negates = ap (λ (c : Command-F Command). c.subcommand_negates_reqs) h ∙ ap (λ (c : Command-F Command). c.subcommand_negates_reqs) g
-      ∙ ap (λ (c : Command-F Command). c.subcommand_negates_reqs) f ∙ negates;
-}
-
 -- both values are added
-pub whole_command : (c mid end : Command) (seed count : Arg) → IsBare c → AddsArg c seed mid → AddsArg mid count end
+pub whole_command : (c mid end : Command) (seed count : Arg) → IsBare (codes "load") c → AddsArg c seed mid → AddsArg mid count end
     → rule_of seed ≡ number_rule (codes "SEED") 0 (2 ^ 64 - 1) → IsNumberArg seed (codes "SEED") 0 (2 ^ 64 - 1)
     → rule_of count ≡ number_rule (codes "COUNT") 1 524_288 → IsNumberArg count (codes "COUNT") 1 524_288
     → IsLoadCommand end

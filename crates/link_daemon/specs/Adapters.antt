@@ -7,7 +7,6 @@ use Rattle.std.specs.Io.KnownBytes.{Appends, Consumes, IsAtEnd, Keeps}
 use Rattle.std.specs.Time.{instant_nanos}
 use Rattle.std.specs.declared.time.Instant.{Instant}
 use Rattle.lk_base.specs.Ranges.{IsMoment}
-use Rattle.lk_base.specs.declared.block.Block.{Block}
 use Rattle.lk_base.specs.declared.block.Click.{Click}
 use Rattle.lk_outside.specs.declared.audio.Next.{Next}
 use Rattle.lk_outside.specs.declared.audio.Next.TheVariants as next

@@ -1,15 +1,12 @@
 -- The command of clap that reads the words of `load`.
 use Rattle.std.specs.Prelude.{◌≡◌, ◌≤◌, ◌-◌, ◌^◌, ℕ, true, false, List, [], ◌∷◌, Some, None, codes}
-use Rattle.std.specs.Str.Parse.{IsNumeral, digits_value, without_leading_plus}
 use Rattle.clap.specs.Facts.{least_values}
-use Rattle.clap.specs.Words.{IsPlain, IsPlainArg, app_of, args_of, found_of, one_text}
+use Rattle.clap.specs.Words.{IsPlain, IsPlainArg, app_of, args_of}
 use Rattle.clap.specs.declared.builder.action.ArgAction.TheVariants.{Set}
 use Rattle.clap.specs.declared.builder.arg.Arg.{Arg}
 use Rattle.clap.specs.declared.builder.command.Command.{Command}
 use Rattle.clap.specs.declared.builder.command.Command.TheViews.{out-Command}
 use Rattle.clap.specs.declared.builder.value_parser.ValueParser.TheVariants as parser
-use Rattle.clap.specs.declared.parser.matches.ArgMatches.{ArgMatches}
-use Rattle.clap.specs.Values.{IsUnsignedIn}
 use Rattle.link_daemon.specs.LoadWords.{load_app}
 
 -- a value that is needed, a whole number in this range
@@ -34,13 +31,3 @@ pub record IsLoadCommand (c : Command) : Type 0 where
   pub plain : IsPlain c
   pub local : (out-Command c).has_globals ≡ false
   pub negates : (out-Command c).subcommand_negates_reqs ≡ false
-
--- the value of this name is a number in this range
-abbrev pub HasNumber : ArgMatches → List ℕ → ℕ → ℕ → Type 0
-HasNumber m id least most = (text : List ℕ) × (one_text (found_of m) id ≡ Some text) × IsUnsignedIn least most text
-
--- the value of this name is this number
-abbrev pub IsNumberIn : ArgMatches → List ℕ → ℕ → Type 0
-IsNumberIn m id number =
-    (text : List ℕ) × (one_text (found_of m) id ≡ Some text)
-    × IsNumeral 10 (without_leading_plus text) × (digits_value 10 (without_leading_plus text) ≡ number)

@@ -1,13 +1,12 @@
 -- The words of `load`: those that a simple command of clap takes, which has two values and no flag.
-use Rattle.std.specs.Prelude.{◌≡◌, ◌-◌, ◌^◌, ℕ, true, List, [], ◌∷◌, Some, map, codes}
-use Rattle.std.specs.Str.Parse.{IsNumeral, digits_value, without_leading_plus}
+use Rattle.std.specs.Prelude.{◌≡◌, ◌-◌, ◌^◌, ℕ, true, List, [], Some, map, codes}
 use Rattle.std.specs.String.{string_bytes}
 use Rattle.std.specs.declared.alloc.Global.{Global}
 use Rattle.std.specs.declared.string.String.{String}
-use Rattle.clap.specs.Simple.{on_top}
-use Rattle.clap.specs.Words.{App, Rule, fault_of, matches_of, new_app, new_rule, one_of, with_rule}
+use Rattle.clap.specs.Words.{App, Rule, fault_of, new_rule, with_rule}
 use Rattle.clap.specs.declared.builder.action.ArgAction.TheVariants.{Set}
 use Rattle.clap.specs.declared.builder.value_parser.ValueParser.TheVariants as parser
+use Rattle.link_daemon.specs.CommandWords.{BeginsWith, Says, bare_app}
 
 -- a value that is needed, a whole number in this range
 abbrev pub number_rule : List ℕ → ℕ → ℕ → Rule
@@ -17,26 +16,20 @@ abbrev pub load_app : App
 load_app =
     with_rule
     (with_rule
-    (on_top (λ shape. record shape { disable_help_flag = true; disable_version_flag = true }) (new_app (codes "load")))
+    (bare_app (codes "load"))
     (number_rule (codes "SEED") 0 (2 ^ 64 - 1)))
     (number_rule (codes "COUNT") 1 524_288)
 
 -- the first of the words is `load`
 abbrev pub BeginsLoad : List (String Global) → Type 0
-BeginsLoad words = (rest : List (List ℕ)) × (map string_bytes words ≡ codes "load" ∷ rest)
+BeginsLoad words = BeginsWith (codes "load") words
 
 -- and clap finds no fault in the words behind it
 abbrev pub IsLoad : List (String Global) → Type 0
 IsLoad words = BeginsLoad words × (fault_of load_app (map string_bytes words) ≡ [])
 
--- the value of this name among the words is this number
-abbrev pub Says : List (String Global) → List ℕ → ℕ → Type 0
-Says words id number =
-    (text : List ℕ) × (one_of id (matches_of load_app (map string_bytes words)) ≡ Some text)
-    × IsNumeral 10 (without_leading_plus text) × (digits_value 10 (without_leading_plus text) ≡ number)
-
 -- the words are of `load`, with this seed and this number of events
 pub record NamesLoad (words : List (String Global)) (seed count : ℕ) : Type 0 where
   pub load : IsLoad words
-  pub seed_is : Says words (codes "SEED") seed
-  pub count_is : Says words (codes "COUNT") count
+  pub seed_is : Says load_app words (codes "SEED") seed
+  pub count_is : Says load_app words (codes "COUNT") count

@@ -7,8 +7,9 @@ ghost use Rattle.lk_outside.specs.Transfer.{AppendsPrefix};
 ghost use Rattle.link_daemon.specs.Loading.{told_of};
 ghost use Rattle.link_daemon.specs.Statuses.{EndsLoad, IfNothingWritten, seen};
 
+use crate::command_words::WordsFault;
 use crate::counts::{Counts, count_of};
-use crate::load_words::{WordsFault, load_numbers};
+use crate::load_words::load_numbers;
 use crate::outlet::{Outlet, SinkFailed};
 use crate::replay_lines::hand_state;
 use crate::status::Status;

@@ -1,13 +1,15 @@
 //! The words of `load`.
 
-ghost use Rattle.std.specs.Prelude.{◌≡◌, ◌≤◌, ◌-◌, ◌^◌, ℕ, [], codes, map, IfOk, IsErrOf};
+ghost use Rattle.std.specs.Prelude.{◌≡◌, ◌≤◌, ◌-◌, ◌^◌, ℕ, codes, map, IfOk, IsErrOf};
 ghost use Rattle.std.specs.String.{string_bytes};
 ghost use Rattle.clap.specs.Words.{FailsBy, HasMatchesOf, fault_of, rule_of};
 ghost use Rattle.clap.specs.declared.builder.value_parser.ValueParser.TheVariants.{Unsigned};
-ghost use Rattle.link_daemon.specs.LoadCommand.{HasNumber, IsLoadCommand, IsNumberArg, IsNumberIn};
+ghost use Rattle.link_daemon.specs.CommandWords.{HasNumber};
+ghost use Rattle.link_daemon.specs.LoadCommand.{IsLoadCommand, IsNumberArg};
 ghost use Rattle.link_daemon.specs.LoadWords.{BeginsLoad, IsLoad, NamesLoad, load_app, number_rule};
 
 use crate::command_line::begins_with;
+use crate::command_words::{WordsFault, number_in};
 use clap::builder::ValueParser;
 use clap::error::ErrorKind;
 use clap::{Arg, ArgAction, ArgMatches, Command, Error, value_parser};
@@ -19,15 +21,6 @@ pub struct LoadNumbers {
     pub seed: u64,
     /// How many events.
     pub count: u64,
-}
-
-/// Why words ask for no load.
-#[derive(Clone, Copy, Debug, PartialEq, Eq)]
-pub enum WordsFault {
-    /// They are not those of a load.
-    NotTaken,
-    /// There was no memory to read them.
-    Memory,
 }
 
 /// Which load the words ask for: `load`, a seed and a number of events from 1 to 524,288.
@@ -50,15 +43,6 @@ pub fn load_numbers(alloc: Global, words: &[String]) -> Result<LoadNumbers, Word
         Err(error) if error.kind() == ErrorKind::OutOfMemory => Err(WordsFault::Memory),
         Err(_) => Err(WordsFault::NotTaken),
     }
-}
-
-// The number of this name.
-fn number_in(matches: &ArgMatches<'_>, id: &str) -> u64
-    requires some { (least : ℕ) × (most : ℕ) × HasNumber matches.now id.now least most }
-    ensures is { IsNumberIn matches.now id.now result }
-    ensures range { (least most : ℕ) → HasNumber matches.now id.now least most → (least ≤ result) × (result ≤ most) }
-{
-    matches.get_one::<u64>(id).unwrap_or(0)
 }
 
 /// What clap makes of the words.

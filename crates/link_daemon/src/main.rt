@@ -1,16 +1,23 @@
 //! The program: its commands, and the real things that it reads from and writes to.
 //!
 //! In reading order: `top` (the top call), `command_line`, `status`, `laws`; `text_command` (a command that reads a whole text and writes
-//! another), `reason`, `text_fault`, `run_text`, `outlet`; `replay`, `replay_lines`, `counts`; `decode`, `hex_lines`; `load`,
-//! `load_words`; `network` (the loop that owns the network); `usage` (what is told of other words); `adapters`.
+//! another), `reason`, `text_fault`, `run_text`, `outlet`; `replay`, `replay_lines`, `counts`; `decode`, `hex_lines`; `load`; `load_words`,
+//! `live_words`, `command_words` (what both share); `network` (the loop that owns the network), `edit`, `audio` and `script` (the loops of
+//! the audio thread and of an application), `room`, `live_run` (the three beside one another, and the end), `report`, `report_text` (what a
+//! live run tells); `usage` (what is told of other words); `adapters`.
 #![tactic(auto)]
 
 mod adapters;
+mod audio;
 mod command_line;
+mod command_words;
 mod counts;
 mod decode;
+mod edit;
 mod hex_lines;
 mod laws;
+mod live_run;
+mod live_words;
 mod load;
 mod load_words;
 mod network;
@@ -18,7 +25,12 @@ mod outlet;
 mod reason;
 mod replay;
 mod replay_lines;
+mod report;
+mod report_text;
+mod room;
 mod run_text;
+mod script;
+mod sides;
 mod status;
 #[cfg(test)]
 mod tests;

@@ -165,7 +165,7 @@ fn ask<P: Port>(port: &mut P, due: i64, line: &mut Line) -> Got
 
 // Sends the datagrams in order, unless the port has failed. Answers whether it has then.
 // Waits: in the port. Memory: none.
-fn post<P: Port>(port: &mut P, sends: &[Sending], failed: bool) -> bool
+pub fn post<P: Port>(port: &mut P, sends: &[Sending], failed: bool) -> bool
     requires gates { failed ≡ false → AllByRecursion (λ s. s.gate.0 < length (P.bound port.old)) (map sending_value sends.now) }
     ensures posted { HasPosted (map sending_value sends.now) failed result (P.contents port.old) (P.contents port.new) }
     ensures gates { P.bound port.new ≡ P.bound port.old }
@@ -218,7 +218,7 @@ fn either(one: bool, other: bool) -> bool
 }
 
 // Laws of runs, for the proof.
-fn run_laws()
+pub fn run_laws()
     ensures { RunLaws }
 {
     moments_never_fall();

@@ -1,13 +1,18 @@
 //! Whole runs over objects in memory.
 
+mod audio;
 mod decode;
 mod faults;
 mod grammar;
 mod large;
+mod live_run;
+mod live_words;
 mod load;
 mod network;
 mod reasons;
 mod replay;
+mod report_text;
+mod script;
 mod usage;
 
 ghost use Rattle.std.specs.Prelude.{◌<◌};

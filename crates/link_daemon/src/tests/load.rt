@@ -1,7 +1,8 @@
 //! Loads: what they tell, and which words ask for one.
 
 use super::{run, slow, sound, spelled};
-use crate::load_words::{LoadNumbers, WordsFault, load_numbers};
+use crate::command_words::WordsFault;
+use crate::load_words::{LoadNumbers, load_numbers};
 use crate::status::Status;
 use std::test::Fail;
 

@@ -8,11 +8,11 @@ mod datagrams;
 mod drawn;
 mod link;
 mod rows;
-mod setup;
+pub mod setup;
 mod told;
 mod twin;
 mod watch;
-mod words;
+pub mod words;
 
 use link::{Cell, told_over};
 use std::alloc::{AllocError, Global};

@@ -1,19 +1,16 @@
-use Rattle.std.proofs.Common.{◌≡◌, ◌∙◌, ◌-◌, ◌^◌, ℤ, Some, ap₂, nat_cmp, w64}
-use Rattle.std.specs.Int.{saturate_unsigned}
-use Rattle.std.specs.Ordering.{ord_max}
-use Rattle.clap.specs.Values.{unsigned_up_to}
+use Rattle.std.proofs.Common.{◌≡◌, ◌-◌, ◌^◌, codes}
 use Rattle.std.proofs.lemmas.Result.{IfOk-weaker}
 use Rattle.clap.specs.declared.builder.value_parser.ValueParser.TheVariants.{Unsigned}
-use Rattle.link_daemon.proofs.LoadWordLemmas.{bare_command, whole_command}
+use Rattle.link_daemon.proofs.CommandWordLemmas.{bare_command, narrowed}
+use Rattle.link_daemon.proofs.LoadWordLemmas.{whole_command}
 use Rattle.link_daemon.proofs.load_words.load_command.Goals as goal
 
 pub returns : goal.returns
 returns c =
     let seed_parser : c.value_parser.result ≡ Unsigned 0 (2 ^ 64 - 1) = c.value_parser.ensures in
-    let count_parser : c.range.result ≡ Unsigned 1 524_288 =
-    (let made = rw c.value_parser-2.ensures at c.range.ensures in
-    made ∙ ap₂ (λ (low high : ℤ). unsigned_up_to (ord_max nat_cmp 0 (saturate_unsigned w64 low)) (2 ^ 64 - 1) (Some high)) c.new.ensures.start c.new.ensures.end) in
-    let start = bare_command c.new-2.result c.in_ok-bin_name.field-0 c.disable_help_flag.result c.disable_version_flag.result
+    let count_parser : c.range.result ≡ Unsigned 1 524_288 = narrowed _ _ _ _ 1 524_288 c.value_parser-2.ensures c.range.ensures
+    c.new.ensures.start c.new.ensures.end in
+    let start = bare_command (codes "load") c.new-2.result c.in_ok-bin_name.field-0 c.disable_help_flag.result c.disable_version_flag.result
     c.new-2.ensures.app c.new-2.ensures.empty.0 c.new-2.ensures.empty.1 c.new-2.ensures.local c.new-2.ensures.negates
     c.in_ok-bin_name.ensures.0 c.disable_help_flag.ensures c.disable_version_flag.ensures in
     IfOk-weaker c.arg-2.result _ _ (λ end added.

@@ -13,6 +13,7 @@ ghost use Rattle.link_daemon.specs.Network.{locals_of};
 use super::datagrams::{OWN, datagram_of, endpoint, sender_of};
 use super::watch::{Untils, Watch};
 use super::words::{Word, number_of};
+use crate::live_run::locals;
 use arrayvec::ArrayVec;
 use client_state::Commit;
 use link_node::{Config, GateSetup};
@@ -79,17 +80,6 @@ fn gate_of(k: u16, destinations: i64) -> GateSetup {
         local: endpoint(local),
         peers,
     }
-}
-
-/// The local endpoints of gates.
-fn locals(gates: &ArrayVec<GateSetup, 4>) -> ArrayVec<Endpoint, 4>
-    ensures { result.items ≡ map (λ gate. gate.local) (map gate_value gates.now.items) }
-{
-    let mut locals = ArrayVec::new();
-    for gate in gates.as_slice() {
-        locals.push(gate.local);
-    }
-    locals
 }
 
 // ---- the port
