@@ -1,13 +1,15 @@
 -- A live run from its parts: what its loops owe, and how it ends.
-use Rattle.std.proofs.Common.{◌≡◌, ℕ, ℤ, pos, ◌<◌, ◌+◌, ◌^◌, ◌⊎◌, ◌||◌, ⊎_elim, Bool, true, false, List, [], ◌∷◌, ◌++◌, length, map, Option, None, refl, sym, ap, subst, ◌∙◌, length-append, true≢false, arith}
+use Rattle.std.proofs.Common.{◌≡◌, ℕ, ℤ, pos, ◌<◌, ◌≤◌, ◌+◌, ◌^◌, ◌⊎◌, ◌||◌, ⊎_elim, Bool, true, false, List, [], ◌∷◌, ◌++◌, length, map, Option, None, refl, sym, ap, subst, ◌∙◌, length-append, true≢false, arith}
 use Rattle.std.specs.List.{AllByRecursion}
 use Rattle.std.proofs.lemmas.List.{length-map}
 use Rattle.lk_base.specs.Ranges.{IsQuantum}
+use Rattle.lk_base.specs.declared.block.Click.{Click}
 use Rattle.lk_base.specs.declared.endpoint.Endpoint.{Endpoint}
 use Rattle.lk_outside.specs.Audio.{AudioContents}
 use Rattle.lk_outside.specs.Faults.{Rose}
 use Rattle.lk_outside.specs.Pace.{IsPaced}
 use Rattle.lk_outside.specs.Port.{PortContents}
+use Rattle.client_state.specs.declared.commit.Commit.{Commit}
 use Rattle.client_state.specs.declared.state.State.{State}
 use Rattle.link_node.specs.Config.{ConfigValue}
 use Rattle.link_node.specs.Event.{EventValue, End, SendingValue}
@@ -16,10 +18,11 @@ use Rattle.link_shared.specs.Audio.{AudioView}
 use Rattle.link_shared.specs.Ending.{HasEnded, app_events}
 use Rattle.link_shared.specs.Hub.{HubView, machine_of, new_hub, opening_of, read_events}
 use Rattle.link_shared.specs.Passes.{AppView}
+use Rattle.link_shared.specs.declared.capture.Capture.{Capture}
 use Rattle.link_text.specs.declared.live_script.AppCommand.{AppCommand}
 use Rattle.link_text.specs.declared.live_script.BlockCommand.{BlockCommand}
 use Rattle.link_text.specs.declared.live_script.LiveScript.{LiveScript}
-use Rattle.link_daemon.specs.AudioRun.{IsAudioRun}
+use Rattle.link_daemon.specs.AudioRun.{BlockRead, IsAudioRun, clicks_of_blocks}
 use Rattle.link_daemon.specs.Headline.{IsLiveRun, LiveSetup, new_audio}
 use Rattle.link_daemon.specs.Journal.{has_ended}
 use Rattle.link_daemon.specs.LiveRun.{EndsLiveRun, IsFull, IsReady, first_of}
@@ -206,3 +209,25 @@ module _ (laws : RunLaws) (best : BestLaw) (config : ConfigValue) (now : ℤ) (m
   run_ends true false true true last posted works fails unbound audio script = (stays false posted works refl, audio.cause.works refl, is_full last)
   run_ends true false true false last posted works fails unbound audio script =
       (stays false posted works refl, audio.cause.works refl, whole last posted audio script)
+
+-- ---- how much was played
+
+clicks_few : (quantum : ℤ) (captures : List Capture) (reads : List BlockRead) → length (clicks_of_blocks quantum captures reads) ≤ length reads
+clicks_few quantum [] reads = omega arith
+clicks_few quantum (capture ∷ captures) [] = omega arith
+clicks_few quantum (capture ∷ captures) (read ∷ reads) = let rest = clicks_few quantum captures reads in omega (arith, rest)
+
+-- no more blocks are played than asked for
+pub plays_few : (quantum : ℤ) (most : ℕ) (commands : List BlockCommand) (before after : AudioView) (told told_then : Option AudioContents)
+    (reads : List Capture) (commits : List Commit) (plays : List (List Click)) (failed : Bool)
+    → IsAudioRun quantum most commands before after told told_then reads commits plays failed → length plays ≤ most
+plays_few quantum most commands before after told told_then reads commits plays failed run =
+    omega (arith, run.few, length-append run.played run.unplayed, clicks_few quantum reads run.played, ap length run.plays_are)
+
+-- the events of a run are ones that its node can take
+pub all_fit : (bound : Bool) (hub0 hub1 hub2 : HubView) (app : AppView) (given given_then : Option PortContents) (gates gates_then : List Endpoint) (faults faults_then : ℕ) (end : NetEnd) (config : ConfigValue) (now : ℤ) (most : ℕ) (events : List EventValue)
+    → hub0 ≡ new_hub config now most → HasRun bound hub0 hub1 given given_then gates gates_then faults faults_then end
+    → hub2 ≡ record hub1 { handed = hub1.handed ++ app ∷ [] } → AreFitting (length hub2.config.gates) 0 0 events → AreFitting (length config.gates) 0 0 events
+all_fit bound hub0 hub1 hub2 app given given_then gates gates_then faults faults_then end config now most events is net hub2_is fit =
+    subst (λ (c : ConfigValue). AreFitting (length c.gates) 0 0 events)
+    (ap (λ (h : HubView). h.config) hub2_is ∙ net.run.same_config ∙ ap (λ (h : HubView). h.config) is) fit

@@ -12,6 +12,9 @@ mod LiveWordLemmas
 mod LoadLemmas
 mod StatusLemmas
 mod FaultLineLemmas
+mod CauseLemmas
+mod NamedLemmas
+mod LiveStatusLemmas
 mod OneStatusLemmas
 mod ValidInputLemmas
 mod JournalLemmas
@@ -31,3 +34,5 @@ mod EditLemmas
 mod CommitLemmas
 mod AudioLemmas
 mod CloseLemmas
+mod LiveLemmas
+mod RecordLemmas

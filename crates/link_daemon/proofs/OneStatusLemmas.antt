@@ -1,175 +1,26 @@
 -- The causes of two statuses never hold together.
-use Rattle.std.proofs.Common.{◌≡◌, ◌≢◌, inl, inr, ◌<◌, ◌-◌, ◌^◌, ◌++◌, length, List, ℕ, Option, Some, None, IsSome, refl, ap, sym, subst, ◌∙◌, arith}
-use Rattle.std.proofs.lemmas.List.{append-nil}
-use Rattle.lk_outside.specs.Faults.{Rose}
-use Rattle.lk_outside.specs.Source.{Takes, IsAtEnd}
-use Rattle.lk_outside.specs.Transfer.{TakesOver}
+use Rattle.std.proofs.Common.{◌≡◌, ◌≢◌, inl, inr, ◌<◌, ◌-◌, ◌^◌, List, ℕ, Some, None, IsSome, refl, ap, sym, subst, ◌∙◌}
 use Rattle.std.specs.declared.alloc.Global.{Global}
 use Rattle.std.specs.declared.string.String.{String}
+use Rattle.lk_outside.specs.Faults.{Rose}
+use Rattle.lk_outside.specs.Transfer.{TakesOver}
+use Rattle.link_daemon.specs.Ends.{Ends}
+use Rattle.link_daemon.specs.LoadWords.{IsLoad}
+use Rattle.link_daemon.specs.Outside.{Outside}
 use Rattle.link_daemon.specs.declared.status.Grammar.{Grammar}
 use Rattle.link_daemon.specs.declared.status.Status.{Status}
 use Rattle.link_daemon.specs.declared.status.Status.TheVariants as status
-use Rattle.link_daemon.specs.Statuses.{Command, Stream, WasRead, ReadsText, ReadsFault, EndsBy, EndsLoad, replay_command, decode_command}
-use Rattle.link_daemon.specs.OneStatus.{End, end_of, IsTold, HasOneStatus, HasOneFaultLine}
-use Rattle.link_daemon.proofs.StatusLemmas.{load_and_decode, load_and_replay, not_both}
+use Rattle.link_daemon.specs.Statuses.{Command, Stream, Names, ReadsText, ReadsFault, EndsBy, EndsLoad, replay_command, decode_command}
+use Rattle.link_daemon.specs.OneStatus.{CanFail, End, end_of, IsTold, HasOneStatus, HasOneFaultLine, HasOneLiveFaultLine}
+use Rattle.link_daemon.proofs.CauseLemmas.{First, here, later, IsOne, first_is_one, rose_and_quiet, one_read, more_and_whole}
 use Rattle.link_daemon.proofs.HexLineLemmas.{bad_and_decoded}
 use Rattle.link_daemon.proofs.FaultLineLemmas.{IsFaultOnce, one_script_fault, one_bad_line}
-
--- a count that can rise does not both rise and stay
-rose_and_quiet : (before now : ℕ) → before < 2 ^ 64 - 1 → Rose before now → now ≡ before → ⊥
-rose_and_quiet before now counts rose quiet = omega (arith, rose.risen)
-
--- what was taken up to the end is all that was told
-pub taken_is_all : (xs bytes : List ℕ) (after : Option (List ℕ)) → Takes (Some xs) bytes after → IsAtEnd after → xs ≡ bytes
-taken_is_all xs bytes None takes end = cc
-taken_is_all xs bytes (Some ys) takes end =
-    let all : Some xs ≡ Some (bytes ++ ys) = takes in
-    let same : xs ≡ bytes ++ ys = cc in
-    same ∙ ap (λ (rest : List ℕ). bytes ++ rest) end ∙ append-nil bytes
-
-pub one_text : (told after : Option (List ℕ)) (first second : List ℕ) → IsSome told → Takes told first after → Takes told second after → IsAtEnd after → first ≡ second
-one_text None after first second tells one two end = cc
-one_text (Some xs) after first second tells one two end = sym (taken_is_all xs first after one end) ∙ taken_is_all xs second after two end
-
--- what is within the limit is not more than the limit
-more_and_whole : (limit : ℕ) (input input' : Stream) (bytes : List ℕ) → IsSome input.told
-    → TakesOver limit input.told input'.told → WasRead limit input input' bytes → ⊥
-more_and_whole limit input input' bytes tells over read =
-    let same : over.bytes ≡ bytes = one_text input.told input'.told over.bytes bytes tells over.taken read.whole.taken read.whole.ended in
-    let long : length over.bytes ≡ length bytes = ap length same in
-    omega (arith, read.within, over.more)
+use Rattle.link_daemon.proofs.LiveStatusLemmas.{one_live}
+use Rattle.link_daemon.proofs.NamedLemmas.{as_replay, as_decode, as_load, as_live, as_unnamed}
 
 -- a text for which a command gives an output has no fault
 abbrev pub AreExclusive : Command → Type 0
 AreExclusive command = (text output : List ℕ) (line : ℕ) → command.FaultsAt text line → command.Gives text output → ⊥
-
--- one text is not both in a grammar and outside it
-fault_and_output : (command : Command) → AreExclusive command → (line : ℕ) (input input' : Stream) (output : List ℕ) → IsSome input.told
-    → ReadsFault command input input' line → ReadsText command input input' output → ⊥
-fault_and_output command exclusive line input input' output tells faulty whole =
-    let same : whole.bytes ≡ faulty.bytes = one_text input.told input'.told whole.bytes faulty.bytes tells whole.read.whole.taken faulty.read.whole.taken whole.read.whole.ended in
-    exclusive faulty.bytes output line faulty.fault (let P : List ℕ → Type 0 = λ bytes. command.Gives bytes output in subst P same whole.gives)
-
--- one text has one first line at fault
-one_line : (command : Command) → HasOneFaultLine command → (line other : ℕ) (input input' : Stream) → IsSome input.told
-    → ReadsFault command input input' line → ReadsFault command input input' other → line ≡ other
-one_line command once line other input input' tells p q =
-    let same : p.bytes ≡ q.bytes = one_text input.told input'.told p.bytes q.bytes tells p.read.whole.taken q.read.whole.taken p.read.whole.ended in
-    once q.bytes line other (let P : List ℕ → Type 0 = λ bytes. command.FaultsAt bytes line in subst P same p.fault) q.fault
-
--- the line at fault and the limit of an end
-end_at : Grammar × ℕ → End
-end_at fault = record { number = 8; fault = Some fault; limit = None }
-
-end_past : ℕ → End
-end_past limit = record { number = 10; fault = None; limit = Some limit }
-
--- one run of one command
-one_of : (command : Command) → AreExclusive command → HasOneFaultLine command → (words : List (String Global)) (input input' out out' : Stream) (one other : Status)
-    → IsTold input → out.faults < 2 ^ 64 - 1 → one ≢ status.Memory → other ≢ status.Memory
-    → EndsBy command words input input' out out' one → EndsBy command words input input' out out' other
-    → end_of one ≡ end_of other
-unfolding end_at end_past
-one_of command exclusive once words input input' out out' status.Done status.Done tells counts not_one not_other (named, (output, reads, wrote)) (named', (output', reads', wrote')) =
-    refl
-one_of command exclusive once words input input' out out' status.Done status.Words tells counts not_one not_other (named, (output, reads, wrote)) (unnamed', same_in', same_out') =
-    absurd (unnamed' named)
-one_of command exclusive once words input input' out out' status.Done status.Input tells counts not_one not_other (named, (output, reads, wrote)) (named', rose', few', same_out') =
-    absurd (rose_and_quiet _ _ tells.counts rose' reads.read.quiet)
-one_of command exclusive once words input input' out out' status.Done status.Sink tells counts not_one not_other (named, (output, reads, wrote)) (named', (output', reads', wrote')) =
-    absurd (rose_and_quiet _ _ counts wrote'.rose wrote.quiet)
-one_of command exclusive once words input input' out out' status.Done (status.Script g' line' reason') tells counts not_one not_other (named, (output, reads, wrote)) (named', same_grammar', reads', same_out') =
-    absurd (fault_and_output command exclusive _ _ _ _ tells.told reads' reads)
-one_of command exclusive once words input input' out out' status.Done status.Memory tells counts not_one not_other (named, (output, reads, wrote)) ends' =
-    absurd (not_other refl)
-one_of command exclusive once words input input' out out' status.Done (status.TooLong limit') tells counts not_one not_other (named, (output, reads, wrote)) (named', same_limit', more', quiet', same_out') =
-    absurd (more_and_whole _ _ _ _ tells.told more' reads.read)
-one_of command exclusive once words input input' out out' status.Words status.Done tells counts not_one not_other (unnamed, same_in, same_out) (named', (output', reads', wrote')) =
-    absurd (unnamed named')
-one_of command exclusive once words input input' out out' status.Words status.Words tells counts not_one not_other (unnamed, same_in, same_out) (unnamed', same_in', same_out') =
-    refl
-one_of command exclusive once words input input' out out' status.Words status.Input tells counts not_one not_other (unnamed, same_in, same_out) (named', rose', few', same_out') =
-    absurd (unnamed named')
-one_of command exclusive once words input input' out out' status.Words status.Sink tells counts not_one not_other (unnamed, same_in, same_out) (named', (output', reads', wrote')) =
-    absurd (unnamed named')
-one_of command exclusive once words input input' out out' status.Words (status.Script g' line' reason') tells counts not_one not_other (unnamed, same_in, same_out) (named', same_grammar', reads', same_out') =
-    absurd (unnamed named')
-one_of command exclusive once words input input' out out' status.Words status.Memory tells counts not_one not_other (unnamed, same_in, same_out) ends' =
-    absurd (not_other refl)
-one_of command exclusive once words input input' out out' status.Words (status.TooLong limit') tells counts not_one not_other (unnamed, same_in, same_out) (named', same_limit', more', quiet', same_out') =
-    absurd (unnamed named')
-one_of command exclusive once words input input' out out' status.Input status.Done tells counts not_one not_other (named, rose, few, same_out) (named', (output', reads', wrote')) =
-    absurd (rose_and_quiet _ _ tells.counts rose reads'.read.quiet)
-one_of command exclusive once words input input' out out' status.Input status.Words tells counts not_one not_other (named, rose, few, same_out) (unnamed', same_in', same_out') =
-    absurd (unnamed' named)
-one_of command exclusive once words input input' out out' status.Input status.Input tells counts not_one not_other (named, rose, few, same_out) (named', rose', few', same_out') =
-    refl
-one_of command exclusive once words input input' out out' status.Input status.Sink tells counts not_one not_other (named, rose, few, same_out) (named', (output', reads', wrote')) =
-    absurd (rose_and_quiet _ _ tells.counts rose reads'.read.quiet)
-one_of command exclusive once words input input' out out' status.Input (status.Script g' line' reason') tells counts not_one not_other (named, rose, few, same_out) (named', same_grammar', reads', same_out') =
-    absurd (rose_and_quiet _ _ tells.counts rose reads'.read.quiet)
-one_of command exclusive once words input input' out out' status.Input status.Memory tells counts not_one not_other (named, rose, few, same_out) ends' =
-    absurd (not_other refl)
-one_of command exclusive once words input input' out out' status.Input (status.TooLong limit') tells counts not_one not_other (named, rose, few, same_out) (named', same_limit', more', quiet', same_out') =
-    absurd (rose_and_quiet _ _ tells.counts rose quiet')
-one_of command exclusive once words input input' out out' status.Sink status.Done tells counts not_one not_other (named, (output, reads, wrote)) (named', (output', reads', wrote')) =
-    absurd (rose_and_quiet _ _ counts wrote.rose wrote'.quiet)
-one_of command exclusive once words input input' out out' status.Sink status.Words tells counts not_one not_other (named, (output, reads, wrote)) (unnamed', same_in', same_out') =
-    absurd (unnamed' named)
-one_of command exclusive once words input input' out out' status.Sink status.Input tells counts not_one not_other (named, (output, reads, wrote)) (named', rose', few', same_out') =
-    absurd (rose_and_quiet _ _ tells.counts rose' reads.read.quiet)
-one_of command exclusive once words input input' out out' status.Sink status.Sink tells counts not_one not_other (named, (output, reads, wrote)) (named', (output', reads', wrote')) =
-    refl
-one_of command exclusive once words input input' out out' status.Sink (status.Script g' line' reason') tells counts not_one not_other (named, (output, reads, wrote)) (named', same_grammar', reads', same_out') =
-    absurd (fault_and_output command exclusive _ _ _ _ tells.told reads' reads)
-one_of command exclusive once words input input' out out' status.Sink status.Memory tells counts not_one not_other (named, (output, reads, wrote)) ends' =
-    absurd (not_other refl)
-one_of command exclusive once words input input' out out' status.Sink (status.TooLong limit') tells counts not_one not_other (named, (output, reads, wrote)) (named', same_limit', more', quiet', same_out') =
-    absurd (more_and_whole _ _ _ _ tells.told more' reads.read)
-one_of command exclusive once words input input' out out' (status.Script g line reason) status.Done tells counts not_one not_other (named, same_grammar, reads, same_out) (named', (output', reads', wrote')) =
-    absurd (fault_and_output command exclusive _ _ _ _ tells.told reads reads')
-one_of command exclusive once words input input' out out' (status.Script g line reason) status.Words tells counts not_one not_other (named, same_grammar, reads, same_out) (unnamed', same_in', same_out') =
-    absurd (unnamed' named)
-one_of command exclusive once words input input' out out' (status.Script g line reason) status.Input tells counts not_one not_other (named, same_grammar, reads, same_out) (named', rose', few', same_out') =
-    absurd (rose_and_quiet _ _ tells.counts rose' reads.read.quiet)
-one_of command exclusive once words input input' out out' (status.Script g line reason) status.Sink tells counts not_one not_other (named, same_grammar, reads, same_out) (named', (output', reads', wrote')) =
-    absurd (fault_and_output command exclusive _ _ _ _ tells.told reads reads')
-one_of command exclusive once words input input' out out' (status.Script g line reason) (status.Script g' line' reason') tells counts not_one not_other (named, same_grammar, reads, same_out) (named', same_grammar', reads', same_out') =
-    let same : g ≡ g' = same_grammar ∙ sym same_grammar' in
-    let same_line : line ≡ line' = one_line command once line line' input input' tells.told reads reads' in
-    ap end_at (cc (same, same_line))
-one_of command exclusive once words input input' out out' (status.Script g line reason) status.Memory tells counts not_one not_other (named, same_grammar, reads, same_out) ends' =
-    absurd (not_other refl)
-one_of command exclusive once words input input' out out' (status.Script g line reason) (status.TooLong limit') tells counts not_one not_other (named, same_grammar, reads, same_out) (named', same_limit', more', quiet', same_out') =
-    absurd (more_and_whole _ _ _ _ tells.told more' reads.read)
-one_of command exclusive once words input input' out out' status.Memory status.Done tells counts not_one not_other ends (named', (output', reads', wrote')) =
-    absurd (not_one refl)
-one_of command exclusive once words input input' out out' status.Memory status.Words tells counts not_one not_other ends (unnamed', same_in', same_out') =
-    absurd (not_one refl)
-one_of command exclusive once words input input' out out' status.Memory status.Input tells counts not_one not_other ends (named', rose', few', same_out') =
-    absurd (not_one refl)
-one_of command exclusive once words input input' out out' status.Memory status.Sink tells counts not_one not_other ends (named', (output', reads', wrote')) =
-    absurd (not_one refl)
-one_of command exclusive once words input input' out out' status.Memory (status.Script g' line' reason') tells counts not_one not_other ends (named', same_grammar', reads', same_out') =
-    absurd (not_one refl)
-one_of command exclusive once words input input' out out' status.Memory status.Memory tells counts not_one not_other ends ends' =
-    absurd (not_one refl)
-one_of command exclusive once words input input' out out' status.Memory (status.TooLong limit') tells counts not_one not_other ends (named', same_limit', more', quiet', same_out') =
-    absurd (not_one refl)
-one_of command exclusive once words input input' out out' (status.TooLong limit) status.Done tells counts not_one not_other (named, same_limit, more, quiet, same_out) (named', (output', reads', wrote')) =
-    absurd (more_and_whole _ _ _ _ tells.told more reads'.read)
-one_of command exclusive once words input input' out out' (status.TooLong limit) status.Words tells counts not_one not_other (named, same_limit, more, quiet, same_out) (unnamed', same_in', same_out') =
-    absurd (unnamed' named)
-one_of command exclusive once words input input' out out' (status.TooLong limit) status.Input tells counts not_one not_other (named, same_limit, more, quiet, same_out) (named', rose', few', same_out') =
-    absurd (rose_and_quiet _ _ tells.counts rose' quiet)
-one_of command exclusive once words input input' out out' (status.TooLong limit) status.Sink tells counts not_one not_other (named, same_limit, more, quiet, same_out) (named', (output', reads', wrote')) =
-    absurd (more_and_whole _ _ _ _ tells.told more reads'.read)
-one_of command exclusive once words input input' out out' (status.TooLong limit) (status.Script g' line' reason') tells counts not_one not_other (named, same_limit, more, quiet, same_out) (named', same_grammar', reads', same_out') =
-    absurd (more_and_whole _ _ _ _ tells.told more reads'.read)
-one_of command exclusive once words input input' out out' (status.TooLong limit) status.Memory tells counts not_one not_other (named, same_limit, more, quiet, same_out) ends' =
-    absurd (not_other refl)
-one_of command exclusive once words input input' out out' (status.TooLong limit) (status.TooLong limit') tells counts not_one not_other (named, same_limit, more, quiet, same_out) (named', same_limit', more', quiet', same_out') =
-    ap end_past (same_limit ∙ sym same_limit')
 
 pub replay_exclusive : AreExclusive replay_command
 replay_exclusive text output line fault (config, now, es, script, same) = fault.1 (config, now, es, script)
@@ -177,67 +28,163 @@ replay_exclusive text output line fault (config, now, es, script, same) = fault.
 pub decode_exclusive : AreExclusive decode_command
 decode_exclusive text output line fault whole = bad_and_decoded text output line fault whole
 
+-- one text is not both in a grammar and outside it
+fault_and_output : (command : Command) → AreExclusive command → (line : ℕ) (input input' : Stream) (output : List ℕ) → IsSome input.told
+    → ReadsFault command input input' line → ReadsText command input input' output → ⊥
+fault_and_output command exclusive line input input' output tells faulty whole =
+    let same : whole.bytes ≡ faulty.bytes = one_read command.limit input input' whole.bytes faulty.bytes tells whole.read faulty.read in
+    exclusive faulty.bytes output line faulty.fault
+    (let P : List ℕ → Type 0 = λ bytes. command.Gives bytes output in subst P same whole.gives)
+
+-- one text has one first line at fault
+one_line : (command : Command) → HasOneFaultLine command → (line other : ℕ) (input input' : Stream) → IsSome input.told
+    → ReadsFault command input input' line → ReadsFault command input input' other → line ≡ other
+one_line command once line other input input' tells p q =
+    let same : p.bytes ≡ q.bytes = one_read command.limit input input' p.bytes q.bytes tells p.read q.read in
+    once q.bytes line other (let P : List ℕ → Type 0 = λ bytes. command.FaultsAt bytes line in subst P same p.fault) q.fault
+
+-- ---- a command over a text
+
+-- where it was written: the sink failed, or all is done
+abbrev WriteCauses : Stream → Stream → End → Type 0
+WriteCauses out out' =
+    First (Rose out.faults out'.faults) (λ cause. end_of status.Sink)
+    (λ end. end ≡ end_of status.Done)
+
+one_write_end : (out out' : Stream) → IsOne (WriteCauses out out')
+one_write_end out out' =
+    first_is_one (Rose out.faults out'.faults) (λ cause. end_of status.Sink) (λ end. end ≡ end_of status.Done) (λ p q. refl)
+    (λ one other is is'. is ∙ sym is')
+
+-- of a text that was read
+abbrev ReadCauses : Command → Stream → Stream → Stream → Stream → End → Type 0
+ReadCauses command input input' out out' =
+    First ((line : ℕ) × ReadsFault command input input' line)
+    (λ fault. record { number = 8; fault = Some (command.grammar, fault.0); limit = None })
+    (WriteCauses out out')
+
+one_read_end : (command : Command) → HasOneFaultLine command → (input input' out out' : Stream) → IsSome input.told
+    → IsOne (ReadCauses command input input' out out')
+one_read_end command once input input' out out' tells =
+    first_is_one ((line : ℕ) × ReadsFault command input input' line)
+    (λ fault. record { number = 8; fault = Some (command.grammar, fault.0); limit = None }) (WriteCauses out out')
+    (λ p q.
+    ap (λ (line : ℕ). let end : End = record { number = 8; fault = Some (command.grammar, line); limit = None } in end)
+    (one_line command once p.0 q.0 input input' tells p.1 q.1))
+    (one_write_end out out')
+
+-- the causes of a command in their order
+abbrev CommandCauses : Command → List (String Global) → Stream → Stream → Stream → Stream → End → Type 0
+CommandCauses command words input input' out out' =
+    First (Names command words → ⊥) (λ cause. end_of status.Words)
+    (First (Rose input.faults input'.faults) (λ cause. end_of status.Input)
+    (First (TakesOver command.limit input.told input'.told) (λ cause. end_of (status.TooLong command.limit))
+    (ReadCauses command input input' out out')))
+
+one_command_end : (command : Command) → HasOneFaultLine command → (words : List (String Global)) (input input' out out' : Stream)
+    → IsSome input.told → IsOne (CommandCauses command words input input' out out')
+one_command_end command once words input input' out out' tells =
+    first_is_one (Names command words → ⊥) (λ cause. end_of status.Words) _ (λ p q. refl)
+    (first_is_one (Rose input.faults input'.faults) (λ cause. end_of status.Input) _ (λ p q. refl)
+    (first_is_one (TakesOver command.limit input.told input'.told) (λ cause. end_of (status.TooLong command.limit)) _ (λ p q. refl)
+    (one_read_end command once input input' out out' tells)))
+
+module _ (command : Command) (exclusive : AreExclusive command) (words : List (String Global)) (input input' out out' : Stream)
+    (tells : IsTold input) (counts : out.faults < 2 ^ 64 - 1) where
+  -- what follows a text with an output
+  read_so : (end : End) (output : List ℕ) → Names command words → ReadsText command input input' output → WriteCauses out out' end
+      → CommandCauses command words input input' out out' end
+  read_so end output named reads more =
+      later (λ unnamed. unnamed named)
+      (later (λ rose. rose_and_quiet _ _ tells.counts rose reads.read.quiet)
+      (later (λ over. more_and_whole _ _ _ _ tells.told over reads.read)
+      (later (λ fault. fault_and_output command exclusive _ _ _ _ tells.told fault.1 reads) more)))
+
+  command_cause : (end : Status) → end ≢ status.Memory → EndsBy command words input input' out out' end
+      → CommandCauses command words input input' out out' (end_of end)
+  command_cause status.Words some_memory (unnamed, same_in, same_out) = here unnamed refl
+  command_cause status.Input some_memory (named, rose, few, same_out) = later (λ unnamed. unnamed named) (here rose refl)
+  command_cause (status.TooLong limit) some_memory (named, same_limit, over, quiet, same_out) =
+      later (λ unnamed. unnamed named)
+      (later (λ rose. rose_and_quiet _ _ tells.counts rose quiet) (here over (ap (λ (most : ℕ). end_of (status.TooLong most)) same_limit)))
+  command_cause (status.Script g line reason) some_memory (named, same_grammar, reads, same_out) =
+      later (λ unnamed. unnamed named)
+      (later (λ rose. rose_and_quiet _ _ tells.counts rose reads.read.quiet)
+      (later (λ over. more_and_whole _ _ _ _ tells.told over reads.read)
+      (here (line, reads) (ap (λ (in_ : Grammar). end_of (status.Script in_ line reason)) same_grammar))))
+  command_cause status.Sink some_memory (named, (output, reads, wrote)) =
+      read_so (end_of status.Sink) output named reads (here wrote.rose refl)
+  command_cause status.Done some_memory (named, (output, reads, wrote)) =
+      read_so (end_of status.Done) output named reads (later (λ rose. rose_and_quiet _ _ counts rose wrote.quiet) refl)
+  command_cause status.Memory some_memory ends = absurd (some_memory refl)
+  command_cause status.Port some_memory never = absurd never
+  command_cause status.Audio some_memory never = absurd never
+  command_cause status.Events some_memory never = absurd never
+  command_cause (status.TooMany limit) some_memory never = absurd never
+
+-- one run of one command
+one_of : (command : Command) → AreExclusive command → HasOneFaultLine command → (words : List (String Global))
+    (input input' out out' : Stream) (one other : Status) → IsTold input → out.faults < 2 ^ 64 - 1 → one ≢ status.Memory → other ≢ status.Memory
+    → EndsBy command words input input' out out' one → EndsBy command words input input' out out' other
+    → end_of one ≡ end_of other
+one_of command exclusive once words input input' out out' one other tells counts not_one not_other ends ends' =
+    one_command_end command once words input input' out out' tells.told (end_of one) (end_of other)
+    (command_cause command exclusive words input input' out out' tells counts one not_one ends)
+    (command_cause command exclusive words input input' out out' tells counts other not_other ends')
+
+-- ---- a load
+
+abbrev LoadCauses : List (String Global) → Stream → Stream → End → Type 0
+LoadCauses words out out' = First (IsLoad words → ⊥) (λ cause. end_of status.Words) (WriteCauses out out')
+
+load_cause : (words : List (String Global)) (out out' : Stream) (end : Status) → out.faults < 2 ^ 64 - 1 → end ≢ status.Memory
+    → EndsLoad words out out' end → LoadCauses words out out' (end_of end)
+load_cause words out out' status.Words counts some_memory (unnamed, same_out) = here unnamed refl
+load_cause words out out' status.Sink counts some_memory (seed, count, named, (output, text, wrote)) =
+    later (λ unnamed. unnamed named.load) (here wrote.rose refl)
+load_cause words out out' status.Done counts some_memory (seed, count, named, (output, text, wrote)) =
+    later (λ unnamed. unnamed named.load) (later (λ rose. rose_and_quiet _ _ counts rose wrote.quiet) refl)
+load_cause words out out' status.Memory counts some_memory ends = absurd (some_memory refl)
+load_cause words out out' status.Input counts some_memory never = absurd never
+load_cause words out out' (status.Script g line reason) counts some_memory never = absurd never
+load_cause words out out' status.Port counts some_memory never = absurd never
+load_cause words out out' status.Audio counts some_memory never = absurd never
+load_cause words out out' status.Events counts some_memory never = absurd never
+load_cause words out out' (status.TooLong limit) counts some_memory never = absurd never
+load_cause words out out' (status.TooMany limit) counts some_memory never = absurd never
+
 -- one run of a load
 one_load : (words : List (String Global)) (out out' : Stream) (one other : Status)
     → out.faults < 2 ^ 64 - 1 → one ≢ status.Memory → other ≢ status.Memory
     → EndsLoad words out out' one → EndsLoad words out out' other
     → end_of one ≡ end_of other
-one_load words out out' status.Input other counts not_one not_other never ends' = absurd never
-one_load words out out' (status.Script g line reason) other counts not_one not_other never ends' = absurd never
-one_load words out out' (status.TooLong limit) other counts not_one not_other never ends' = absurd never
-one_load words out out' status.Memory other counts not_one not_other ends ends' = absurd (not_one refl)
-one_load words out out' status.Done status.Done counts not_one not_other (seed, count, named, (output, text, wrote)) (seed', count', named', (output', text', wrote')) = refl
-one_load words out out' status.Done status.Sink counts not_one not_other (seed, count, named, (output, text, wrote)) (seed', count', named', (output', text', wrote')) = absurd (rose_and_quiet _ _ counts wrote'.rose wrote.quiet)
-one_load words out out' status.Done status.Words counts not_one not_other (seed, count, named, (output, text, wrote)) (unnamed', same_out') = absurd (unnamed' named.load)
-one_load words out out' status.Done status.Input counts not_one not_other ends never = absurd never
-one_load words out out' status.Done (status.Script g line reason) counts not_one not_other ends never = absurd never
-one_load words out out' status.Done (status.TooLong limit) counts not_one not_other ends never = absurd never
-one_load words out out' status.Done status.Memory counts not_one not_other ends ends' = absurd (not_other refl)
-one_load words out out' status.Sink status.Done counts not_one not_other (seed, count, named, (output, text, wrote)) (seed', count', named', (output', text', wrote')) = absurd (rose_and_quiet _ _ counts wrote.rose wrote'.quiet)
-one_load words out out' status.Sink status.Sink counts not_one not_other (seed, count, named, (output, text, wrote)) (seed', count', named', (output', text', wrote')) = refl
-one_load words out out' status.Sink status.Words counts not_one not_other (seed, count, named, (output, text, wrote)) (unnamed', same_out') = absurd (unnamed' named.load)
-one_load words out out' status.Sink status.Input counts not_one not_other ends never = absurd never
-one_load words out out' status.Sink (status.Script g line reason) counts not_one not_other ends never = absurd never
-one_load words out out' status.Sink (status.TooLong limit) counts not_one not_other ends never = absurd never
-one_load words out out' status.Sink status.Memory counts not_one not_other ends ends' = absurd (not_other refl)
-one_load words out out' status.Words status.Done counts not_one not_other (unnamed, same_out) (seed', count', named', (output', text', wrote')) = absurd (unnamed named'.load)
-one_load words out out' status.Words status.Sink counts not_one not_other (unnamed, same_out) (seed', count', named', (output', text', wrote')) = absurd (unnamed named'.load)
-one_load words out out' status.Words status.Words counts not_one not_other (unnamed, same_out) (unnamed', same_out') = refl
-one_load words out out' status.Words status.Input counts not_one not_other ends never = absurd never
-one_load words out out' status.Words (status.Script g line reason) counts not_one not_other ends never = absurd never
-one_load words out out' status.Words (status.TooLong limit) counts not_one not_other ends never = absurd never
-one_load words out out' status.Words status.Memory counts not_one not_other ends ends' = absurd (not_other refl)
+one_load words out out' one other counts not_one not_other ends ends' =
+    first_is_one (IsLoad words → ⊥) (λ cause. end_of status.Words) (WriteCauses out out') (λ p q. refl) (one_write_end out out')
+    (end_of one) (end_of other)
+    (load_cause words out out' one counts not_one ends) (load_cause words out out' other counts not_other ends')
 
-pub one_status : IsFaultOnce → HasOneStatus
-one_status law words input input' out out' one other tells counts not_one not_other (inl (named, ends)) (inl (named', ends')) =
-    one_of replay_command replay_exclusive (one_script_fault law) words input input' out out' one other tells counts not_one not_other ends ends'
-one_status law words input input' out out' one other tells counts not_one not_other (inl (named, ends)) (inr (inl (named', ends'))) =
-    absurd (not_both words named named')
-one_status law words input input' out out' one other tells counts not_one not_other (inl (named, ends)) (inr (inr (inl (begun', (ends', unread'))))) =
-    absurd (load_and_replay words begun' named)
-one_status law words input input' out out' one other tells counts not_one not_other (inl (named, ends)) (inr (inr (inr unnamed'))) =
-    absurd (unnamed'.no_replay named)
-one_status law words input input' out out' one other tells counts not_one not_other (inr (inl (named, ends))) (inl (named', ends')) =
-    absurd (not_both words named' named)
-one_status law words input input' out out' one other tells counts not_one not_other (inr (inl (named, ends))) (inr (inl (named', ends'))) =
-    one_of decode_command decode_exclusive one_bad_line words input input' out out' one other tells counts not_one not_other ends ends'
-one_status law words input input' out out' one other tells counts not_one not_other (inr (inl (named, ends))) (inr (inr (inl (begun', (ends', unread'))))) =
-    absurd (load_and_decode words begun' named)
-one_status law words input input' out out' one other tells counts not_one not_other (inr (inl (named, ends))) (inr (inr (inr unnamed'))) =
-    absurd (unnamed'.no_decode named)
-one_status law words input input' out out' one other tells counts not_one not_other (inr (inr (inl (begun, (ends, unread))))) (inl (named', ends')) =
-    absurd (load_and_replay words begun named')
-one_status law words input input' out out' one other tells counts not_one not_other (inr (inr (inl (begun, (ends, unread))))) (inr (inl (named', ends'))) =
-    absurd (load_and_decode words begun named')
-one_status law words input input' out out' one other tells counts not_one not_other (inr (inr (inl (begun, (ends, unread))))) (inr (inr (inl (begun', (ends', unread'))))) =
-    one_load words out out' one other counts not_one not_other ends ends'
-one_status law words input input' out out' one other tells counts not_one not_other (inr (inr (inl (begun, (ends, unread))))) (inr (inr (inr unnamed'))) =
-    absurd (unnamed'.no_load begun)
-one_status law words input input' out out' one other tells counts not_one not_other (inr (inr (inr unnamed))) (inl (named', ends')) =
-    absurd (unnamed.no_replay named')
-one_status law words input input' out out' one other tells counts not_one not_other (inr (inr (inr unnamed))) (inr (inl (named', ends'))) =
-    absurd (unnamed.no_decode named')
-one_status law words input input' out out' one other tells counts not_one not_other (inr (inr (inr unnamed))) (inr (inr (inl (begun', (ends', unread'))))) =
-    absurd (unnamed.no_load begun')
-one_status law words input input' out out' one other tells counts not_one not_other (inr (inr (inr unnamed))) (inr (inr (inr unnamed'))) =
-    ap end_of (unnamed.words_at_fault ∙ sym unnamed'.words_at_fault)
+-- ---- the program
+
+module _ (law : IsFaultOnce) (live_law : HasOneLiveFaultLine) (words : List (String Global)) (seed : ℕ) (input input' : Stream)
+    (before after : Outside) (one other : Status) (tells : IsTold input) (can : CanFail before) (not_one : one ≢ status.Memory)
+    (not_other : other ≢ status.Memory) where
+  one_end : Ends words seed input input' before after one → Ends words seed input input' before after other → end_of one ≡ end_of other
+  one_end (inl (named, (ends, aside))) ends' =
+      one_of replay_command replay_exclusive (one_script_fault law) words input input' before.out after.out one other tells can.out_counts
+      not_one not_other ends (as_replay words seed input input' before after other named ends')
+  one_end (inr (inl (named, (ends, aside)))) ends' =
+      one_of decode_command decode_exclusive one_bad_line words input input' before.out after.out one other tells can.out_counts
+      not_one not_other ends (as_decode words seed input input' before after other named ends')
+  one_end (inr (inr (inl (begun, (ends, unread, aside))))) ends' =
+      one_load words before.out after.out one other can.out_counts not_one not_other ends
+      (as_load words seed input input' before after other begun ends')
+  one_end (inr (inr (inr (inl (begun, ends))))) ends' =
+      one_live live_law words seed input input' before after one other tells can not_one not_other ends
+      (as_live words seed input input' before after other begun ends')
+  one_end (inr (inr (inr (inr unnamed)))) ends' =
+      ap end_of
+      (unnamed.words_at_fault
+      ∙ sym (as_unnamed words seed input input' before after other unnamed.no_replay unnamed.no_decode unnamed.no_load unnamed.no_live ends'))
+
+pub one_status : IsFaultOnce → HasOneLiveFaultLine → HasOneStatus
+one_status law live_law = one_end law live_law

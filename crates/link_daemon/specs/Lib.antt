@@ -20,10 +20,14 @@ pub mod ScriptRun
 pub mod Report
 pub mod Headline
 pub mod LiveRun
+pub mod LiveSetup
 pub mod Loops
 pub mod Running
 pub mod TakingRun
 pub mod Statuses
+pub mod Outside
+pub mod LiveEnds
+pub mod Ends
 pub mod TextFaults
 pub mod OneStatus
 pub mod ValidInput

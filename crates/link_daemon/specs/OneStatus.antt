@@ -2,10 +2,13 @@
 use Rattle.std.specs.Prelude.{◌≡◌, ◌≢◌, ◌<◌, ◌^◌, ◌-◌, ℕ, IsSome, List, Option, Some, None}
 use Rattle.std.specs.declared.alloc.Global.{Global}
 use Rattle.std.specs.declared.string.String.{String}
+use Rattle.link_text.specs.LiveScript.{IsLiveLineFault}
 use Rattle.link_daemon.specs.declared.status.Grammar.{Grammar}
 use Rattle.link_daemon.specs.declared.status.Status.{Status}
 use Rattle.link_daemon.specs.declared.status.Status.TheVariants as status
-use Rattle.link_daemon.specs.Statuses.{Command, Stream, Ends, replay_command, decode_command}
+use Rattle.link_daemon.specs.Ends.{Ends}
+use Rattle.link_daemon.specs.Outside.{Outside}
+use Rattle.link_daemon.specs.Statuses.{Command, Stream, replay_command, decode_command}
 
 -- a stream that tells what it holds, and whose count of failures can still rise
 pub record IsTold (s : Stream) : Type 0 where
@@ -25,22 +28,35 @@ end_of status.Done = record { number = 0; fault = None; limit = None }
 end_of status.Words = record { number = 2; fault = None; limit = None }
 end_of status.Input = record { number = 5; fault = None; limit = None }
 end_of status.Sink = record { number = 7; fault = None; limit = None }
+end_of (status.TooMany limit) = record { number = 10; fault = None; limit = Some limit }
+end_of status.Port = record { number = 3; fault = None; limit = None }
+end_of status.Audio = record { number = 4; fault = None; limit = None }
+end_of status.Events = record { number = 6; fault = None; limit = None }
 end_of status.Memory = record { number = 9; fault = None; limit = None }
+
+-- the counts of failures can still rise
+pub record CanFail (outside : Outside) : Type 0 where
+  pub out_counts : outside.out.faults < 2 ^ 64 - 1
+  pub port_counts : outside.port.faults < 2 ^ 64 - 1
+  pub audio_counts : outside.audio.faults < 2 ^ 64 - 1
 
 -- One run over an input that tells has one status, its line at fault and its limit among it, want of memory apart. The words that
 -- say to people why a line is at fault are left out.
 abbrev pub HasOneStatus : Type 0
 HasOneStatus =
-    (words : List (String Global)) (input input' out out' : Stream) (one other : Status)
-    → IsTold input → out.faults < 2 ^ 64 - 1
+    (words : List (String Global)) (seed : ℕ) (input input' : Stream) (before after : Outside) (one other : Status)
+    → IsTold input → CanFail before
     → one ≢ status.Memory → other ≢ status.Memory
-    → Ends words input input' out out' one
-    → Ends words input input' out out' other
+    → Ends words seed input input' before after one
+    → Ends words seed input input' before after other
     → end_of one ≡ end_of other
 
 -- the first line at fault of a text is one line
 abbrev pub HasOneFaultLine : Command → Type 0
 HasOneFaultLine command = (text : List ℕ) (line other : ℕ) → command.FaultsAt text line → command.FaultsAt text other → line ≡ other
 
+abbrev pub HasOneLiveFaultLine : Type 0
+HasOneLiveFaultLine = (text : List ℕ) (line other : ℕ) → IsLiveLineFault text line → IsLiveLineFault text other → line ≡ other
+
 abbrev pub HaveOneFaultLine : Type 0
-HaveOneFaultLine = HasOneFaultLine replay_command × HasOneFaultLine decode_command
+HaveOneFaultLine = HasOneFaultLine replay_command × (HasOneFaultLine decode_command × HasOneLiveFaultLine)

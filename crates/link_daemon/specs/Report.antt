@@ -1,5 +1,5 @@
 -- What a live run tells of itself, and the text of it.
-use Rattle.std.specs.Prelude.{ℕ, ℤ, ◌+◌, Bool, if◌then◌else◌, List, [], ◌∷◌, ◌++◌, length, map, codes}
+use Rattle.std.specs.Prelude.{◌≡◌, ℕ, ℤ, ◌+◌, Bool, if◌then◌else◌, List, [], ◌∷◌, ◌++◌, length, map, codes}
 use Rattle.std.specs.List.{flat_map}
 use Rattle.std.specs.Fmt.{decimal}
 use Rattle.lk_base.specs.declared.block.Click.{Click}
@@ -36,6 +36,19 @@ report_value report = record {
   audio_commits = report.audio_commits.items;
   plays = map (λ clicks. clicks.items) report.plays.items;
 }
+
+-- nothing is told any more but the node of before
+abbrev pub IsCleared : ReportValue → ReportValue → Type 0
+IsCleared before after =
+    after ≡ record before {
+      events = [];
+      published = [];
+      reads = [];
+      captures = [];
+      app_commits = [];
+      audio_commits = [];
+      plays = [];
+    }
 
 -- ---- its text
 

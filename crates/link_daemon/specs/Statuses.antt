@@ -32,21 +32,29 @@ seen told faults s = record { told = told s; faults = faults s }
 abbrev pub status_number_of : Status → ℕ
 status_number_of status.Done = 0
 status_number_of status.Words = 2
+status_number_of status.Port = 3
+status_number_of status.Audio = 4
 status_number_of status.Input = 5
+status_number_of status.Events = 6
 status_number_of status.Sink = 7
 status_number_of (status.Script g line reason) = 8
 status_number_of status.Memory = 9
 status_number_of (status.TooLong limit) = 10
+status_number_of (status.TooMany limit) = 10
 
 -- what holds where the status is one of those that write nothing
 abbrev pub IfNothingWritten : Status → Type 0 → Type 0
 IfNothingWritten status.Done P = Unit {0}
 IfNothingWritten status.Sink P = Unit {0}
+IfNothingWritten status.Port P = Unit {0}
+IfNothingWritten status.Audio P = Unit {0}
+IfNothingWritten status.Events P = Unit {0}
 IfNothingWritten status.Words P = P
 IfNothingWritten status.Input P = P
 IfNothingWritten (status.Script g line reason) P = P
 IfNothingWritten status.Memory P = P
 IfNothingWritten (status.TooLong limit) P = P
+IfNothingWritten (status.TooMany limit) P = P
 
 -- A command that reads a text and writes another: the one word that names it, how many bytes it reads at most, the grammar of its
 -- texts, what it writes for a text in the grammar, and which line of a text outside it is the first at fault.
@@ -113,6 +121,10 @@ pub record WritesPart (before after : Stream) (output : List ℕ) : Type 0 where
   pub part : AppendsPrefix before.told output after.told
   pub rose : Rose before.faults after.faults
 
+-- the output was written whole, or the sink failed and its front was
+abbrev pub WritesSome : Stream → Stream → List ℕ → Type 0
+WritesSome before after output = WritesWhole before after output ⊎ WritesPart before after output
+
 -- what was written of the output for a text that was read
 abbrev pub EndsText : Command → List ℕ → Stream → Stream → Status → Type 0
 EndsText command bytes out out' status.Done = (output : List ℕ) × command.Gives bytes output × WritesWhole out out' output
@@ -121,7 +133,11 @@ EndsText command bytes out out' (status.Script g line reason) = (g ≡ command.g
 EndsText command bytes out out' status.Memory = out' ≡ out
 EndsText command bytes out out' status.Words = ⊥
 EndsText command bytes out out' status.Input = ⊥
+EndsText command bytes out out' status.Port = ⊥
+EndsText command bytes out out' status.Audio = ⊥
+EndsText command bytes out out' status.Events = ⊥
 EndsText command bytes out out' (status.TooLong limit) = ⊥
+EndsText command bytes out out' (status.TooMany limit) = ⊥
 
 -- What a command did with these words between `input`, `out` and `input'`, `out'`. Nothing was written where `out'` is `out`.
 abbrev pub EndsBy : Command → List (String Global) → Stream → Stream → Stream → Stream → Status → Type 0
@@ -142,6 +158,10 @@ EndsBy command words input input' out out' status.Sink =
 EndsBy command words input input' out out' status.Memory =
     Names command words
     × TakesWithin (command.limit + 65_536) input.told input'.told × (input'.faults ≡ input.faults) × (out' ≡ out)
+EndsBy command words input input' out out' status.Port = ⊥
+EndsBy command words input input' out out' status.Audio = ⊥
+EndsBy command words input input' out out' status.Events = ⊥
+EndsBy command words input input' out out' (status.TooMany limit) = ⊥
 
 abbrev pub EndsReplay : List (String Global) → Stream → Stream → Stream → Stream → Status → Type 0
 EndsReplay = EndsBy replay_command
@@ -162,23 +182,8 @@ EndsLoad words out out' status.Words = (IsLoad words → ⊥) × (out' ≡ out)
 EndsLoad words out out' status.Memory = BeginsLoad words × (out' ≡ out)
 EndsLoad words out out' status.Input = ⊥
 EndsLoad words out out' (status.Script g line reason) = ⊥
+EndsLoad words out out' status.Port = ⊥
+EndsLoad words out out' status.Audio = ⊥
+EndsLoad words out out' status.Events = ⊥
 EndsLoad words out out' (status.TooLong limit) = ⊥
-
--- ---- the top call
-
--- the words name no command, and no object was called
-pub record EndsUnnamed (words : List (String Global)) (input input' out out' : Stream) (end : Status) : Type 0 where
-  pub no_replay : Names replay_command words → ⊥
-  pub no_decode : Names decode_command words → ⊥
-  pub no_load : BeginsLoad words → ⊥
-  pub words_at_fault : end ≡ status.Words
-  pub unread : input' ≡ input
-  pub unwritten : out' ≡ out
-
--- a run is that of the command that its words name, and of none where they name none
-abbrev pub Ends : List (String Global) → Stream → Stream → Stream → Stream → Status → Type 0
-Ends words input input' out out' end =
-    (Names replay_command words × EndsReplay words input input' out out' end)
-    ⊎ ((Names decode_command words × EndsDecode words input input' out out' end)
-    ⊎ ((BeginsLoad words × (EndsLoad words out out' end × (input' ≡ input)))
-    ⊎ EndsUnnamed words input input' out out' end))
+EndsLoad words out out' (status.TooMany limit) = ⊥

@@ -3,10 +3,15 @@ use Rattle.std.specs.Prelude.{◌≡◌, ◌≤◌, ◌⊎◌, ℕ, List, length
 use Rattle.std.specs.declared.alloc.Global.{Global}
 use Rattle.std.specs.declared.string.String.{String}
 use Rattle.lk_outside.specs.Faults.{Rose}
+use Rattle.link_text.specs.Lines.{lines_of}
+use Rattle.link_text.specs.LiveScript.{IsSomeLiveScript, commands_told}
 use Rattle.link_daemon.specs.LoadWords.{IsLoad}
 use Rattle.link_daemon.specs.declared.status.Status.{Status}
 use Rattle.link_daemon.specs.declared.status.Status.TheVariants as status
-use Rattle.link_daemon.specs.Statuses.{Command, Stream, Names, Ends, replay_command, decode_command}
+use Rattle.link_daemon.specs.Ends.{Ends}
+use Rattle.link_daemon.specs.LiveWords.{IsLive}
+use Rattle.link_daemon.specs.Outside.{Outside}
+use Rattle.link_daemon.specs.Statuses.{Command, Stream, Names, replay_command, decode_command}
 
 -- the input tells a text within the limit, for which the command gives an output
 pub record IsValidFor (command : Command) (input : Stream) : Type 0 where
@@ -19,19 +24,38 @@ pub record IsValidFor (command : Command) (input : Stream) : Type 0 where
 -- Where the words name the command, the input is valid and no count rose, all is done, or there was no memory.
 abbrev pub CompletesValid : Command → Type 0
 CompletesValid command =
-    (words : List (String Global)) (input input' out out' : Stream) (end : Status)
+    (words : List (String Global)) (seed : ℕ) (input input' : Stream) (before after : Outside) (end : Status)
     → Names command words → IsValidFor command input
-    → (Rose input.faults input'.faults → ⊥) → (Rose out.faults out'.faults → ⊥)
-    → Ends words input input' out out' end
+    → (Rose input.faults input'.faults → ⊥) → (Rose before.out.faults after.out.faults → ⊥)
+    → Ends words seed input input' before after end
     → (end ≡ status.Done) ⊎ (end ≡ status.Memory)
 
 -- Where the words are those of a load and no write failed, all is done, or there was no memory.
 abbrev pub CompletesLoad : Type 0
 CompletesLoad =
-    (words : List (String Global)) (input input' out out' : Stream) (end : Status)
-    → IsLoad words → (Rose out.faults out'.faults → ⊥)
-    → Ends words input input' out out' end
+    (words : List (String Global)) (seed : ℕ) (input input' : Stream) (before after : Outside) (end : Status)
+    → IsLoad words → (Rose before.out.faults after.out.faults → ⊥)
+    → Ends words seed input input' before after end
     → (end ≡ status.Done) ⊎ (end ≡ status.Memory)
 
+-- the input tells a live script within the limits
+pub record IsValidLive (input : Stream) : Type 0 where
+  pub bytes : List ℕ
+  pub told : input.told ≡ Some bytes
+  pub within : length bytes ≤ 16_777_216
+  pub few : commands_told bytes ≤ 4_096
+  pub script : IsSomeLiveScript (lines_of bytes)
+
+-- Where the words are those of a live run, the input is valid and no count rose, all is done, or there was no memory, or the journal was
+-- full.
+abbrev pub CompletesLive : Type 0
+CompletesLive =
+    (words : List (String Global)) (seed : ℕ) (input input' : Stream) (before after : Outside) (end : Status)
+    → IsLive words → IsValidLive input
+    → (Rose input.faults input'.faults → ⊥) → (Rose before.port.faults after.port.faults → ⊥)
+    → (Rose before.audio.faults after.audio.faults → ⊥) → (Rose before.out.faults after.out.faults → ⊥)
+    → Ends words seed input input' before after end
+    → (end ≡ status.Done) ⊎ ((end ≡ status.Memory) ⊎ (end ≡ status.Events))
+
 abbrev pub CompleteValid : Type 0
-CompleteValid = CompletesValid replay_command × (CompletesValid decode_command × CompletesLoad)
+CompleteValid = CompletesValid replay_command × (CompletesValid decode_command × (CompletesLoad × CompletesLive))

@@ -5,26 +5,29 @@ ghost use Rattle.link_daemon.specs.OneStatus.{HasOneStatus, HaveOneFaultLine};
 ghost use Rattle.link_daemon.specs.ValidInput.{CompleteValid};
 
 use asdp_messages::one_reading;
-use link_text::one_script;
+use link_text::{one_live_script, one_script};
 
 /// The causes of two statuses never hold together: what a run did names its status, with the line at fault. Want of memory is the
 /// one free answer. The words that say to people why a line is at fault are left out.
 pub fn one_status()
     ensures { HasOneStatus }
 {
-    // A law, for the proof: a script has one first line at fault.
+    // Laws, for the proof: a script has one first line at fault.
     one_script();
+    one_live_script();
 }
 
-/// The first line at fault of a script, and of a text of datagrams, is one line.
+/// The first line at fault of a script of either kind, and of a text of datagrams, is one line.
 pub fn one_fault_line()
     ensures { HaveOneFaultLine }
 {
-    // A law, for the proof: a script has one first line at fault.
+    // Laws, for the proof: a script has one first line at fault.
     one_script();
+    one_live_script();
 }
 
-/// A run of a command over a valid input, or of a load, is done, or there was no memory, unless a count of failures rose.
+/// A run of a command over a valid input, or of a load, is done, or there was no memory, unless a count of failures rose. A live run may
+/// also end with a full journal.
 pub fn valid_is_done()
     ensures { CompleteValid }
 {}

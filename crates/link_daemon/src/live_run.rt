@@ -5,6 +5,8 @@ ghost use Rattle.lk_base.specs.Ranges.{IsQuantum};
 ghost use Rattle.lk_outside.specs.Faults.{Rose};
 ghost use Rattle.lk_outside.specs.Pace.{IsPaced};
 ghost use Rattle.link_node.specs.Config.{config_value, gate_value, IsConfig};
+ghost use Rattle.link_node.specs.Event.{event_value};
+ghost use Rattle.link_node.specs.Runs.{AreFitting};
 ghost use Rattle.link_daemon.specs.LiveRun.{EndsLiveRun, IsReady, first_of, setup_of, told_of};
 ghost use Rattle.link_daemon.specs.Network.{locals_of};
 
@@ -84,6 +86,8 @@ pub fn live_run<
         (P.contents port.old) (P.contents port.new) (P.bound port.new) (P.faults port.old) (P.faults port.new)
         (A.contents audio.old) (A.contents audio.new) (A.faults audio.old) (A.faults audio.new)
         (told_of parts.config parts.opened_at result) result.end }
+    ensures few { length result.audio.plays.items ≤ blocks }
+    ensures fitting { AreFitting (length parts.config.gates) 0 0 (map event_value result.events.items) }
 {
     // Laws, for the proof.
     run_laws();

@@ -97,7 +97,7 @@ pub fn live_command<'a>(alloc: Global) -> Result<Command<'a>, AllocError>
         alloc,
         "blocks",
         "262144",
-        "how many blocks are played at most, from 0 to 524288",
+        "how many blocks of 20 milliseconds are played at most, from 0 to 524288",
         value_parser!(u64).range(0..=524_288),
     );
     let quantum = option(

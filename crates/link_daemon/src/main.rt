@@ -2,9 +2,9 @@
 //!
 //! In reading order: `top` (the top call), `command_line`, `status`, `laws`; `text_command` (a command that reads a whole text and writes
 //! another), `reason`, `text_fault`, `run_text`, `outlet`; `replay`, `replay_lines`, `counts`; `decode`, `hex_lines`; `load`; `load_words`,
-//! `live_words`, `command_words` (what both share); `network` (the loop that owns the network), `edit`, `audio` and `script` (the loops of
-//! the audio thread and of an application), `room`, `live_run` (the three beside one another, and the end), `report`, `report_text` (what a
-//! live run tells); `usage` (what is told of other words); `adapters`.
+//! `live_words`, `command_words` (what both share); `live` (the command `live`); `network` (the loop that owns the network), `edit`, `audio`
+//! and `script` (the loops of the audio thread and of an application), `sides` (what joins them), `room`, `live_run` (the three beside one
+//! another, and the end), `report`, `report_text`, `sayable` (what a live run tells); `usage` (what is told of other words); `adapters`.
 #![tactic(auto)]
 
 mod adapters;
@@ -16,6 +16,7 @@ mod decode;
 mod edit;
 mod hex_lines;
 mod laws;
+mod live;
 mod live_run;
 mod live_words;
 mod load;
@@ -29,6 +30,7 @@ mod report;
 mod report_text;
 mod room;
 mod run_text;
+mod sayable;
 mod script;
 mod sides;
 mod status;
@@ -39,18 +41,50 @@ mod text_fault;
 mod top;
 mod usage;
 
-use crate::adapters::{BehindName, StdSink, StdSource};
+use crate::adapters::{BehindName, ClickAudio, ClockPace, HostClock, StdSink, StdSource, UdpPort};
+use crate::command_line::begins_with;
+use crate::report::Report;
 use crate::status::Status;
 use crate::top::link_main;
 use crate::usage::{unreadable_usage, usage};
-use std::io::ErrorKind;
+use lk_outside::{ListAudio, ListPace, ListPort, Sink, Source};
+use std::alloc::Global;
+use std::io::{ErrorKind, Write};
+use std::net::Net;
 use std::process::ExitCode;
+use std::sync::Wait;
+use std::thread::Threads;
+use std::time::{Clock, SystemTime, UNIX_EPOCH};
 use std::{env, io};
 
 fn main(rt: HostRuntime) -> ExitCode {
     let words = words_of(&rt);
     let status = match &words {
-        Ok(words) => run(&rt, words),
+        Ok(words) => {
+            let mut input = StdSource::new(rt.stdin());
+            let mut out = StdSink::new(rt.stdout());
+            let mut report = Report::new(rt.alloc());
+            if begins_with(words, "live") {
+                // What is sent to another thread stands on the runtime itself here, and not on a type parameter for it.
+                match devices_of(rt, rt.alloc(), rt.stderr()) {
+                    Ok((mut port, mut audio, mut pace, seed)) => link_main(
+                        &rt,
+                        rt.alloc(),
+                        words,
+                        seed,
+                        &mut input,
+                        &mut port,
+                        &mut audio,
+                        &mut pace,
+                        &mut out,
+                        &mut report,
+                    ),
+                    Err(status) => status,
+                }
+            } else {
+                run_alone(&rt, rt.alloc(), words, &mut input, &mut out, &mut report)
+            }
+        }
         Err(error) if error.kind() == ErrorKind::OutOfMemory => Status::Memory,
         // A word that is no text is no word of a command.
         Err(_) => Status::Words,
@@ -61,11 +95,52 @@ fn main(rt: HostRuntime) -> ExitCode {
     ExitCode::from(status.number())
 }
 
-// Runs the command of the words over the standard streams.
-fn run(rt: &HostRuntime, words: &[String]) -> Status {
-    let mut input = StdSource::new(rt.stdin());
-    let mut out = StdSink::new(rt.stdout());
-    link_main(rt.alloc(), words, &mut input, &mut out)
+// Runs a command that needs no network, device or clock, over objects that hold nothing.
+fn run_alone<R: Threads + Wait + Sync, S: Source, K: Sink>(
+    rt: &R,
+    alloc: Global,
+    words: &[String],
+    input: &mut S,
+    out: &mut K,
+    report: &mut Report,
+) -> Status {
+    let (Ok(mut port), Ok(mut audio)) = (
+        ListPort::new(alloc, Vec::new(alloc), 0, Vec::new(alloc)),
+        ListAudio::new(alloc, Vec::new(alloc), Vec::new(alloc)),
+    ) else {
+        return Status::Memory;
+    };
+    let mut pace = ListPace::new(0);
+    link_main(
+        rt, alloc, words, 0, input, &mut port, &mut audio, &mut pace, out, report,
+    )
+}
+
+// The devices of a live run, which share a clock that starts now, and its seed: the nanoseconds since 1970. Where the system has no
+// network or tells no time, the status says so.
+fn devices_of<R: Net + Wait + Clock + Copy + Drop, W: Write + Drop>(
+    rt: R,
+    alloc: Global,
+    clicks: W,
+) -> Result<(UdpPort<R>, ClickAudio<W, R>, ClockPace<R>, u64), Status> {
+    let (Ok(clock), Ok(now)) = (HostClock::started(&rt), SystemTime::now(&rt)) else {
+        return Err(Status::Audio);
+    };
+    let port = match UdpPort::new(rt, alloc, clock) {
+        Ok(port) => port,
+        Err(error) if error.kind() == ErrorKind::OutOfMemory => return Err(Status::Memory),
+        Err(_) => return Err(Status::Port),
+    };
+    let Ok(audio) = ClickAudio::new(clicks, rt, clock) else {
+        return Err(Status::Audio);
+    };
+    let since = now.duration_since(UNIX_EPOCH).unwrap_or_default();
+    Ok((
+        port,
+        audio,
+        ClockPace::new(rt, clock),
+        u64::try_from(since.as_nanos()).unwrap_or(u64::MAX),
+    ))
 }
 
 // Tells the person who ran the program why it is not done.

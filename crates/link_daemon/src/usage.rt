@@ -1,15 +1,18 @@
 //! What is told of words that are no command, for people: only that it is safe is proved of it.
 
+use crate::live_words::{live_command, live_matches};
 use crate::load_words::{load_command, load_matches};
 use clap::error::ErrorKind;
+use clap::{ArgMatches, Command, Error};
 use link_text::Excerpt;
 use std::alloc::{AllocError, Global};
 
 /// The commands, each with its form.
 const COMMANDS: &str = "Usage: jorazhil <COMMAND>\n\n  \
-    jorazhil replay < SCRIPT        reads a script on standard input, and writes what the node sends and shows\n  \
-    jorazhil decode < DATAGRAMS     reads datagrams in hex on standard input, one a line, and writes a line that tells what each says\n  \
-    jorazhil load <SEED> <COUNT>    runs a node through generated events, and writes how much there was and the last state";
+    jorazhil replay < SCRIPT           reads a script on standard input, and writes what the node sends and shows\n  \
+    jorazhil decode < DATAGRAMS        reads datagrams in hex on standard input, one a line, and tells in a line what each says\n  \
+    jorazhil load <SEED> <COUNT>       runs a node through generated events, and writes how much there was and the last state\n  \
+    jorazhil live [OPTIONS] < SCRIPT   plays a live script beside its peers, and writes how much there was and the last state";
 
 /// What words are told that name no command: which of them is at fault, and what would be right.
 pub fn usage(alloc: Global, words: &[String]) -> Result<String, AllocError> {
@@ -17,7 +20,20 @@ pub fn usage(alloc: Global, words: &[String]) -> Result<String, AllocError> {
         return format!(in alloc; "no command was given\n\n{COMMANDS}");
     };
     match first.as_str() {
-        "load" => load_usage(alloc, words, rest),
+        "load" => command_usage(
+            alloc,
+            "load runs a node through generated events",
+            rest,
+            load_command(alloc)?,
+            load_matches(alloc, words),
+        ),
+        "live" => command_usage(
+            alloc,
+            "live plays a live script beside its peers",
+            rest,
+            live_command(alloc)?,
+            live_matches(alloc, words),
+        ),
         "replay" => input_usage(alloc, "replay", "SCRIPT", rest),
         "decode" => input_usage(alloc, "decode", "DATAGRAMS", rest),
         word if is_request(word) => format!(in alloc; "a runtime for tempo sessions\n\n{COMMANDS}"),
@@ -54,14 +70,21 @@ fn input_usage(
     )
 }
 
-// What is told behind `load`: what clap finds wrong with the words, and what it takes.
-fn load_usage(alloc: Global, words: &[String], rest: &[String]) -> Result<String, AllocError> {
-    let help = load_command(alloc)?.render_help()?;
+// What is told behind a command whose words clap reads: what clap finds wrong with them, and what the command takes. Where they ask for
+// help, what it does stands in place of the fault.
+fn command_usage(
+    alloc: Global,
+    about: &str,
+    rest: &[String],
+    mut command: Command<'_>,
+    matches: Result<ArgMatches<'_>, Error>,
+) -> Result<String, AllocError> {
+    let help = command.render_help()?;
     let forms = help.as_str().trim_end();
     if rest.first().is_some_and(|word| is_request(word.as_str())) {
-        return format!(in alloc; "load runs a node through generated events\n\n{forms}");
+        return format!(in alloc; "{about}\n\n{forms}");
     }
-    let Err(error) = load_matches(alloc, words) else {
+    let Err(error) = matches else {
         return String::from_str(alloc, forms);
     };
     if error.kind() == ErrorKind::OutOfMemory {
@@ -72,7 +95,7 @@ fn load_usage(alloc: Global, words: &[String], rest: &[String]) -> Result<String
 }
 
 // What is wrong, without the head, the usage and the tip of clap's text. A tip says how to give a word that begins with a hyphen as a
-// value, which no value of a load is.
+// value, which no value of these commands is.
 fn reason_in(text: &str) -> &str {
     let text = text.strip_prefix("error: ").unwrap_or(text);
     front(front(text, "\n\nUsage:"), "\n\n  tip:").trim_end()

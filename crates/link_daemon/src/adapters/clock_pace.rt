@@ -1,6 +1,6 @@
 //! A pace over the clock of the run.
 
-ghost use Rattle.std.specs.Prelude.{◌≤ℤ◌, None};
+ghost use Rattle.std.specs.Prelude.{◌≡◌, ◌≤ℤ◌, None};
 ghost use Rattle.lk_base.specs.Ranges.{IsMoment};
 ghost use Rattle.lk_outside.specs.Pace.{IsPaced};
 
@@ -18,7 +18,9 @@ pub struct ClockPace<R: Clock + Wait + Drop> {
 
 impl<R: Clock + Wait + Drop> ClockPace<R> {
     /// A pace by this clock, which `rt` reads.
-    pub fn new(rt: R, clock: HostClock) -> Self {
+    pub fn new(rt: R, clock: HostClock) -> Self
+        ensures { (result.rt ≡ rt) × (result.clock ≡ clock) }
+    {
         ClockPace { rt, clock }
     }
 }

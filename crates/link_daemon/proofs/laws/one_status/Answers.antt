@@ -1,5 +1,6 @@
+use Rattle.link_daemon.proofs.LiveStatusLemmas.{one_live_fault}
 use Rattle.link_daemon.proofs.OneStatusLemmas.{one_status}
 use Rattle.link_daemon.proofs.laws.one_status.Goals as goal
 
 pub returns : goal.returns
-returns c = one_status c.one_script.ensures.fault
+returns c = one_status c.one_script.ensures.fault (one_live_fault c.one_live_script.ensures.fault)

@@ -1,10 +1,11 @@
-use Rattle.std.proofs.Common.{sym, ap, subst, ◌∙◌, w64}
+use Rattle.std.proofs.Common.{sym, ap, subst, ◌∙◌, arith, w64}
+use Rattle.std.proofs.lemmas.List.{length-map}
 use Rattle.std.proofs.lemmas.Int.{to_z-of_z}
 use Rattle.link_daemon.specs.LiveRun.{EndsLiveRun, setup_of, told_of}
 use Rattle.link_daemon.specs.Network.{locals_of}
 use Rattle.link_daemon.specs.declared.live_run.LiveEnd.{LiveEnd}
 use Rattle.link_daemon.proofs.AskLemmas.{moment_fits}
-use Rattle.link_daemon.proofs.CloseLemmas.{can_play, can_run, can_take, last_on_gates, run_ends, still_bound}
+use Rattle.link_daemon.proofs.CloseLemmas.{all_fit, can_play, can_run, can_take, last_on_gates, plays_few, run_ends, still_bound}
 use Rattle.link_daemon.proofs.live_run.live_run.Goals as goal
 
 pub run_loops-ends-requires-clause-network : goal.run_loops-ends-requires-clause-network
@@ -52,4 +53,10 @@ returns g c = record {
       (to_z-of_z w64 _ (record { sfits = c.ranges.quantum.sfits })) c.requires.opening c.list.ensures c.post-failed.ensures.gates c.run_loops-ends.result.captured c.post-failed.result
       c.run_loops-ends.result.played c.last_turn-ended.result.full c.last_turn-ended.ensures.ended c.post-failed.ensures.posted c.post-failed.ensures.works c.post-failed.ensures.fails
       (λ failed. (c.post-failed.ensures.unbound failed).0) c.run_loops-ends.ensures.audio c.run_loops-ends.ensures.script);
+  few = omega (
+    arith,
+    plays_few _ _ _ _ _ _ _ _ _ _ _ c.run_loops-ends.ensures.audio.run,
+    length-map c.run_loops-ends.new.audio_report.plays.items (λ clicks. clicks.items),
+  );
+  fitting = all_fit _ _ _ _ _ _ _ _ _ _ _ _ _ _ _ _ c.make-link.ensures.hub c.run_loops-ends.ensures.network c.hand_in.ensures c.last_turn-ended.ensures.ended.fits;
 }

@@ -1,0 +1,216 @@
+-- The record of a live run: what is written of it is a replay script of its node and its events.
+use Rattle.std.proofs.Common.{◌≡◌, ◌≤◌, ◌<◌, ◌+◌, ◌/◌, ◌%◌, ◌^◌, ◌==◌, ◌&&◌, nat_lt, ◌++◌, ◌∷◌, [], zero, suc, length, map, take, get_or, List, ℕ, ℤ, pos, negsuc, Bool, true, false, if◌then◌else◌, ap, refl, sym, subst, ◌∙◌, arith, append_assoc, codes}
+use Rattle.std.specs.Prelude.{All}
+use Rattle.std.specs.Fmt.{decimal, signed_decimal, digit_glyph, digits, digits_onto}
+use Rattle.std.specs.List.{flat_map, onto_first}
+use Rattle.std.proofs.lemmas.Bool.{and_parts, cond_both}
+use Rattle.std.proofs.lemmas.Bool.Decides.{nat_tests}
+use Rattle.std.proofs.lemmas.List.{map-append, take_all, take_more}
+use Rattle.std.proofs.lemmas.List.Elements.{All-append, All-cons, All-head, All-nil, All-push, All-same, All-tail}
+use Rattle.lk_base.specs.Ranges.{IsMoment}
+use Rattle.client_state.specs.declared.state.State.{State}
+use Rattle.link_node.specs.Config.{ConfigValue, IsConfig}
+use Rattle.link_node.specs.Event.{EventValue, FitsKind, event_value, app_after, audio_after}
+use Rattle.link_node.specs.Runs.{AreFitting}
+use Rattle.link_node.specs.declared.event.Event.{Event}
+use Rattle.link_text.specs.Line.{line_of}
+use Rattle.link_text.specs.Lines.{lines_of, counting_in}
+use Rattle.link_text.specs.LiveScript.{IsLiveHead}
+use Rattle.link_text.specs.ReplayScript.{AreSayable, IsEventKind, IsGate, IsHead, IsScriptOf, written_script_of}
+use Rattle.link_text.specs.ReplayText.{state_line_of}
+use Rattle.link_text.specs.Words.{joined, truth_text_of}
+use Rattle.link_daemon.specs.Report.{ReportValue, last_state_text_of, live_line_of, live_text_of}
+
+-- ---- the head
+
+-- a node with the gates and the tempo of a live script can be opened
+pub is_config : (config : ConfigValue) → IsLiveHead config.mpb config.gates → IsConfig config
+is_config config head = record {
+  some_gate = head.some_gate;
+  few_gates = head.few_gates;
+  fastest = head.tempo.fastest;
+  slowest = head.tempo.slowest;
+}
+
+pub is_head : (config : ConfigValue) (now : ℤ) → length config.id.0 ≡ 8 → All (λ c. (33 ≤ c) × (c ≤ 126)) config.id.0 → config.seed < 2 ^ 64
+    → IsConfig config → All IsGate config.gates → IsMoment now → IsHead config now
+is_head config now eight visible seed opens gates moment = record {
+  id = record { eight = eight; visible = visible };
+  seed = seed;
+  opens = opens;
+  gates = gates;
+  moment = moment;
+}
+
+-- ---- words without a line feed
+
+-- no byte is a line feed or below it
+abbrev AreAbove : List ℕ → Type 0
+AreAbove text = All (λ c. 10 < c) text
+
+record AboveWord : Type 0 where
+  word : List ℕ
+  above : AreAbove word
+
+abbrev words_in : List AboveWord → List (List ℕ)
+words_in words = map (λ w. w.word) words
+
+joined-above : (words : List AboveWord) → AreAbove (joined (words_in words))
+joined-above [] = All-nil (λ c. 10 < c)
+joined-above (w ∷ []) = w.above
+joined-above (w ∷ next ∷ words) =
+    All-append (λ c. 10 < c) w.word (32 ∷ joined (words_in (next ∷ words))) w.above
+    (All-cons (λ c. 10 < c) 32 (joined (words_in (next ∷ words))) (omega arith) (joined-above (next ∷ words)))
+
+digits_onto-above : (k n : ℕ) (acc : List ℕ) → AreAbove acc → AreAbove (digits_onto k 10 false n acc)
+digits_onto-above zero n acc h = h
+digits_onto-above (suc k) n acc h =
+    let glyph : 10 < digit_glyph false (n % 10) = grind (arith, nat_tests) in
+    let more = All-cons (λ c. 10 < c) (digit_glyph false (n % 10)) acc glyph h in
+    cond_both (n / 10 == 0) (digit_glyph false (n % 10) ∷ acc) (digits_onto k 10 false (n / 10) (digit_glyph false (n % 10) ∷ acc)) AreAbove
+    (λ _. more) (λ _. digits_onto-above k (n / 10) (digit_glyph false (n % 10) ∷ acc) more)
+
+decimal-above : (n : ℕ) → AreAbove (decimal n)
+unfolding digits
+decimal-above n = digits_onto-above 64 n [] (All-nil (λ c. 10 < c))
+
+signed-above : (z : ℤ) → AreAbove (signed_decimal z)
+signed-above (pos n) = decimal-above n
+signed-above (negsuc n) = All-cons (λ c. 10 < c) 45 (decimal (suc n)) (omega arith) (decimal-above (suc n))
+
+truth-above : (b : Bool) → AreAbove (truth_text_of b)
+unfolding truth_text_of
+truth-above true = All-cons (λ c. 10 < c) 49 [] (omega arith) (All-nil (λ c. 10 < c))
+truth-above false = All-cons (λ c. 10 < c) 48 [] (omega arith) (All-nil (λ c. 10 < c))
+
+-- the test of a word that computes
+abbrev all_above : List ℕ → Bool
+all_above [] = true
+all_above (c ∷ text) = nat_lt 10 c && all_above text
+
+literal-above : (text : List ℕ) → all_above text ≡ true → AreAbove text
+literal-above [] h = All-nil (λ c. 10 < c)
+literal-above (c ∷ text) h =
+    let parts = and_parts (nat_lt 10 c) (all_above text) h in
+    let first : 10 < c = grind (arith, nat_tests, parts.0) in
+    All-cons (λ c. 10 < c) c text first (literal-above text parts.1)
+
+abbrev literal_word : (text : List ℕ) → all_above text ≡ true → AboveWord
+literal_word text h = record { word = text; above = literal-above text h }
+
+abbrev number_word : ℕ → AboveWord
+number_word n = record { word = decimal n; above = decimal-above n }
+
+abbrev signed_word : ℤ → AboveWord
+signed_word z = record { word = signed_decimal z; above = signed-above z }
+
+abbrev truth_word : Bool → AboveWord
+truth_word b = record { word = truth_text_of b; above = truth-above b }
+
+-- ---- lines that are passed over
+
+-- a line and its line feed are a line of its own
+lines_of-ended : (line rest : List ℕ) → AreAbove line → lines_of (line ++ 10 ∷ rest) ≡ line ∷ lines_of rest
+unfolding lines_of
+lines_of-ended [] rest h = refl
+lines_of-ended (c ∷ line) rest h =
+    let ih = lines_of-ended line rest (All-tail (λ c. 10 < c) c line h) in
+    let first : 10 < c = All-head (λ c. 10 < c) c line h in
+    let other : (c == 10) ≡ false = grind (arith, nat_tests) in
+    ap (λ (b : Bool). if b then [] ∷ lines_of (line ++ 10 ∷ rest) else onto_first c (lines_of (line ++ 10 ∷ rest))) other
+    ∙ ap (onto_first c) ih
+
+line_of-joined : (words : List (List ℕ)) → line_of words ≡ joined words ++ 10 ∷ []
+line_of-joined [] = refl
+line_of-joined (word ∷ []) = refl
+line_of-joined (word ∷ next ∷ words) =
+    ap (λ (xs : List ℕ). word ++ 32 ∷ xs) (line_of-joined (next ∷ words))
+    ∙ sym (append_assoc word (32 ∷ joined (next ∷ words)) (10 ∷ []))
+
+-- words behind a `#` are passed over, and the lines that count are those of what follows
+hash_passed : (words : List AboveWord) (rest : List ℕ)
+    → counting_in (lines_of (35 ∷ 32 ∷ (line_of (words_in words) ++ rest))) ≡ counting_in (lines_of rest)
+hash_passed words rest =
+    let line = joined (words_in words) in
+    let spelled : line_of (words_in words) ++ rest ≡ line ++ 10 ∷ rest
+    = ap (λ (xs : List ℕ). xs ++ rest) (line_of-joined (words_in words)) ∙ append_assoc line (10 ∷ []) rest in
+    let above : AreAbove (35 ∷ 32 ∷ line)
+    = All-cons (λ c. 10 < c) 35 (32 ∷ line) (omega arith) (All-cons (λ c. 10 < c) 32 line (omega arith) (joined-above words)) in
+    ap (λ (xs : List ℕ). counting_in (lines_of (35 ∷ 32 ∷ xs))) spelled
+    ∙ ap counting_in (lines_of-ended (35 ∷ 32 ∷ line) rest above)
+
+-- the line of how much there was
+live_passed : (report : ReportValue) (rest : List ℕ) → counting_in (lines_of (live_line_of report ++ rest)) ≡ counting_in (lines_of rest)
+unfolding live_line_of
+live_passed report rest =
+    hash_passed
+    (literal_word (codes "live") refl ∷ number_word (length report.events) ∷ number_word (length report.published)
+    ∷ number_word (length report.reads) ∷ number_word (length report.captures) ∷ number_word (length report.app_commits)
+    ∷ number_word (length report.audio_commits) ∷ number_word (length report.plays)
+    ∷ number_word (length (flat_map (λ clicks. clicks) report.plays)) ∷ [])
+    rest
+
+-- the line of a state
+one_passed : (number : ℕ) (state : State) (rest : List ℕ)
+    → counting_in (lines_of ((codes "# " ++ state_line_of number state) ++ rest)) ≡ counting_in (lines_of rest)
+unfolding state_line_of
+one_passed number state rest =
+    hash_passed
+    (literal_word (codes "state") refl ∷ number_word number
+    ∷ signed_word state.timeline.mpb ∷ signed_word state.timeline.beat ∷ signed_word state.timeline.time
+    ∷ truth_word state.start.playing ∷ signed_word state.start.time ∷ signed_word state.start.stamp
+    ∷ truth_word state.sync ∷ number_word state.peers ∷ signed_word state.moment ∷ number_word state.app ∷ number_word state.audio ∷ [])
+    rest
+
+-- that of the state published last
+state_passed : (states : List State) (number : ℕ) (rest : List ℕ)
+    → counting_in (lines_of (last_state_text_of number states ++ rest)) ≡ counting_in (lines_of rest)
+state_passed [] number rest = refl
+state_passed (state ∷ []) number rest = one_passed number state rest
+state_passed (state ∷ next ∷ states) number rest = state_passed (next ∷ states) (number + 1) rest
+
+-- all lines that count are those of the replay script
+pub whole_record : (report : ReportValue)
+    → IsScriptOf (written_script_of report.config report.now report.events) report.config report.now report.events
+    → IsScriptOf (live_text_of report true) report.config report.now report.events
+unfolding live_text_of
+whole_record report script =
+    let text = written_script_of report.config report.now report.events in
+    let same : counting_in (lines_of ((live_line_of report ++ last_state_text_of 0 report.published) ++ text)) ≡ counting_in (lines_of text)
+    = ap (λ (xs : List ℕ). counting_in (lines_of xs)) (append_assoc (live_line_of report) (last_state_text_of 0 report.published) text)
+    ∙ live_passed report (last_state_text_of 0 report.published ++ text)
+    ∙ state_passed report.published 0 text in
+    record { head = script.head; rest = script.rest; said = same ∙ script.said; events = script.events }
+
+-- ---- the events
+
+-- what a node could take can be said, whatever was taken before
+pub record IsSayable (e : EventValue) : Type 0 where
+  pub kind : (gates app audio : ℕ) → FitsKind gates app audio e → IsEventKind gates audio e
+
+-- one more of those that a journal holds
+pub sayable_next : (events : List Event) (n : ℕ) (event : Event) → n < length events → event ≡ get_or events n event
+    → ((gates app audio : ℕ) → FitsKind gates app audio (event_value event) → IsEventKind gates audio (event_value event))
+    → All IsSayable (map event_value (take n events)) → All IsSayable (map event_value (take (n + 1) events))
+sayable_next events n event h is kind before =
+    let front = map event_value (take n events) in
+    let more : map event_value (take (n + 1) events) ≡ front ++ event_value event ∷ []
+    = ap (map event_value) (take_more events n event h)
+    ∙ map-append event_value (take n events) (get_or events n event ∷ [])
+    ∙ ap (λ (e : Event). front ++ event_value e ∷ []) (sym is) in
+    All-same IsSayable _ _ more (All-push IsSayable front (event_value event) before (record { kind = kind }))
+
+-- events one after the other
+pub sayable : (gates app audio : ℕ) (es : List EventValue) → All IsSayable es → AreFitting gates app audio es → AreSayable gates audio es
+sayable gates app audio [] each fit = tt
+sayable gates app audio (e ∷ es) each fit = (
+  (fit.0.0, (All-head IsSayable e es each).kind gates app audio fit.0.1),
+  sayable gates (app_after app e) (audio_after audio e) es (All-tail IsSayable e es each) fit.1,
+)
+
+-- all events of a journal
+pub all_sayable : (gates app audio : ℕ) (events : List Event) (n : ℕ) → length events ≤ n → All IsSayable (map event_value (take n events))
+    → AreFitting gates app audio (map event_value events) → AreSayable gates audio (map event_value events)
+all_sayable gates app audio events n all each fit =
+    let same = take_all n events all in
+    sayable gates app audio (map event_value events) (subst (λ (xs : List Event). All IsSayable (map event_value xs)) same each) fit

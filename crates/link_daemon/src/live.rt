@@ -1,0 +1,246 @@
+//! The command `live`: a live run of a script over a port, an audio device and a pace.
+
+ghost use Rattle.std.specs.Prelude.{◌≡◌, ◌≤◌, ℕ, List, [], length, map, IfOk, IfErr, OnOk, OnErr};
+ghost use Rattle.lk_base.specs.Ranges.{IsQuantum};
+ghost use Rattle.lk_outside.specs.Faults.{Rose};
+ghost use Rattle.lk_outside.specs.Sink.{Appends};
+ghost use Rattle.lk_outside.specs.Transfer.{AppendsPrefix};
+ghost use Rattle.link_node.specs.Config.{config_value, gate_value};
+ghost use Rattle.link_text.specs.LiveScript.{IsLiveText};
+ghost use Rattle.link_text.specs.ReplayScript.{IsVisibleId};
+ghost use Rattle.link_daemon.specs.LiveEnds.{EndsLive, EndsRead, EndsRun, IfNotBegun};
+ghost use Rattle.link_daemon.specs.LiveSetup.{IsRead, config_from, setup_from, status_from};
+ghost use Rattle.link_daemon.specs.Outside.{seen_audio, seen_port};
+ghost use Rattle.link_daemon.specs.Report.{live_text_of, report_value};
+ghost use Rattle.link_daemon.specs.Statuses.{seen};
+
+use crate::command_words::WordsFault;
+use crate::live_run::{LiveEnd, LiveRun, live_run};
+use crate::live_words::{LiveOptions, live_options};
+use crate::outlet::{Outlet, SinkFailed};
+use crate::reason::Reason;
+use crate::report::Report;
+use crate::report_text::hand_report;
+use crate::room::Room;
+use crate::sayable::are_sayable;
+use crate::status::{Grammar, Status};
+use link_node::Config;
+use link_shared::Parts;
+use link_text::{LiveFault, LiveScript, explain_live, read_live, written_scripts_are_read};
+use lk_base::IdSource;
+use lk_outside::{Audio, InputFault, Pace, Port, Sink, Source, read_all};
+use std::alloc::Global;
+use std::marker::Brand;
+use std::mem;
+use std::sync::Wait;
+use std::thread::Threads;
+use triple_buffer::Triple;
+
+/// How many bytes of a script are read at most.
+const MOST_BYTES: usize = 16_777_216;
+
+/// How many commands a script may have.
+const MOST_COMMANDS: u64 = 4_096;
+
+/// Runs the live script on `input` over the port, the device and the pace: reads and checks it whole, plays until its commands are taken and
+/// the device's blocks are played, and then writes to `out` how much there was, and where the words ask for it the run's replay script. The
+/// node's id is the first that the seed gives. What the run came to is told in the report.
+///
+/// Waits: for the threads of the run, and in the objects' calls. Memory: before the run the text, the script and all room that a run needs;
+/// in it two notes for each capture of the script's application.
+pub fn live_main<
+    S: Source,
+    P: Port + Send,
+    A: Audio + Send,
+    T: Pace + Send,
+    K: Sink,
+    R: Threads + Wait + Sync,
+>(
+    rt: &R,
+    alloc: Global,
+    words: &[String],
+    seed: u64,
+    input: &mut S,
+    port: &mut P,
+    audio: &mut A,
+    pace: &mut T,
+    out: &mut K,
+    report: &mut Report,
+) -> Status
+    ensures ends { EndsLive words.now seed (seen S.left S.faults input.old) (seen S.left S.faults input.new)
+        (record {
+          port = seen_port P.contents P.bound P.faults port.old;
+          audio = seen_audio A.contents A.faults audio.old;
+          late = T.late pace.old;
+          out = seen K.written K.faults out.old;
+          report = report_value report.old;
+        })
+        (record {
+          port = seen_port P.contents P.bound P.faults port.new;
+          audio = seen_audio A.contents A.faults audio.new;
+          late = T.late pace.new;
+          out = seen K.written K.faults out.new;
+          report = report_value report.new;
+        })
+        result }
+
+    // No object is called, or the input alone.
+    ensures untouched { result ≡ Status.Words → input.new ≡ input.old }
+    ensures not_begun { IfNotBegun result ((port.new ≡ port.old) × (audio.new ≡ audio.old) × (pace.new ≡ pace.old) × (out.new ≡ out.old)) }
+{
+    report.clear();
+    let options = match live_options(alloc, words) {
+        Ok(options) => options,
+        Err(WordsFault::NotTaken) => return Status::Words,
+        Err(WordsFault::Memory) => return Status::Memory,
+    };
+    match read_script(alloc, input) {
+        Ok(script) => run_script(
+            rt, alloc, seed, &options, script, port, audio, pace, out, report,
+        ),
+        Err(status) => status,
+    }
+}
+
+// Reads the script to its end; or says why there is none.
+fn read_script<S: Source>(alloc: Global, input: &mut S) -> Result<LiveScript, Status>
+    ensures script { IfOk result (λ script. IsRead (seen S.left S.faults input.old) (seen S.left S.faults input.new) script) }
+    ensures fault { IfErr result (EndsRead (seen S.left S.faults input.old) (seen S.left S.faults input.new)) }
+{
+    let text = match read_all(alloc, input, MOST_BYTES) {
+        Ok(text) => text,
+        Err(InputFault::Failed) => return Err(Status::Input),
+        Err(InputFault::TooLong) => {
+            return Err(Status::TooLong {
+                limit: MOST_BYTES as u64,
+            });
+        }
+        Err(InputFault::Memory(_)) => return Err(Status::Memory),
+    };
+    match read_live(alloc, &text) {
+        Ok(script) => Ok(script),
+        Err(LiveFault::TooMany) => Err(Status::TooMany {
+            limit: MOST_COMMANDS,
+        }),
+        Err(LiveFault::Bad(bad)) => Err(Status::Script {
+            grammar: Grammar::LiveScript,
+            line: bad.line,
+            reason: Reason::Script(explain_live(&text, bad.line)),
+        }),
+        Err(LiveFault::Memory(_)) => Err(Status::Memory),
+    }
+}
+
+// Runs a script that was read, and writes what the run came to.
+fn run_script<P: Port + Send, A: Audio + Send, T: Pace + Send, K: Sink, R: Threads + Wait + Sync>(
+    rt: &R,
+    alloc: Global,
+    seed: u64,
+    options: &LiveOptions,
+    mut script: LiveScript,
+    port: &mut P,
+    audio: &mut A,
+    pace: &mut T,
+    out: &mut K,
+    report: &mut Report,
+) -> Status
+    requires options { (1 ≤ options.now.events) × (options.now.events ≤ 524_288) × (options.now.blocks ≤ 524_288) × IsQuantum options.now.quantum }
+    requires script { (bytes : List ℕ) × (length bytes ≤ 16_777_216) × IsLiveText bytes script.mpb script.sync
+        (map gate_value script.gates.items) script.apps.items script.blocks.items }
+    ensures ends { EndsRun (setup_from seed options.now script) options.now.«record»
+        (record {
+          port = seen_port P.contents P.bound P.faults port.old;
+          audio = seen_audio A.contents A.faults audio.old;
+          late = T.late pace.old;
+          out = seen K.written K.faults out.old;
+          report = report_value report.old;
+        })
+        (record {
+          port = seen_port P.contents P.bound P.faults port.new;
+          audio = seen_audio A.contents A.faults audio.new;
+          late = T.late pace.new;
+          out = seen K.written K.faults out.new;
+          report = report_value report.new;
+        })
+        result }
+{
+    let now = pace.until(0);
+    let config = config_of(seed, &mut script);
+    let Ok(parts) = Parts::<Triple<9>>::new(alloc, &(), &config, now, options.events) else {
+        return Status::Memory;
+    };
+    let Ok(room) = Room::new(alloc, &script, options.blocks) else {
+        return Status::Memory;
+    };
+    let Ok(mut outlet) = Outlet::new(alloc) else {
+        return Status::Memory;
+    };
+    let run = live_run::<Brand, P, A, T, R>(
+        rt,
+        alloc,
+        parts,
+        &config,
+        &script,
+        options.blocks,
+        options.quantum,
+        room,
+        port,
+        audio,
+        pace,
+    );
+    // Facts, for the proof: the events can be said, and what is written of them is read again.
+    are_sayable(&run.events);
+    written_scripts_are_read();
+    let end = run.end;
+    report.keep(config, now, run);
+    let written = write_report(report, options.record, &mut outlet, out);
+    status_of(end, written.is_ok())
+}
+
+// The config of the node that a script opens, whose gates are taken out of the script. Memory: none.
+fn config_of(seed: u64, script: &mut LiveScript) -> Config
+    ensures config { config_value result ≡ config_from seed script.old }
+    ensures visible { IsVisibleId result.id }
+    ensures apps { script.new.apps ≡ script.old.apps }
+    ensures blocks { script.new.blocks ≡ script.old.blocks }
+{
+    Config {
+        id: IdSource::new(seed, 1).draw(),
+        seed,
+        mpb: script.mpb,
+        sync: script.sync,
+        gates: mem::take(&mut script.gates),
+    }
+}
+
+// Writes what is told of the run, through an outlet that keeps nothing yet. Waits: in the sink's calls alone. Memory: none.
+fn write_report<K: Sink>(
+    report: &Report,
+    recorded: bool,
+    outlet: &mut Outlet,
+    out: &mut K,
+) -> Result<(), SinkFailed>
+    requires few { length report.now.plays.items ≤ 524_288 }
+    requires empty { outlet.old.kept.items ≡ [] }
+    ensures whole { OnOk result (Appends (K.written out.old) (live_text_of (report_value report.entry.now) recorded) (K.written out.new)) }
+    ensures part { OnErr result (AppendsPrefix (K.written out.old) (live_text_of (report_value report.entry.now) recorded) (K.written out.new)) }
+    ensures quiet { OnOk result (K.faults out.new ≡ K.faults out.old) }
+    ensures cause { OnErr result (Rose (K.faults out.old) (K.faults out.new)) }
+{
+    hand_report(report, recorded, outlet, out)?;
+    outlet.flush(out)
+}
+
+// The status of a run that ended so, and whose report was written or not.
+fn status_of(end: LiveEnd, written: bool) -> Status
+    ensures { result ≡ status_from end written }
+{
+    match end {
+        LiveEnd::Memory => Status::Memory,
+        LiveEnd::Port => Status::Port,
+        LiveEnd::Audio => Status::Audio,
+        LiveEnd::Events => Status::Events,
+        LiveEnd::Well if written => Status::Done,
+        LiveEnd::Well => Status::Sink,
+    }
+}
