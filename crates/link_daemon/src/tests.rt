@@ -5,6 +5,7 @@ mod decode;
 mod faults;
 mod grammar;
 mod large;
+mod live;
 mod live_run;
 mod live_words;
 mod load;
@@ -17,12 +18,15 @@ mod usage;
 
 ghost use Rattle.std.specs.Prelude.{◌<◌};
 
+use crate::report::Report;
 use crate::status::Status;
 use crate::top::link_main;
-use lk_outside::{BytesSink, BytesSource};
+use lk_outside::{BytesSink, BytesSource, ListAudio, ListPace, ListPort, Sink, Source};
 use std::alloc::{AllocError, Global};
 use std::process::Abort;
+use std::sync::Wait;
 use std::test::Fail;
+use std::thread::Threads;
 
 /// The lines of a head, as a node of its own.
 pub const HEAD: &str = "replay 1\nnode QRSTUVWX 1 500000 1 1000000\ngate 127.0.0.1:20809\n";
@@ -75,17 +79,19 @@ pub fn sound() -> Objects {
 }
 
 /// Runs the program on these words and this input, with room for 100,000 bytes of output.
-pub fn run(
+pub fn run<R: Threads + Wait + Sync>(
+    rt: &R,
     alloc: Global,
     words: &[&str],
     input: &[u8],
     objects: Objects,
 ) -> Result<Outcome, AllocError> {
-    run_in(alloc, words, input, objects, 100_000)
+    run_in(rt, alloc, words, input, objects, 100_000)
 }
 
 /// The same with room for so many bytes of output.
-pub fn run_in(
+pub fn run_in<R: Threads + Wait + Sync>(
+    rt: &R,
     alloc: Global,
     words: &[&str],
     input: &[u8],
@@ -104,11 +110,37 @@ pub fn run_in(
         objects.most,
         failing(alloc, objects.bad_write)?,
     )?;
-    let status = link_main(alloc, &words, &mut source, &mut sink);
+    let status = without_devices(rt, alloc, &words, &mut source, &mut sink)?;
     Ok(Outcome {
         status,
         written: Vec::from_slice(alloc, sink.bytes())?,
     })
+}
+
+/// Runs a command that calls no device, over a port and a device without contents.
+pub fn without_devices<R: Threads + Wait + Sync, S: Source, K: Sink>(
+    rt: &R,
+    alloc: Global,
+    words: &[String],
+    input: &mut S,
+    out: &mut K,
+) -> Result<Status, AllocError> {
+    let mut port = ListPort::new(alloc, Vec::new(alloc), 0, Vec::new(alloc))?;
+    let mut audio = ListAudio::new(alloc, Vec::new(alloc), Vec::new(alloc))?;
+    let mut pace = ListPace::new(0);
+    let mut report = Report::new(alloc);
+    Ok(link_main(
+        rt,
+        alloc,
+        words,
+        0,
+        input,
+        &mut port,
+        &mut audio,
+        &mut pace,
+        out,
+        &mut report,
+    ))
 }
 
 /// The words of a command line.
@@ -153,14 +185,14 @@ pub fn line_of(status: Status) -> u32 {
 }
 
 /// Runs a command on the input of each case, and compares what it wrote.
-pub fn expect_texts(
-    rt: &impl Abort,
+pub fn expect_texts<R: Threads + Wait + Sync + Abort>(
+    rt: &R,
     alloc: Global,
     command: &str,
     cases: &[(&str, &str)],
 ) -> Result<(), Fail> {
     for (case, wanted) in cases {
-        let found = run(alloc, &[command], &text_of(alloc, case)?, sound())?;
+        let found = run(rt, alloc, &[command], &text_of(alloc, case)?, sound())?;
         assert_eq!(rt; found.status, Status::Done, "{case:?}");
         assert_eq!(rt; found.written, text_of(alloc, wanted)?, "{case:?}");
     }
@@ -168,14 +200,14 @@ pub fn expect_texts(
 }
 
 /// Runs a command on the input of each case, and compares the line at fault, 0 for none.
-pub fn expect_lines(
-    rt: &impl Abort,
+pub fn expect_lines<R: Threads + Wait + Sync + Abort>(
+    rt: &R,
     alloc: Global,
     command: &str,
     cases: &[(&str, u32)],
 ) -> Result<(), Fail> {
     for (case, line) in cases {
-        let found = run(alloc, &[command], &text_of(alloc, case)?, sound())?;
+        let found = run(rt, alloc, &[command], &text_of(alloc, case)?, sound())?;
         assert_eq!(rt; line_of(found.status), *line, "{case:?}");
         assert_eq!(rt; found.written.is_empty(), *line > 0, "{case:?}");
     }

@@ -50,7 +50,7 @@ fn a_datagram_of_513_bytes_is_too_long(rt: HostRuntime) -> Result<(), Fail> {
     for _ in 0..406 {
         input.extend_from_slice(b"00")?;
     }
-    let found = run(rt.alloc(), &["decode"], &input, sound())?;
+    let found = run(&rt, rt.alloc(), &["decode"], &input, sound())?;
     assert_eq!(rt; found.status, Status::Done);
     assert_eq!(rt; found.written.as_slice(), "fault toolong 513\n".as_bytes());
     Ok(())

@@ -19,7 +19,7 @@ fn a_script_of_more_than_a_million_bytes_is_replayed(rt: HostRuntime) -> Result<
     let line = format!(in rt.alloc(); "rx 1000100 0 127.0.0.1:20808 {ALIVE}\n")?;
     let input = repeated(rt.alloc(), HEAD.as_bytes(), line.as_bytes(), 4200)?;
     assert!(rt; input.len() > 1_000_000);
-    let found = run_in(rt.alloc(), &["replay"], &input, sound(), 1_100_000)?;
+    let found = run_in(&rt, rt.alloc(), &["replay"], &input, sound(), 1_100_000)?;
     assert_eq!(rt; found.status, Status::Done);
     // 47 bytes of the opening, 244 for each response and 17 of the last line.
     assert_eq!(rt; found.written.len(), 1_024_864);
@@ -38,7 +38,7 @@ fn a_text_of_more_than_a_million_bytes_is_decoded(rt: HostRuntime) -> Result<(),
     let lines = format!(in rt.alloc(); "{ALIVE}\n{RESPONSE}\n")?;
     let input = repeated(rt.alloc(), b"", lines.as_bytes(), 2400)?;
     assert!(rt; input.len() > 1_000_000);
-    let found = run_in(rt.alloc(), &["decode"], &input, sound(), 1_100_000)?;
+    let found = run_in(&rt, rt.alloc(), &["decode"], &input, sound(), 1_100_000)?;
     assert_eq!(rt; found.status, Status::Done);
     let wanted = b"alive 4142434445464748 5 0 500000 0 0 4142434445464748 0 0 0 127.0.0.1:20808\n\
           response 5152535455565758 5 0 500000 0 0 5152535455565758 0 0 0 127.0.0.1:20809\n"

@@ -197,7 +197,7 @@ fn script_of(alloc: Global, commands: &str) -> Result<LiveScript, LiveFault>
 
 // ---- the port and the device
 
-fn failing_of(alloc: Global, words: &[Word]) -> Result<Vec<(u8, u64)>, AllocError> {
+pub fn failing_of(alloc: Global, words: &[Word]) -> Result<Vec<(u8, u64)>, AllocError> {
     let mut failing = Vec::new(alloc);
     for word in words {
         if let Some(kind) = kind_of(word.letter) {
@@ -207,7 +207,7 @@ fn failing_of(alloc: Global, words: &[Word]) -> Result<Vec<(u8, u64)>, AllocErro
     Ok(failing)
 }
 
-fn failing_asks_of(alloc: Global, words: &[Word]) -> Result<Vec<(u8, u64)>, AllocError> {
+pub fn failing_asks_of(alloc: Global, words: &[Word]) -> Result<Vec<(u8, u64)>, AllocError> {
     let mut failing = Vec::new(alloc);
     for word in words {
         if word.letter == b'n' {
@@ -219,7 +219,7 @@ fn failing_asks_of(alloc: Global, words: &[Word]) -> Result<Vec<(u8, u64)>, Allo
     Ok(failing)
 }
 
-fn blocks_of(alloc: Global, count: u16) -> Result<Vec<Block>, AllocError>
+pub fn blocks_of(alloc: Global, count: u16) -> Result<Vec<Block>, AllocError>
     ensures { IfOk result (λ blocks. All IsBlock blocks.items) }
 {
     let mut blocks = Vec::new(alloc);
@@ -229,8 +229,8 @@ fn blocks_of(alloc: Global, count: u16) -> Result<Vec<Block>, AllocError>
     Ok(blocks)
 }
 
-// The block that so many blocks of the device come before.
-fn block_after(k: u16) -> Block
+/// The block that so many blocks of the device come before.
+pub fn block_after(k: u16) -> Block
     ensures { IsBlock result }
 {
     Block {
@@ -304,7 +304,7 @@ fn put_events(text: &mut Text, events: &[Event]) {
     }
 }
 
-fn count_of(events: &[Event], letter: u8) -> usize {
+pub fn count_of(events: &[Event], letter: u8) -> usize {
     events
         .iter()
         .filter(|event| letter_of(event) == letter)

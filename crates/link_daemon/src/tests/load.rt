@@ -9,8 +9,8 @@ use std::test::Fail;
 #[test]
 fn a_load_tells_the_same_each_time(rt: HostRuntime) -> Result<(), Fail> {
     let words = ["load", "7", "1000"];
-    let one = run(rt.alloc(), &words, b"not read", sound())?;
-    let other = run(rt.alloc(), &words, b"", sound())?;
+    let one = run(&rt, rt.alloc(), &words, b"not read", sound())?;
+    let other = run(&rt, rt.alloc(), &words, b"", sound())?;
     assert_eq!(rt; one.status, Status::Done);
     assert_eq!(rt; other.status, Status::Done);
     assert_eq!(rt; one.written, other.written);
@@ -44,7 +44,7 @@ fn loads_tell_how_much_there_was_and_the_last_state(rt: HostRuntime) -> Result<(
         ),
     ];
     for (seed, count, wanted) in cases {
-        let found = run(rt.alloc(), &["load", seed, count], b"", sound())?;
+        let found = run(&rt, rt.alloc(), &["load", seed, count], b"", sound())?;
         assert_eq!(rt; found.status, Status::Done, "{seed} {count}");
         assert_eq!(rt;
             found.written.as_slice(),
@@ -63,7 +63,7 @@ fn a_load_that_can_not_be_written_is_told(rt: HostRuntime) -> Result<(), Fail> {
         (12, "load 1 1 1\n"),
         (13, "load 1 1 1\ns"),
     ] {
-        let found = run(rt.alloc(), &["load", "0", "1"], b"", slow(0, call))?;
+        let found = run(&rt, rt.alloc(), &["load", "0", "1"], b"", slow(0, call))?;
         assert_eq!(rt; found.status, Status::Sink);
         assert_eq!(rt; found.written.as_slice(), front.as_bytes());
     }
@@ -130,7 +130,7 @@ fn other_words_behind_load_are_refused(rt: HostRuntime) -> Result<(), Fail> {
     for words in cases {
         let found = load_numbers(rt.alloc(), &spelled(rt.alloc(), words)?);
         assert_eq!(rt; found, Err(WordsFault::NotTaken), "{words:?}");
-        let found = run(rt.alloc(), words, b"", sound())?;
+        let found = run(&rt, rt.alloc(), words, b"", sound())?;
         assert_eq!(rt; found.status, Status::Words, "{words:?}");
         assert!(rt; found.written.is_empty(), "{words:?}");
     }

@@ -28,7 +28,13 @@ fn a_line_at_fault_is_told_with_its_column(rt: HostRuntime) -> Result<(), Fail> 
         ),
     ];
     for (command, case, wanted) in cases {
-        let found = run(rt.alloc(), &[command], &text_of(rt.alloc(), case)?, sound())?;
+        let found = run(
+            &rt,
+            rt.alloc(),
+            &[command],
+            &text_of(rt.alloc(), case)?,
+            sound(),
+        )?;
         let told = format!(in rt.alloc(); "{}", found.status)?;
         assert_eq!(rt; told.as_str(), wanted);
     }
