@@ -1,22 +1,29 @@
 #!/usr/bin/env python3
 """Runs the built program to each status that isn't 0 and can be brought about from outside: checks/statuses.py PROGRAM.
 
-Each run's exit status, standard output and whole text on standard error are compared with what is written here. Status 9, want of memory, has no run.
+Each run's exit status, standard output and whole text on standard error are compared with what is written here; of a live run that went on
+only how its output begins, since the rest hangs on the clock. Status 9, want of memory, has no run.
 The last line is 'N passed, N failed'.
 """
 import os
+import socket
 import subprocess
 import sys
 
 HEAD = b"replay 1\nnode QRSTUVWX 1 500000 1 1000000\ngate 127.0.0.1:20809\n"
 OPENING = b"state 0 500000 0 1000000 0 0 0 1 0 1000000 0 0\n"
 
+# A gate at a port that the system picks, and a last command that ends the run at once.
+LINK = b"link 1\nsetup 500000 1\ngate 127.0.0.1:0\n"
+LOOK = b"at 0 look\n"
+
 COMMANDS = b"""\
 Usage: jorazhil <COMMAND>
 
-  jorazhil replay < SCRIPT        reads a script on standard input, and writes what the node sends and shows
-  jorazhil decode < DATAGRAMS     reads datagrams in hex on standard input, one a line, and writes a line that tells what each says
-  jorazhil load <SEED> <COUNT>    runs a node through generated events, and writes how much there was and the last state
+  jorazhil replay < SCRIPT           reads a script on standard input, and writes what the node sends and shows
+  jorazhil decode < DATAGRAMS        reads datagrams in hex on standard input, one a line, and tells in a line what each says
+  jorazhil load <SEED> <COUNT>       runs a node through generated events, and writes how much there was and the last state
+  jorazhil live [OPTIONS] < SCRIPT   plays a live script beside its peers, and writes how much there was and the last state
 """
 REPLAY = b"Usage: jorazhil replay < SCRIPT\n"
 DECODE = b"Usage: jorazhil decode < DATAGRAMS\n"
@@ -27,10 +34,32 @@ Arguments:
   <SEED>   the seed of the events, from 0 to 18446744073709551615
   <COUNT>  how many events, from 1 to 524288
 """
+LIVE = b"""\
+Usage: jorazhil live [OPTIONS] < SCRIPT
+
+Options:
+      --events <N>   how many events the journal takes, from 1 to 524288 [default: 262144]
+      --blocks <N>   how many blocks of 20 milliseconds are played at most, from 0 to 524288 [default: 262144]
+      --quantum <N>  the length in microbeats that accents and phases are counted in, from 0, which is none, \
+to 1099511627776 [default: 4000000]
+      --record       also writes the run's replay script
+"""
 INPUT = b"jorazhil: standard input could not be read; nothing was written\n"
 SINK = b"jorazhil: standard output could not be written; what was written is the front of the output\n"
+PORT = (
+    b"jorazhil: the network failed: a gate could not be bound (its address must be this machine's, and its port free), or a socket broke; "
+    b"a run that had begun went on without it\n"
+)
+EVENTS = (
+    b"jorazhil: the journal was full before the run ended, and what came then was not taken; "
+    b"`--events` gives it more room, up to 524288\n"
+)
+TOO_MANY = b"jorazhil: the script has more than 4096 commands; nothing was run or written\n"
 TOO_LONG = b"jorazhil: the input is longer than 16777216 bytes; nothing was written\n"
 
+GATE_OR_COMMAND = b"`gate`, `to` or a command: `at` or `block`"
+ACT = b"`tempo`, `force`, `request`, `play`, `stop` or `look`"
+BLOCK_ACT = b"`tempo`, `play` or `stop`"
 EVENT = b"an event: `rx`, `tick`, `app`, `audio` or `end`"
 
 
@@ -58,6 +87,20 @@ TEXTS = [
     (["load", "7", "5", "x"], b"", 2, words_at_fault(b"unexpected argument 'x' found", LOAD)),
     (["load", "7", "-1"], b"", 2, words_at_fault(b"unexpected argument '-1' found", LOAD)),
     (["load", "--help"], b"", 2, words_at_fault(b"load runs a node through generated events", LOAD)),
+    (["live", "--help"], LINK, 2, words_at_fault(b"live plays a live script beside its peers", LIVE)),
+    (["live", "--events", "0"], LINK, 2, words_at_fault(b"invalid value '0' for '--events <N>': 0 is not in 1..=524288", LIVE)),
+    (["live", "--blocks", "x"], LINK, 2, words_at_fault(b"invalid value 'x' for '--blocks <N>': invalid digit found in string", LIVE)),
+    (
+        ["live", "--blocks", "524289"],
+        LINK,
+        2,
+        words_at_fault(b"invalid value '524289' for '--blocks <N>': 524289 is not in 0..=524288", LIVE),
+    ),
+    (["live", "--blocks"], LINK, 2, words_at_fault(b"a value is required for '--blocks <N>' but none was supplied", LIVE)),
+    (["live", "--quantum", "-1"], LINK, 2, words_at_fault(b"unexpected argument '-1' found", LIVE)),
+    (["live", "--event", "5"], LINK, 2, words_at_fault(b"unexpected argument '--event' found", LIVE)),
+    (["live", "x"], LINK, 2, words_at_fault(b"unexpected argument 'x' found", LIVE)),
+    (["live", "--record", "--record"], LINK, 2, words_at_fault(b"the argument '--record' cannot be used multiple times", LIVE)),
     (["replay"], b"replay 2\n", 8, at_fault(1, 8, b"`replay 1`", b'"2"')),
     (["replay"], b"replay 1\n", 8, at_fault(2, 1, b"`node` and a node's id, seed, tempo, sync and opening moment", b"the end of the text")),
     (
@@ -69,6 +112,15 @@ TEXTS = [
     (["replay"], b"# a comment\n\n" + HEAD.replace(b":20809", b""), 8, at_fault(5, 6, b"an endpoint as in 127.0.0.1:20808", b'"127.0.0.1"')),
     (["replay"], HEAD + b"tick 5\nwait 5\n", 8, at_fault(5, 1, EVENT, b'"wait"')),
     (["replay"], HEAD + b"tick 5\r\n", 8, at_fault(4, 7, b"a moment from 0 to 36028797018963968 microseconds", b"a carriage return (lines end in line feeds alone)")),
+    (["live"], b"", 8, at_fault(1, 1, b"`link 1`", b"the end of the text")),
+    (["live"], b"replay 1\n", 8, at_fault(1, 1, b"`link 1`", b'"replay"')),
+    (["live"], b"link 1\nat x tempo\n", 8, at_fault(2, 1, b"`setup` and a tempo and a sync", b'"at"')),
+    (["live"], LINK + b"# a comment\n\nlook\n", 8, at_fault(6, 1, GATE_OR_COMMAND, b'"look"')),
+    (["live"], LINK + b"at 0 spring\n", 8, at_fault(4, 6, ACT, b'"spring"')),
+    (["live"], LINK + LOOK + b"block 1 look\n", 8, at_fault(5, 9, BLOCK_ACT, b'"look"')),
+    (["live"], LINK + b"block 0 play\n", 8, at_fault(4, 7, b"the number of a block from 1 to 524288", b'"0"')),
+    (["live"], LINK + LOOK * 4097, 10, TOO_MANY),
+    (["live"], LINK + b"#" * 16_777_216, 10, TOO_LONG),
     (["decode"], b"0\n", 8, at_fault(1, 2, b"a second hex digit for the last byte", b"the end of the line")),
     (["decode"], b"00\n\n0g\n", 8, at_fault(3, 2, b"a hex digit", b'"g"')),
     (["decode"], b"00\n0\xff00\n", 8, at_fault(2, 2, b"a hex digit", b'"\\xff"')),
@@ -83,7 +135,7 @@ def run(program, words, **streams):
 
 def read_failures(program):
     """A standard input that can't be read: a directory, and one that is closed."""
-    for word in ("replay", "decode"):
+    for word in ("replay", "decode", "live"):
         directory = os.open("/", os.O_RDONLY)
         found = run(program, [word], stdin=directory, stdout=subprocess.PIPE)
         os.close(directory)
@@ -96,7 +148,7 @@ def read_failures(program):
 
 def write_failures(program):
     """A standard output that can't be written: a full device, and a file that may hold no more than a part."""
-    for words, text in ((["replay"], HEAD), (["decode"], b"00\n"), (["load", "7", "40"], b"")):
+    for words, text in ((["replay"], HEAD), (["decode"], b"00\n"), (["load", "7", "40"], b""), (["live", "--blocks", "0"], LINK + LOOK)):
         if os.path.exists("/dev/full"):
             with open("/dev/full", "wb") as full:
                 status, _, error = run(program, words, input=text, stdout=full)
@@ -105,6 +157,34 @@ def write_failures(program):
         ["/bin/sh", "-c", 'exec "$0" replay >&-', program], input=HEAD, stdout=subprocess.PIPE, stderr=subprocess.PIPE, timeout=60, check=False
     )
     yield "replay to a closed output", (closed.returncode, closed.stdout, closed.stderr), (7, b"", SINK)
+
+
+def live_failures(program):
+    """A live run goes on without the port or the device that failed, and past a full journal, and tells how much there was."""
+
+    def begins(name, script, words, wanted, error=subprocess.PIPE):
+        done = subprocess.run([program, "live", *words], input=script, stdout=subprocess.PIPE, stderr=error, timeout=60, check=False)
+        return f"live {name}", (done.returncode, done.stdout[: len(wanted[1])], done.stderr), wanted
+
+    # No event but the opening tick and the end, and no block.
+    without_port = 3, b"# live 2 1 0 1 0 0 0 0\n# state 0 500000 0 ", PORT
+    with socket.socket(socket.AF_INET, socket.SOCK_DGRAM) as held:
+        held.bind(("127.0.0.1", 0))
+        taken = LINK.replace(b":0\n", b":%d\n" % held.getsockname()[1])
+        yield begins("on a port in use", taken + LOOK, ["--blocks", "0"], without_port)
+        if os.path.exists("/dev/full"):
+            # Of two causes the network's comes first.
+            with open("/dev/full", "wb") as full:
+                found = run(program, ["live", "--blocks", "0"], input=taken + LOOK, stdout=full)
+            yield "live on a port in use, to a full device", found, (3, None, PORT)
+    # An address that is set aside for documentation, and so is no machine's own.
+    yield begins("at another's address", LINK.replace(b"127.0.0.1", b"192.0.2.1") + LOOK, ["--blocks", "0"], without_port)
+    yield begins("with a full journal", LINK + LOOK, ["--blocks", "0", "--events", "1"], (6, b"# live 1 1 0 1 0 0 0 0\n# state 0 ", EVENTS))
+    if os.path.exists("/dev/full"):
+        # The first click comes at once and can't be told, with which the blocks end.
+        with open("/dev/full", "wb") as full:
+            script = LINK.replace(b"500000", b"60060") + b"at 0 play\n"
+            yield begins("whose clicks can't be told", script, ["--blocks", "500"], (4, b"# live ", None), full)
 
 
 def pipe_closed_after(program, count):
@@ -134,6 +214,7 @@ def main(program):
         results.append((f"{words} on {text[-40:]!r}", found, (status, b"", error)))
     results += read_failures(program)
     results += write_failures(program)
+    results += live_failures(program)
     results.append(pipe_closed_after(program, 1000))
     results.append(name_of_no_text(program))
     failed = 0

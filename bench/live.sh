@@ -1,0 +1,148 @@
+#!/usr/bin/env bash
+# How soon the built program's `live` answers, and what an idle run costs, over the loopback interface: bench/live.sh [SECONDS].
+# JORAZHIL_PROGRAM names another program than the built one.
+#
+# 1. A run beside one peer and one beside ten, of SECONDS each (10 where not given). The peers are sockets of the process that measures, in
+#    the run's session. By turns one of them sends an alive, and takes its response, and then a ping, and takes its pong, each after a
+#    pause drawn from 1 to 3 milliseconds, so that the network's thread sleeps when it comes. A sample is what passes from just before the
+#    call that sends to just behind the one that receives, by a process that looks without sleeping until the answer is there: so the
+#    waking of the network's thread is in it, and two system calls on either side. What the process takes to send a datagram to itself and
+#    receive it is noted, which is two such calls and no waking. Beside this the audio thread goes on, and plays.
+# 2. A run of 3,000 blocks, which is a minute, with a destination where nobody answers, and no command but a look at the end. What it uses
+#    of the processor is that of all its threads, user and system, with its opening and end.
+# shellcheck source=bench/shared.sh
+. "$(dirname "${BASH_SOURCE[0]}")/shared.sh"
+built
+figures "$program" "$folder" "${1:-10}" <<'PY'
+import os, random, socket, subprocess, sys, time
+from figures import Table, note, run
+from scripts import eight, entry, state
+
+program, folder, seconds = sys.argv[1], sys.argv[2], float(sys.argv[3])
+table, draw = Table(), random.Random(1)
+BLOCK = 0.02
+# A run opens before its peers begin, and ends after them.
+BESIDE = 2
+MEDIAN, SHARE = 100, 0.01
+PING = b"_link_v\x01\x01" + entry(b"__ht", eight(1))
+RESPONSE, PONG = b"_asdp_v\x01\x02", b"_link_v\x01\x02"
+
+
+def opened():
+    """A socket at a port of its own."""
+    gate = socket.socket(socket.AF_INET, socket.SOCK_DGRAM)
+    gate.bind(("127.0.0.1", 0))
+    return gate
+
+
+def free_port():
+    with opened() as gate:
+        return gate.getsockname()[1]
+
+
+def received(gate, kind):
+    """The next datagram of a kind, for which the processor isn't given away."""
+    end = time.perf_counter() + 1
+    while time.perf_counter() < end:
+        try:
+            datagram = gate.recv(513, socket.MSG_DONTWAIT)
+        except BlockingIOError:
+            continue
+        if datagram.startswith(kind):
+            return datagram
+    sys.exit(f"{kind!r} did not come within a second")
+
+
+def sample(gate, to, datagram, kind):
+    """Microseconds from the sending of a datagram to its answer."""
+    time.sleep(draw.uniform(0.001, 0.003))
+    start = time.perf_counter()
+    gate.sendto(datagram, to)
+    received(gate, kind)
+    return 1e6 * (time.perf_counter() - start)
+
+
+def session_in(alive):
+    """The session that an alive tells."""
+    at = alive.index(b"sess\0\0\0\x08") + 8
+    return alive[at : at + 8]
+
+
+def script(port, to, last, *commands):
+    lines = "link 1", "setup 500000 1", f"gate 127.0.0.1:{port}", f"to 127.0.0.1:{to}", *commands, f"at {round(1e6 * last)} look"
+    return "".join(line + "\n" for line in lines)
+
+
+def words(last):
+    return [program, "live", "--blocks", str(round(last / BLOCK))]
+
+
+def beside(peers):
+    """The samples of alives and of pings, of a run beside so many peers."""
+    gates, told, port, last = [opened() for _ in range(peers)], opened(), free_port(), seconds + BESIDE
+    given = script(port, told.getsockname()[1], last, "at 0 play")
+    with subprocess.Popen(words(last), stdin=subprocess.PIPE, stdout=subprocess.PIPE, stderr=subprocess.DEVNULL, text=True) as child:
+        child.stdin.write(given)
+        child.stdin.close()
+        session = session_in(received(told, b"_asdp_v\x01\x01"))
+        to, samples, at = ("127.0.0.1", port), ([], []), 0
+        alives = [bytes.fromhex(state(1, b"PEER%04d" % k, session, 0, gate.getsockname()[1])) for k, gate in enumerate(gates)]
+        # Those of the first time that a peer comes don't count.
+        for gate, alive in zip(gates, alives):
+            sample(gate, to, alive, RESPONSE)
+        end = time.perf_counter() + seconds
+        while time.perf_counter() < end:
+            gate, alive, at = gates[at % peers], alives[at % peers], at + 1
+            samples[0].append(sample(gate, to, alive, RESPONSE))
+            samples[1].append(sample(gate, to, PING, PONG))
+        counts = child.stdout.readline().split(" ")
+        child.stdout.read()
+    for gate in (*gates, told):
+        gate.close()
+    if child.returncode != 0 or counts[:2] != ["#", "live"] or int(counts[2]) < 2 * at:
+        sys.exit(f"the run beside {peers} peers ended with status {child.returncode} and {counts}")
+    return samples
+
+
+def add_samples(what, samples, aim=None):
+    ordered = sorted(samples)
+    median, most = ordered[len(ordered) // 2], ordered[len(ordered) * 99 // 100]
+    note(f"{what}: {len(ordered):,} samples, least {ordered[0]:.1f} µs, greatest {ordered[-1]:.1f}")
+    table.add(
+        f"{what}: median; 99th percentile",
+        f"{median:.1f} µs; {most:.1f} µs",
+        None if aim is None else f"at most {aim} µs in the median",
+        aim is not None and median <= aim,
+    )
+
+
+def to_itself():
+    with opened() as gate:
+        return sample(gate, gate.getsockname(), PING, PING)
+
+
+def idle(last):
+    given = os.path.join(folder, "script")
+    with opened() as told:
+        with open(given, "w") as text:
+            text.write(script(free_port(), told.getsockname()[1], last))
+        passed, used, peak = run(words(last), given)
+    share = used / passed
+    note(f"an idle run: {passed:.2f} s, {used:.3f} s of the processor")
+    table.add(
+        "`live`, an idle run of a minute: of the processor",
+        f"{used:.2f} s, {100 * share:.2f} %",
+        f"at most {SHARE:.0%} of one",
+        share <= SHARE,
+    )
+    table.add("`live`, an idle run of a minute: peak memory", f"at most {peak / 1e6:.1f} MB")
+
+
+note(f"a datagram to itself: {sorted(to_itself() for _ in range(500))[250]:.1f} µs")
+for peers, name in ((1, "one peer"), (10, "ten peers")):
+    alives, pings = beside(peers)
+    add_samples(f"`live` beside {name}, from an alive to its response", alives, MEDIAN)
+    add_samples(f"`live` beside {name}, from a ping to its pong", pings)
+idle(60)
+table.show()
+PY

@@ -1,0 +1,219 @@
+#!/usr/bin/env python3
+"""Runs two of the built program's `live` beside each other over the loopback interface: checks/live.py PROGRAM.
+
+Each lists the other as a destination; one changes the tempo, and the audio thread of the other starts to play. Looked at are, of each run,
+its status, its clicks, and what its summary counts; its record, which the program and the plain reading of checks/node.py replay to what
+the summary tells; and of both, that what one heard is what the other's replayed record sends, and that they end with one tempo, both
+playing, in the session that both told before one said goodbye. A third run finds its gate's port taken, and tells of itself all the same.
+The last line is 'N passed, N failed'.
+"""
+import socket
+import subprocess
+import sys
+from collections import Counter
+
+sys.dont_write_bytecode = True
+import node  # noqa: E402
+
+BLOCK = 20_000
+BLOCKS = 250
+END = BLOCKS * BLOCK
+# By then both are in one session: they tell of themselves four times a second, and a measurement is 51 pings.
+TEMPO_AT, PLAY_IN = END // 2, 7 * BLOCKS // 10
+NEW_TEMPO = 400_000
+COUNTS = "events states reads captures app audio plays clicks".split()
+STATE = "number mpb beat time playing start stamp sync peers moment app audio".split()
+
+
+class Differs(Exception):
+    """What was found, where something else is wanted."""
+
+
+def want(what, found, wanted):
+    if found != wanted:
+        raise Differs(f"{what}: found {found!r}, wanted {wanted!r}")
+
+
+def want_lines(what, found, wanted):
+    """The same of two texts, of which the first line that differs is told."""
+    for k, (one, other) in enumerate(zip(found.split("\n"), wanted.split("\n")), 1):
+        want(f"{what}, line {k}", one, other)
+    want(f"the lines of {what}", found.count("\n"), wanted.count("\n"))
+
+
+def numbers(line, head, names):
+    """The numbers of a line behind its first words, by name."""
+    words, front = line.split(" "), head.split(" ")
+    want(f"the front of {line!r}, and how many words follow", (words[: len(front)], len(words) - len(front)), (front, len(names)))
+    return dict(zip(names, map(int, words[len(front) :])))
+
+
+def script(port, peers, commands):
+    lines = ["link 1", "setup 500000 1", f"gate 127.0.0.1:{port}", *(f"to 127.0.0.1:{peer}" for peer in peers), *commands]
+    return "".join(line + "\n" for line in lines)
+
+
+class Run:
+    """A live run, from its beginning on."""
+
+    def __init__(self, program, port, peers, commands, blocks=BLOCKS):
+        self.program, self.port, self.script, self.sent = program, port, script(port, peers, commands), []
+        words, pipe = [program, "live", "--blocks", str(blocks), "--record"], subprocess.PIPE
+        self.child = subprocess.Popen(words, stdin=pipe, stdout=pipe, stderr=pipe, text=True)
+        self.child.stdin.write(self.script)
+        self.child.stdin.close()
+        # So that nothing is written there any more when its end is waited for.
+        self.child.stdin = None
+
+    def end(self):
+        try:
+            self.output, self.error = self.child.communicate(timeout=60)
+        finally:
+            self.child.kill()
+        self.status, self.lines = self.child.returncode, self.output.splitlines()
+
+    def told(self, word, text):
+        done = subprocess.run([self.program, word], input=text, capture_output=True, text=True, timeout=60, check=False)
+        want(f"status and standard error of {word}", (done.returncode, done.stderr), (0, ""))
+        return done.stdout
+
+    def spoken(self, datagrams):
+        """The words that `decode` tells of each of some datagrams in hex."""
+        told = self.told("decode", "".join(digits + "\n" for digits in datagrams)).splitlines()
+        want("how many datagrams decode tells of", len(told), len(datagrams))
+        return [line.split(" ") for line in told]
+
+    def state(self):
+        """The state that the summary tells."""
+        return numbers(self.lines[1], "# state", STATE)
+
+    def expect_counts(self, **wanted):
+        found = numbers(self.lines[0], "# live", COUNTS)
+        want("the summary", {name: found[name] for name in wanted}, wanted)
+
+    def expect_clicks(self):
+        """The lines on standard error are the clicks that the summary counts, each at a later moment."""
+        words = [line.split(" ") for line in self.error.splitlines()]
+        want("lines that tell no click", [line for line in words if line[0] != "click" or line[2:] not in (["accent"], ["plain"])], [])
+        moments = [int(line[1]) for line in words]
+        want("the moments of the clicks", moments, sorted(set(moments)))
+        self.expect_counts(clicks=len(words))
+        if not words:
+            raise Differs("no click was told")
+
+    def expect_replayed(self):
+        """The record is a replay script of this run, for the program and for the plain reading. Keeps what it sends."""
+        output = self.told("replay", self.output)
+        want_lines("the replayed record", output, node.output_of(*node.read_script(self.output.encode()), Counter()))
+        lines = output.splitlines()
+        done = numbers(lines[-1], "done", ["events", "states", "sends"])
+        self.expect_counts(events=done["events"], states=done["states"])
+        want("the last state", self.lines[1], "# " + [line for line in lines if line.startswith("state ")][-1])
+        want_lines("the gates of the record", self.gates(self.output), self.gates(self.script))
+        want("the last event", self.lines[-1].split(" ")[0], "end")
+        self.sent = [line.split(" ") for line in lines if line.startswith("tx ")]
+
+    def gates(self, text):
+        return "".join(line + "\n" for line in text.splitlines() if line.startswith(("gate ", "to ")))
+
+    def heard(self):
+        """The moment and the digits of each datagram that came."""
+        return [(int(words[1]), words[4]) for words in (line.split(" ") for line in self.lines) if words[0] == "rx"]
+
+    def session(self):
+        """The session of the last alive that went out before a goodbye was heard."""
+        heard = self.heard()
+        kinds = [words[0] for words in self.spoken([digits for _, digits in heard])]
+        until = min((now for (now, _), kind in zip(heard, kinds) if kind == "bye"), default=END * 10)
+        told = self.spoken([sent[4] for sent in self.sent if int(sent[1]) < until])
+        return [words[7] for words in told if words[0] == "alive"][-1]
+
+
+def free_ports(count):
+    """Ports that nobody holds now."""
+    held = [socket.socket(socket.AF_INET, socket.SOCK_DGRAM) for _ in range(count)]
+    try:
+        for gate in held:
+            gate.bind(("127.0.0.1", 0))
+        return [gate.getsockname()[1] for gate in held]
+    finally:
+        for gate in held:
+            gate.close()
+
+
+def two_runs(program):
+    first, second = free_ports(2)
+    last = f"at {END} look"
+    runs = [
+        Run(program, first, [second], [f"at {TEMPO_AT} tempo {NEW_TEMPO}", last]),
+        Run(program, second, [first], [f"block {PLAY_IN} play", last]),
+    ]
+    for run in runs:
+        run.end()
+    return runs
+
+
+def each_run(run, app, audio):
+    want("the status and the end of standard error", (run.status, run.error[-400:] if run.status else ""), (0, ""))
+    run.expect_counts(reads=BLOCKS, plays=BLOCKS, captures=app + 1, app=app, audio=audio)
+    run.expect_clicks()
+    run.expect_replayed()
+
+
+def kinds_heard(run, other):
+    """What came to a run is, in order, of what the replayed record of the other sends there. Answers of which kinds it is."""
+    heard = [digits for _, digits in run.heard()]
+    sent = iter(words[4] for words in other.sent if words[3] == f"127.0.0.1:{run.port}")
+    want("what came and was not sent", [digits for digits in heard if digits not in sent][:1], [])
+    return {words[0] for words in run.spoken(heard)}
+
+
+def both_runs(one, other):
+    kinds = kinds_heard(one, other), kinds_heard(other, one)
+    want("the kinds that one of them never heard", {"alive", "response"} - (kinds[0] & kinds[1]), set())
+    want("the kinds that nobody heard", {"ping", "pong"} - (kinds[0] | kinds[1]), set())
+    states = one.state(), other.state()
+    want("the tempos at the end", [state["mpb"] for state in states], [NEW_TEMPO] * 2)
+    want("whether they play at the end", [state["playing"] for state in states], [1] * 2)
+    want("the session that the second tells last", other.session(), one.session())
+
+
+def taken_port(program):
+    """The gate's port is held by someone else: the run goes on without it."""
+    with socket.socket(socket.AF_INET, socket.SOCK_DGRAM) as held:
+        held.bind(("127.0.0.1", 0))
+        run = Run(program, held.getsockname()[1], [], ["at 0 tempo 400000", "at 0 look"], 3)
+        run.end()
+    want("the status", run.status, 3)
+    want("the front of standard error", run.error[:30], "jorazhil: the network failed: ")
+    run.expect_counts(reads=3, plays=3, captures=2, app=1, audio=0, clicks=0)
+    want("the tempo at the end", run.state()["mpb"], 400_000)
+    run.expect_replayed()
+
+
+def main(program):
+    one, other = two_runs(program)
+    checks = [
+        ("the run that changes the tempo", each_run, one, 1, 0),
+        ("the run that starts to play", each_run, other, 0, 1),
+        ("both runs", both_runs, one, other),
+        ("a run whose port is taken", taken_port, program),
+    ]
+    failed = 0
+    for name, check, *given in checks:
+        try:
+            check(*given)
+        except (Differs, LookupError, ValueError) as fault:
+            failed += 1
+            print(f"{name}: {type(fault).__name__}: {fault}")
+    for run in (one, other):
+        print("\n".join(run.lines[:2]))
+    print(f"{len(checks) - failed} passed, {failed} failed")
+    return 1 if failed else 0
+
+
+if __name__ == "__main__":
+    if len(sys.argv) != 2:
+        print(__doc__, file=sys.stderr)
+        sys.exit(2)
+    sys.exit(main(sys.argv[1]))
