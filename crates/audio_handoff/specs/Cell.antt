@@ -14,8 +14,8 @@ pub record WriterView : Type 0 where
   pub made : List (List ℕ)
   pub steps : ℕ
 
--- A reader: its cell, the number last read, the pairs read, a look for each, which is the number of the last row made when that read looked,
--- the greatest number told, and the atomic steps that it took
+-- A reader: its cell, the number last read, the pairs read, a look for each, which is the number of the last row made when that read
+-- looked, the greatest number told, and the atomic steps that it took
 pub record ReaderView : Type 0 where
   pub cell : TableId
   pub number : ℕ
@@ -77,9 +77,9 @@ pub record HasSameRows (before after : WriterView) : Type 0 where
   pub cell : after.cell ≡ before.cell
   pub made : after.made ≡ before.made
 
--- What one read adds: the pair that it answers, and its look. The look is no older than the row last read and than each row told of before, and
--- the pair's number is no older than the look. That the look is the number of the last row made at the step that looked is what each cell's
--- own rule keeps of that step; it isn't said here, where the rows made aren't known
+-- What one read adds: the pair that it answers, and its look. The look is no older than the row last read and than each row told of
+-- before, and the pair's number is no older than the look. That the look is the number of the last row made at the step that looked is
+-- what each cell's own rule keeps of that step; it isn't said here, where the rows made aren't known
 pub record IsOneRead (before after : ReaderView) (number : ℕ) (row : List ℕ) : Type 0 where
   pub seen : after.seen ≡ before.seen ++ (number, row) ∷ []
   pub look : ℕ

@@ -1,6 +1,6 @@
 -- How a call of `live` may end: each status with its cause, and what was read, run, written and told then. The statuses are tried in this
--- order: the words, a failure of the source, a text over the limit, too many commands, a text that is no live script, a failure of the port,
--- one of the audio device, a full journal, a failure of the sink.
+-- order: the words, a failure of the source, a text over the limit, too many commands, a text that is no live script, a failure of the
+-- port, one of the audio device, a full journal, a failure of the sink.
 use Rattle.std.specs.Prelude.{◌≡◌, ◌≤◌, ◌<◌, ◌+◌, ◌⊎◌, ℕ, true, Bool, List}
 use Rattle.std.specs.declared.alloc.Global.{Global}
 use Rattle.std.specs.declared.string.String.{String}

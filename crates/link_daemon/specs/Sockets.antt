@@ -33,8 +33,8 @@ abbrev pub is_among : List ℤ → Option ℤ → Bool
 is_among codes None = false
 is_among codes (Some code) = list_any (int_eq code) codes
 
--- the system refuses one datagram: no permission (1, 13), no room (11, 12, 105), no way there from here (22, 90, 99, 100, 101, 113), and what
--- became of one that was sent before (111)
+-- the system refuses one datagram: no permission (1, 13), no room (11, 12, 105), no way there from here (22, 90, 99, 100, 101, 113), and
+-- what became of one that was sent before (111)
 abbrev pub codes_of_one : List ℤ
 codes_of_one = pos 1 ∷ pos 11 ∷ pos 12 ∷ pos 13 ∷ pos 22 ∷ pos 90 ∷ pos 99 ∷ pos 100 ∷ pos 101 ∷ pos 105 ∷ pos 111 ∷ pos 113 ∷ []
 

@@ -2,8 +2,8 @@
 //! outside. To these traits they tell nothing of contents; what each makes of its reader, its writer or its own fields is a clause of its
 //! own.
 //!
-//! In reading order: `behind_name`, `std_source`, `std_sink`; `host_clock`, which the devices share, `clock_pace`, `click_audio`, `udp_port`;
-//! `tests`.
+//! In reading order: `behind_name`, `std_source`, `std_sink`; `host_clock`, which the devices share, `clock_pace`, `click_audio`,
+//! `udp_port`; `tests`.
 
 mod behind_name;
 mod click_audio;

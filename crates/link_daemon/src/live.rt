@@ -42,9 +42,9 @@ const MOST_BYTES: usize = 16_777_216;
 /// How many commands a script may have.
 const MOST_COMMANDS: u64 = 4_096;
 
-/// Runs the live script on `input` over the port, the device and the pace: reads and checks it whole, plays until its commands are taken and
-/// the device's blocks are played, and then writes to `out` how much there was, and where the words ask for it the run's replay script. The
-/// node's id is the first that the seed gives. What the run came to is told in the report.
+/// Runs the live script on `input` over the port, the device and the pace: reads and checks it whole, plays until its commands are taken
+/// and the device's blocks are played, and then writes to `out` how much there was, and where the words ask for it the run's replay
+/// script. The node's id is the first that the seed gives. What the run came to is told in the report.
 ///
 /// Waits: for the threads of the run, and in the objects' calls. Memory: before the run the text, the script and all room that a run needs;
 /// in it two notes for each capture of the script's application.

@@ -2,9 +2,10 @@
 //!
 //! In reading order: `top` (the top call), `command_line`, `status`, `laws`; `text_command` (a command that reads a whole text and writes
 //! another), `reason`, `text_fault`, `run_text`, `outlet`; `replay`, `replay_lines`, `counts`; `decode`, `hex_lines`; `load`; `load_words`,
-//! `live_words`, `command_words` (what both share); `live` (the command `live`); `network` (the loop that owns the network), `edit`, `audio`
-//! and `script` (the loops of the audio thread and of an application), `sides` (what joins them), `room`, `live_run` (the three beside one
-//! another, and the end), `report`, `report_text`, `sayable` (what a live run tells); `usage` (what is told of other words); `adapters`.
+//! `live_words`, `command_words` (what both share); `live` (the command `live`); `network` (the loop that owns the network), `edit`,
+//! `audio` and `script` (the loops of the audio thread and of an application), `sides` (what joins them), `room`, `live_run` (the three
+//! beside one another, and the end), `report`, `report_text`, `sayable` (what a live run tells); `usage` (what is told of other words);
+//! `adapters`.
 #![tactic(auto)]
 
 mod adapters;

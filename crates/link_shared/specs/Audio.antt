@@ -7,8 +7,8 @@ use Rattle.client_state.specs.declared.commit.Commit.{Commit}
 use Rattle.client_state.specs.declared.state.State.{State}
 use Rattle.link_shared.specs.Desk.{NoneIsNewer}
 
--- The pairs of number and row that were read, a look for each, which is the number of the state published last when that read looked, and the
--- commits made, which have the numbers from 1 on
+-- The pairs of number and row that were read, a look for each, which is the number of the state published last when that read looked, and
+-- the commits made, which have the numbers from 1 on
 pub record AudioView : Type 0 where
   pub seen : List Pair
   pub looks : List ℕ
@@ -18,8 +18,8 @@ pub record AudioView : Type 0 where
 abbrev pub last_of : List Commit → Option (ℕ × Commit)
 last_of made = option_map (λ commit. (length made, commit)) (slice_get made (length made - 1))
 
--- One read of the cell of states was made: its pair comes last in the list, and no number is less than one before it. What is shown has the last
--- commit made over the state, unless it was taken
+-- One read of the cell of states was made: its pair comes last in the list, and no number is less than one before it. What is shown has
+-- the last commit made over the state, unless it was taken
 pub record HasReadAudio (before after : AudioView) (number : ℕ) (state shown : State) : Type 0 where
   pub row : List ℕ
   pub seen : after.seen ≡ before.seen ++ (number, row) ∷ []

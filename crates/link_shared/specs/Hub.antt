@@ -15,8 +15,8 @@ use Rattle.link_shared.specs.declared.got.Got.TheVariants as got
 use Rattle.link_shared.specs.declared.queue.Item.{Item}
 use Rattle.link_shared.specs.declared.queue.Item.TheVariants as item
 
--- The config, the opening moment, how many events the journal takes, and the journal; the rows of audio commits read, each behind its number; the
--- applications' commits popped, and how many quits; and the passes handed in
+-- The config, the opening moment, how many events the journal takes, and the journal; the rows of audio commits read, each behind its
+-- number; the applications' commits popped, and how many quits; and the passes handed in
 pub record HubView : Type 0 where
   pub config : ConfigValue
   pub opened_at : ℤ

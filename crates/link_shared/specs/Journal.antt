@@ -29,8 +29,8 @@ AreCarried made es =
 
 -- ---- what is offered to it
 
--- Events that are offered one after the other are taken as long as there is room: each is a step of the machine, stands in the journal, and has its
--- datagrams appended. From the first one on for which there is none, none is taken, and that is told.
+-- Events that are offered one after the other are taken as long as there is room: each is a step of the machine, stands in the journal,
+-- and has its datagrams appended. From the first one on for which there is none, none is taken, and that is told.
 pub record IsOffered (opening : Machine) (most : ℕ) (events before after : List EventValue) (unsent sent : List SendingValue) (full : Bool) : Type 0 where
   pub taken : List EventValue
   pub refused : List EventValue

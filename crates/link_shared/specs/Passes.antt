@@ -8,8 +8,8 @@ use Rattle.client_state.specs.declared.state.State.{State}
 use Rattle.link_shared.specs.Queue.{IsBacklog}
 use Rattle.link_shared.specs.declared.queue.Item.{Item}
 
--- The pairs that had been read for the applications when this pass last captured, a beginning of the commits pushed, how many of them are its
--- own, its own last one with its number, how many further passes it may make, and whether it is the only pass that was made
+-- The pairs that had been read for the applications when this pass last captured, a beginning of the commits pushed, how many of them are
+-- its own, its own last one with its number, how many further passes it may make, and whether it is the only pass that was made
 pub record AppView : Type 0 where
   pub seen : List Pair
   pub pushed : List Commit

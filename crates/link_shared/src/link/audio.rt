@@ -12,7 +12,8 @@ use audio_handoff::StateCell;
 use client_state::{Commit, Own, State, shown};
 use std::marker::{Model, PhantomData};
 
-/// The audio thread's right to use a link. It stands for the pairs of number and row that it read, the look of each, and the commits that it made.
+/// The audio thread's right to use a link. It stands for the pairs of number and row that it read, the look of each, and the commits that
+/// it made.
 #[derive(Drop)]
 pub struct AudioPass<C: StateCell<9>, N: LinkName> {
     // Reads the states.

@@ -18,8 +18,8 @@ use std::thread::Threads;
 /// What fails in a run, and the number of the status that comes of it.
 ///
 /// A letter says which call fails, and its number which of them: `v` a bind, `f` a receive, `w` a send, `n` an ask for the next block,
-/// `y` a play, `r` a read, `k` a write. `m` is how many events the journal takes. `x` stands for a number that is none, `t` for commands above
-/// 4,096, and `l` for a line outside the grammar.
+/// `y` a play, `r` a read, `k` a write. `m` is how many events the journal takes. `x` stands for a number that is none, `t` for commands
+/// above 4,096, and `l` for a line outside the grammar.
 type Row = (&'static str, u8);
 
 /// The script has one commit and the node three destinations, so a run has one bind, three sends and more at its first tick, and an event
