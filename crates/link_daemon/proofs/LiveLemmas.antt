@@ -11,17 +11,18 @@ use Rattle.link_node.specs.Runs.{AreFitting}
 use Rattle.link_text.specs.LiveScript.{IsLiveText}
 use Rattle.link_text.specs.ReplayScript.{AreSayable, IsHead, IsScriptOf, IsVisibleId, written_script_of}
 use Rattle.link_text.specs.declared.live_script.LiveScript.{LiveScript}
-use Rattle.link_daemon.specs.Headline.{LiveSetup}
+use Rattle.link_live.specs.Headline.{LiveSetup}
 use Rattle.link_daemon.specs.LiveEnds.{EndsLive, EndsRun, IsReplayable, IsSetUp}
-use Rattle.link_daemon.specs.LiveRun.{EndsLiveRun, setup_of, told_of}
+use Rattle.link_live.specs.LiveRun.{EndsLiveRun, setup_of, told_of}
 use Rattle.link_daemon.specs.LiveSetup.{IsRead, config_from, setup_from, status_from}
 use Rattle.link_daemon.specs.LiveWords.{NamesLive}
 use Rattle.link_daemon.specs.Outside.{AudioSeen, Outside, PortSeen}
-use Rattle.link_daemon.specs.Report.{IsCleared, ReportValue, live_text_of}
+use Rattle.link_live.specs.Report.{IsCleared, ReportValue}
+use Rattle.link_daemon.specs.ReportText.{live_text_of}
 use Rattle.link_daemon.specs.Statuses.{Stream, WritesPart, WritesWhole}
-use Rattle.link_daemon.specs.declared.live_run.LiveEnd.{LiveEnd}
-use Rattle.link_daemon.specs.declared.live_run.LiveEnd.TheVariants as end
-use Rattle.link_daemon.specs.declared.live_run.LiveRun.{LiveRun}
+use Rattle.link_live.specs.declared.run.LiveEnd.{LiveEnd}
+use Rattle.link_live.specs.declared.run.LiveEnd.TheVariants as end
+use Rattle.link_live.specs.declared.run.LiveRun.{LiveRun}
 use Rattle.link_daemon.specs.declared.live_words.LiveOptions.{LiveOptions}
 use Rattle.link_daemon.specs.declared.status.Status.{Status}
 use Rattle.link_daemon.specs.declared.status.Status.TheVariants as status
@@ -39,6 +40,10 @@ where_failed (Err fault) holds not = holds
 -- a success is no failure
 pub not_failed : {T E : Type 0} (result : Result T E) (value : T) (fault : E) → result ≡ Ok value → result ≡ Err fault → ⊥
 not_failed result value fault is failed = cc
+
+-- a moment is a number of 64 bits
+pub moment_fits : (z : ℤ) → IsMoment z → FitsSigned w64 z
+moment_fits z range = grind (arith, ints)
 
 -- a quantum is a number of 64 bits
 pub quantum_fits : (z : ℤ) → IsQuantum z → FitsSigned w64 z

@@ -6,8 +6,8 @@ use Rattle.lk_outside.specs.Faults.{Rose}
 use Rattle.lk_outside.specs.Transfer.{TakesOver}
 use Rattle.link_text.specs.Lines.{lines_of}
 use Rattle.link_text.specs.LiveScript.{IsFirstLiveFault, IsLiveLineFault, IsSomeLiveScript, commands_told}
-use Rattle.link_daemon.specs.Headline.{LiveSetup}
-use Rattle.link_daemon.specs.Journal.{has_ended}
+use Rattle.link_live.specs.Headline.{LiveSetup}
+use Rattle.link_live.specs.Journal.{has_ended}
 use Rattle.link_daemon.specs.LiveEnds.{EndsLive, EndsRun, IsSetUp, ReadsLiveFault, ReadsTooMany, Runs}
 use Rattle.link_daemon.specs.LiveWords.{IsLive}
 use Rattle.link_daemon.specs.Outside.{Outside}

@@ -19,7 +19,8 @@ use Rattle.link_text.specs.LiveScript.{IsLiveHead}
 use Rattle.link_text.specs.ReplayScript.{AreSayable, IsEventKind, IsGate, IsHead, IsScriptOf, written_script_of}
 use Rattle.link_text.specs.ReplayText.{state_line_of}
 use Rattle.link_text.specs.Words.{joined, truth_text_of}
-use Rattle.link_daemon.specs.Report.{ReportValue, last_state_text_of, live_line_of, live_text_of}
+use Rattle.link_live.specs.Report.{ReportValue}
+use Rattle.link_daemon.specs.ReportText.{last_state_text_of, live_line_of, live_text_of}
 
 -- ---- the head
 

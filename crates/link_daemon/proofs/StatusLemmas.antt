@@ -8,7 +8,7 @@ use Rattle.link_daemon.specs.LiveEnds.{EndsLive}
 use Rattle.link_daemon.specs.LiveWords.{BeginsLive}
 use Rattle.link_daemon.specs.LoadWords.{BeginsLoad}
 use Rattle.link_daemon.specs.Outside.{AudioSeen, Outside, PortSeen}
-use Rattle.link_daemon.specs.Report.{ReportValue}
+use Rattle.link_live.specs.Report.{ReportValue}
 use Rattle.link_daemon.specs.Statuses.{Command, Stream, Names, WasRead, EndsText, EndsBy, EndsReplay, EndsDecode, EndsLoad, replay_command, decode_command}
 use Rattle.link_daemon.specs.declared.status.Status.{Status}
 use Rattle.link_daemon.specs.declared.status.Status.TheVariants as status

@@ -11,14 +11,15 @@ use Rattle.lk_outside.specs.Faults.{Rose}
 use Rattle.lk_outside.specs.Transfer.{TakesOver, TakesWithin}
 use Rattle.link_text.specs.LiveScript.{IsLiveLineFault, IsLiveText, commands_told}
 use Rattle.link_text.specs.ReplayScript.{IsScriptOf}
-use Rattle.link_daemon.specs.Headline.{LiveSetup}
-use Rattle.link_daemon.specs.LiveRun.{EndsLiveRun}
+use Rattle.link_live.specs.Headline.{LiveSetup}
+use Rattle.link_live.specs.LiveRun.{EndsLiveRun}
 use Rattle.link_daemon.specs.LiveWords.{BeginsLive, IsLive, NamesLive}
 use Rattle.link_daemon.specs.Outside.{Outside}
-use Rattle.link_daemon.specs.Report.{IsCleared, ReportValue, live_text_of}
+use Rattle.link_live.specs.Report.{IsCleared, ReportValue}
+use Rattle.link_daemon.specs.ReportText.{live_text_of}
 use Rattle.link_daemon.specs.Statuses.{Stream, WasRead, WritesPart, WritesSome, WritesWhole}
-use Rattle.link_daemon.specs.declared.live_run.LiveEnd.{LiveEnd}
-use Rattle.link_daemon.specs.declared.live_run.LiveEnd.TheVariants as end
+use Rattle.link_live.specs.declared.run.LiveEnd.{LiveEnd}
+use Rattle.link_live.specs.declared.run.LiveEnd.TheVariants as end
 use Rattle.link_daemon.specs.declared.live_words.LiveOptions.{LiveOptions}
 use Rattle.link_daemon.specs.declared.status.Grammar.TheVariants as grammar
 use Rattle.link_daemon.specs.declared.status.Status.{Status}

@@ -6,11 +6,11 @@ use Rattle.lk_base.specs.Ids.{drawn_id}
 use Rattle.link_node.specs.Config.{ConfigValue, gate_value}
 use Rattle.link_text.specs.LiveScript.{IsLiveText, commands_told}
 use Rattle.link_text.specs.declared.live_script.LiveScript.{LiveScript}
-use Rattle.link_daemon.specs.Headline.{LiveSetup}
-use Rattle.link_daemon.specs.LiveRun.{setup_of}
+use Rattle.link_live.specs.Headline.{LiveSetup}
+use Rattle.link_live.specs.LiveRun.{setup_of}
 use Rattle.link_daemon.specs.Statuses.{Stream, WasRead}
-use Rattle.link_daemon.specs.declared.live_run.LiveEnd.{LiveEnd}
-use Rattle.link_daemon.specs.declared.live_run.LiveEnd.TheVariants as end
+use Rattle.link_live.specs.declared.run.LiveEnd.{LiveEnd}
+use Rattle.link_live.specs.declared.run.LiveEnd.TheVariants as end
 use Rattle.link_daemon.specs.declared.live_words.LiveOptions.{LiveOptions}
 use Rattle.link_daemon.specs.declared.status.Status.{Status}
 use Rattle.link_daemon.specs.declared.status.Status.TheVariants as status

@@ -3,7 +3,7 @@ use Rattle.std.specs.Prelude.{ℕ, ℤ, List, Option}
 use Rattle.lk_base.specs.declared.endpoint.Endpoint.{Endpoint}
 use Rattle.lk_outside.specs.Audio.{AudioContents}
 use Rattle.lk_outside.specs.Port.{PortContents}
-use Rattle.link_daemon.specs.Report.{ReportValue}
+use Rattle.link_live.specs.Report.{ReportValue}
 use Rattle.link_daemon.specs.Statuses.{Stream}
 
 -- a port's contents where it tells them, the local endpoints of its gates, and its count of failures

@@ -11,19 +11,18 @@ ghost use Rattle.link_text.specs.ReplayScript.{IsVisibleId};
 ghost use Rattle.link_daemon.specs.LiveEnds.{EndsLive, EndsRead, EndsRun, IfNotBegun};
 ghost use Rattle.link_daemon.specs.LiveSetup.{IsRead, config_from, setup_from, status_from};
 ghost use Rattle.link_daemon.specs.Outside.{seen_audio, seen_port};
-ghost use Rattle.link_daemon.specs.Report.{live_text_of, report_value};
+ghost use Rattle.link_live.specs.Report.{report_value};
+ghost use Rattle.link_daemon.specs.ReportText.{live_text_of};
 ghost use Rattle.link_daemon.specs.Statuses.{seen};
 
 use crate::command_words::WordsFault;
-use crate::live_run::{LiveEnd, LiveRun, live_run};
 use crate::live_words::{LiveOptions, live_options};
 use crate::outlet::{Outlet, SinkFailed};
 use crate::reason::Reason;
-use crate::report::Report;
 use crate::report_text::hand_report;
-use crate::room::Room;
 use crate::sayable::are_sayable;
 use crate::status::{Grammar, Status};
+use link_live::{LiveEnd, LiveRun, Report, Room, live_run, scripts_have_commands};
 use link_node::Config;
 use link_shared::Parts;
 use link_text::{LiveFault, LiveScript, explain_live, read_live, written_scripts_are_read};
@@ -169,6 +168,8 @@ fn run_script<P: Port + Send, A: Audio + Send, T: Pace + Send, K: Sink, R: Threa
     let Ok(parts) = Parts::<Triple<9>>::new(alloc, &(), &config, now, options.events) else {
         return Status::Memory;
     };
+    // A law, for the proof: there can be room for what the script says.
+    scripts_have_commands();
     let Ok(room) = Room::new(alloc, &script, options.blocks) else {
         return Status::Memory;
     };

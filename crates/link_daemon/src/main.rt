@@ -2,38 +2,28 @@
 //!
 //! In reading order: `top` (the top call), `command_line`, `status`, `laws`; `text_command` (a command that reads a whole text and writes
 //! another), `reason`, `text_fault`, `run_text`, `outlet`; `replay`, `replay_lines`, `counts`; `decode`, `hex_lines`; `load`; `load_words`,
-//! `live_words`, `command_words` (what both share); `live` (the command `live`); `network` (the loop that owns the network), `edit`,
-//! `audio` and `script` (the loops of the audio thread and of an application), `sides` (what joins them), `room`, `live_run` (the three
-//! beside one another, and the end), `report`, `report_text`, `sayable` (what a live run tells); `usage` (what is told of other words);
-//! `adapters`.
+//! `live_words`, `command_words` (what both share); `live` (the command `live`, over the run of `link_live`), `report_text`, `sayable`
+//! (what it tells); `usage` (what is told of other words); `adapters`.
 #![tactic(auto)]
 
 mod adapters;
-mod audio;
 mod command_line;
 mod command_words;
 mod counts;
 mod decode;
-mod edit;
 mod hex_lines;
 mod laws;
 mod live;
-mod live_run;
 mod live_words;
 mod load;
 mod load_words;
-mod network;
 mod outlet;
 mod reason;
 mod replay;
 mod replay_lines;
-mod report;
 mod report_text;
-mod room;
 mod run_text;
 mod sayable;
-mod script;
-mod sides;
 mod status;
 #[cfg(test)]
 mod tests;
@@ -44,10 +34,10 @@ mod usage;
 
 use crate::adapters::{BehindName, ClickAudio, ClockPace, HostClock, StdSink, StdSource, UdpPort};
 use crate::command_line::begins_with;
-use crate::report::Report;
 use crate::status::Status;
 use crate::top::link_main;
 use crate::usage::{unreadable_usage, usage};
+use link_live::Report;
 use lk_outside::{ListAudio, ListPace, ListPort, Sink, Source};
 use std::alloc::Global;
 use std::io::{ErrorKind, Write};

@@ -9,12 +9,13 @@ ghost use Rattle.link_node.specs.Config.{config_value};
 ghost use Rattle.link_node.specs.Event.{event_value};
 ghost use Rattle.link_text.specs.ReplayScript.{ended, event_line, head_lines, written_script_of};
 ghost use Rattle.link_daemon.specs.Outlet.{HandsOver, HandsPart};
-ghost use Rattle.link_daemon.specs.Report.{report_value, last_state_text_of, live_line_of, live_text_of};
+ghost use Rattle.link_live.specs.Report.{report_value};
+ghost use Rattle.link_daemon.specs.ReportText.{last_state_text_of, live_line_of, live_text_of};
 
 use crate::outlet::{Outlet, SinkFailed};
 use crate::replay_lines::hand_state;
-use crate::report::Report;
 use client_state::State;
+use link_live::Report;
 use link_node::{Config, Event};
 use link_text::{LineBuf, put, put_decimal, write_event, write_head};
 use lk_base::Clicks;
@@ -66,7 +67,7 @@ fn hand_counts<K: Sink>(
 }
 
 // Puts the line of how much there was in place of what the buffer held.
-#[tactic(auto, unfolding(crate::specs::Report::live_line_of))]
+#[tactic(auto, unfolding(crate::specs::ReportText::live_line_of))]
 fn write_counts(line: &mut LineBuf, report: &Report)
     requires few { length report.now.plays.items ≤ 524_288 }
     ensures { line.new.items ≡ live_line_of (report_value report.entry.now) }

@@ -1,26 +1,22 @@
 //! Whole runs over objects in memory.
 
-mod audio;
 mod decode;
 mod faults;
 mod grammar;
 mod large;
 mod live;
-mod live_run;
 mod live_words;
 mod load;
-mod network;
 mod reasons;
 mod replay;
 mod report_text;
-mod script;
 mod usage;
 
 ghost use Rattle.std.specs.Prelude.{◌<◌};
 
-use crate::report::Report;
 use crate::status::Status;
 use crate::top::link_main;
+use link_live::Report;
 use lk_outside::{BytesSink, BytesSource, ListAudio, ListPace, ListPort, Sink, Source};
 use std::alloc::{AllocError, Global};
 use std::process::Abort;

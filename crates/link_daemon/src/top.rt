@@ -6,7 +6,7 @@ ghost use Rattle.link_daemon.specs.LiveEnds.{IfNotBegun};
 ghost use Rattle.link_daemon.specs.LiveWords.{BeginsLive};
 ghost use Rattle.link_daemon.specs.LoadWords.{BeginsLoad};
 ghost use Rattle.link_daemon.specs.Outside.{seen_audio, seen_port};
-ghost use Rattle.link_daemon.specs.Report.{report_value};
+ghost use Rattle.link_live.specs.Report.{report_value};
 ghost use Rattle.link_daemon.specs.Statuses.{IfNothingWritten, seen};
 
 use crate::command_line::begins_with;
@@ -14,8 +14,8 @@ use crate::decode::decode_main;
 use crate::live::live_main;
 use crate::load::load_main;
 use crate::replay::replay_main;
-use crate::report::Report;
 use crate::status::Status;
+use link_live::Report;
 use lk_outside::{Audio, Pace, Port, Sink, Source};
 use std::alloc::Global;
 use std::sync::Wait;

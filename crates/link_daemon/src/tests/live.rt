@@ -1,5 +1,7 @@
 //! The command `live`: whole runs through the top call, over objects in memory.
 
+mod blocks;
+mod events;
 mod failed;
 mod flags;
 mod held;
@@ -10,11 +12,11 @@ mod recorded;
 mod refused;
 mod told;
 
-use super::live_run::blocks_of;
+use self::blocks::blocks_of;
 use super::spelled;
-use crate::report::Report;
 use crate::status::Status;
 use crate::top::link_main;
+use link_live::Report;
 use lk_outside::{BytesSink, BytesSource, ListAudio, Pace, Port};
 use std::alloc::{AllocError, Global};
 use std::sync::Wait;

@@ -4,10 +4,10 @@ ghost use Rattle.std.specs.Prelude.{◌≤◌, length, IfOk};
 
 use super::failing;
 use crate::outlet::{Outlet, SinkFailed};
-use crate::report::Report;
 use crate::report_text::hand_report;
 use arrayvec::ArrayVec;
 use client_state::{Commit, State};
+use link_live::Report;
 use link_node::{Config, Event, GateSetup};
 use link_shared::Capture;
 use lk_base::{Click, Clicks, ClientStart, Endpoint, NodeId, Timeline};

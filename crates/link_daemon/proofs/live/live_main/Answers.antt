@@ -1,4 +1,4 @@
-use Rattle.link_daemon.specs.Report.{report_value}
+use Rattle.link_live.specs.Report.{report_value}
 use Rattle.link_daemon.proofs.LiveLemmas.{was_run}
 use Rattle.link_daemon.proofs.live.live_main.Goals as goal
 

@@ -6,22 +6,20 @@ use Rattle.link_node.specs.Config.{config_value}
 use Rattle.link_text.specs.LiveScript.{IsCommand, app, block}
 use Rattle.link_text.specs.declared.live_script.AppCommand.{AppCommand}
 use Rattle.link_text.specs.declared.live_script.BlockCommand.{BlockCommand}
-use Rattle.link_daemon.specs.LiveRun.{told_of}
-use Rattle.link_daemon.specs.Report.{ReportValue, report_value}
-use Rattle.link_daemon.proofs.AskLemmas.{moment_fits}
-use Rattle.link_daemon.proofs.LiveLemmas.{quantum_fits, replays, run_of_script, where_done, where_failed}
-use Rattle.link_daemon.proofs.ScriptLemmas.{are_block_commands, are_commands}
+use Rattle.link_live.specs.LiveRun.{told_of}
+use Rattle.link_live.specs.Report.{ReportValue, report_value}
+use Rattle.link_daemon.proofs.LiveLemmas.{moment_fits, quantum_fits, replays, run_of_script, where_done, where_failed}
 use Rattle.link_daemon.proofs.live.run_script.Goals as goal
 
 pub new-requires-2-clause-apps : goal.new-requires-2-clause-apps
 new-requires-2-clause-apps g c =
     subst (λ (apps : List AppCommand). All (λ (command : AppCommand). IsCommand (app command)) apps)
-    (sym (ap (λ list. list.items) c.config_of-config.ensures.apps)) (are_commands _ _ _ _ _ _ c.requires.script.2)
+    (sym (ap (λ list. list.items) c.config_of-config.ensures.apps)) ((c.scripts_have_commands.ensures _ _ _ _ _ _ c.requires.script.2).0)
 
 pub new-requires-2-clause-commands : goal.new-requires-2-clause-commands
 new-requires-2-clause-commands g c =
     subst (λ (blocks : List BlockCommand). All (λ (command : BlockCommand). IsCommand (block command)) blocks)
-    (sym (ap (λ list. list.items) c.config_of-config.ensures.blocks)) (are_block_commands _ _ _ _ _ _ c.requires.script.2)
+    (sym (ap (λ list. list.items) c.config_of-config.ensures.blocks)) ((c.scripts_have_commands.ensures _ _ _ _ _ _ c.requires.script.2).1)
 
 pub write_report-written-requires-clause-few : goal.write_report-written-requires-clause-few
 write_report-written-requires-clause-few g c = omega (

@@ -1,7 +1,7 @@
 use Rattle.std.proofs.Common.{◌∙◌, refl, sym, codes, ap, List, ℕ, ◌++◌}
 use Rattle.std.proofs.lemmas.List.{length-map}
 use Rattle.link_node.specs.Event.{event_value}
-use Rattle.link_daemon.specs.Report.{report_value}
+use Rattle.link_live.specs.Report.{report_value}
 use Rattle.link_daemon.proofs.ReportLemmas.{live_line_is}
 use Rattle.link_daemon.proofs.report_text.write_counts.Goals as goal
 

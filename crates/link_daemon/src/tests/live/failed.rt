@@ -3,11 +3,14 @@
 ghost use Rattle.std.specs.Prelude.{All, IfOk};
 ghost use Rattle.lk_outside.specs.Coming.{IsToCome};
 
-use super::super::live_run::{blocks_of, count_of, failing_asks_of, failing_of};
-use super::super::network::words::{Word, number_of, words_of};
 use super::Sides;
+use super::blocks::blocks_of;
+use super::events::count_of;
 use super::held::{Holding, Telling};
-use lk_outside::{Arrival, BytesSink, BytesSource, ListAudio, ListPort, READ, WRITE};
+use lk_outside::{
+    Arrival, BIND, BytesSink, BytesSource, ListAudio, ListPort, NEXT, PLAY, READ, RECEIVE, SEND,
+    WRITE,
+};
 use std::alloc::{AllocError, Global};
 use std::process::Abort;
 use std::sync::Wait;
@@ -54,6 +57,17 @@ const ROWS: [Row; 28] = [
     ("t", 10),
     ("l", 8),
 ];
+
+/// The letters of calls, each with the number by which an object in memory is told of it.
+type Calls = &'static [(u8, u8)];
+
+const OF_THE_PORT: Calls = &[(b'v', BIND), (b'f', RECEIVE), (b'w', SEND)];
+
+const OF_THE_DEVICE: Calls = &[(b'n', NEXT), (b'y', PLAY)];
+
+const OF_THE_SOURCE: Calls = &[(b'r', READ)];
+
+const OF_THE_SINK: Calls = &[(b'k', WRITE)];
 
 /// In which order statuses come where several hold.
 const ORDER: [Row; 8] = [
@@ -102,41 +116,53 @@ fn expect_status<R: Threads + Wait + Sync + Abort>(
     given: &str,
     status: u8,
 ) -> Result<Sides, AllocError> {
-    let words = words_of(alloc, given)?;
     let over = AtomicU64::new(0);
     let mut port = Telling {
         port: ListPort::new(
             alloc,
             idle_arrivals(alloc)?,
             500,
-            failing_of(alloc, &words)?,
+            failing_of(alloc, given, OF_THE_PORT)?,
         )?,
         over: &over,
     };
-    let mut sides = sides_of(alloc, &words)?;
-    let events = events_of(alloc, &words)?;
+    let mut sides = sides_of(alloc, given)?;
+    let events = events_of(alloc, given)?;
     let line = ["live", "--events", events.as_str()];
     let found = sides.run(rt, alloc, &line, &mut port, &mut Holding::new(&over))?;
     assert_eq!(rt; found.number(), status, "{given}");
     // A sink that fails has taken a byte by each write before.
     if status == 7 {
-        let written = number_of(&words, b'k').unwrap_or(0).saturating_sub(1);
-        assert_eq!(rt; sides.out.bytes().len() as i64, written, "{given}");
+        let written = number_in(given, b'k').unwrap_or(0).saturating_sub(1);
+        assert_eq!(rt; sides.out.bytes().len() as u64, written, "{given}");
     }
     Ok(sides)
 }
 
 // How many events the journal takes, as the command line says it.
-fn events_of(alloc: Global, words: &[Word]) -> Result<String, AllocError> {
-    if has(words, b'x') {
+fn events_of(alloc: Global, given: &str) -> Result<String, AllocError> {
+    if has(given, b'x') {
         return String::from_str(alloc, "x");
     }
-    let most = number_of(words, b'm').unwrap_or(300);
+    let most = number_in(given, b'm').unwrap_or(300);
     format!(in alloc; "{most}")
 }
 
-fn has(words: &[Word], letter: u8) -> bool {
-    number_of(words, letter).is_some()
+fn has(given: &str, letter: u8) -> bool {
+    given.bytes().any(|byte| byte == letter)
+}
+
+// The digit behind a letter.
+fn number_in(given: &str, letter: u8) -> Option<u64> {
+    let mut number = None;
+    let mut before = b' ';
+    for byte in given.bytes() {
+        if before == letter {
+            number = Some(u64::from(byte.wrapping_sub(b'0')));
+        }
+        before = byte;
+    }
+    number
 }
 
 fn idle_arrivals(alloc: Global) -> Result<Vec<Arrival>, AllocError>
@@ -150,26 +176,25 @@ fn idle_arrivals(alloc: Global) -> Result<Vec<Arrival>, AllocError>
 }
 
 // A source that gives 40 bytes a read, a device of three blocks, and a sink that takes a byte a write.
-fn sides_of(alloc: Global, words: &[Word]) -> Result<Sides, AllocError> {
+fn sides_of(alloc: Global, given: &str) -> Result<Sides, AllocError> {
     let mut sides = Sides::new(alloc, b"", 0)?;
-    sides.input = BytesSource::new(
-        script_of(alloc, words)?,
-        40,
-        failing_in(alloc, words, b'r', READ)?,
-    );
-    sides.audio = ListAudio::new(alloc, blocks_of(alloc, 3)?, failing_asks_of(alloc, words)?)?;
-    sides.out = BytesSink::new(alloc, 1_000, 1, failing_in(alloc, words, b'k', WRITE)?)?;
+    let failing = failing_of(alloc, given, OF_THE_SOURCE)?;
+    sides.input = BytesSource::new(script_of(alloc, given)?, 40, failing);
+    let failing = failing_of(alloc, given, OF_THE_DEVICE)?;
+    sides.audio = ListAudio::new(alloc, blocks_of(alloc, 3)?, failing)?;
+    let failing = failing_of(alloc, given, OF_THE_SINK)?;
+    sides.out = BytesSink::new(alloc, 1_000, 1, failing)?;
     Ok(sides)
 }
 
-fn script_of(alloc: Global, words: &[Word]) -> Result<Vec<u8>, AllocError> {
+fn script_of(alloc: Global, given: &str) -> Result<Vec<u8>, AllocError> {
     let mut script = Vec::from_slice(alloc, b"link 1\nsetup 500000 1\ngate 127.0.0.1:20808\n")?;
     script.extend_from_slice(b"to 127.0.0.1:20809\nto 127.0.0.1:20810\nto 127.0.0.1:20811\n")?;
-    if has(words, b'l') {
+    if has(given, b'l') {
         script.extend_from_slice(b"at x tempo\n")?;
     }
     script.extend_from_slice(b"at 1000000 tempo 250000\n")?;
-    if has(words, b't') {
+    if has(given, b't') {
         for _ in 0..4_096 {
             script.extend_from_slice(b"at 0 look\n")?;
         }
@@ -177,15 +202,13 @@ fn script_of(alloc: Global, words: &[Word]) -> Result<Vec<u8>, AllocError> {
     Ok(script)
 }
 
-fn failing_in(
-    alloc: Global,
-    words: &[Word],
-    letter: u8,
-    kind: u8,
-) -> Result<Vec<(u8, u64)>, AllocError> {
+// Which of these calls fail.
+fn failing_of(alloc: Global, given: &str, calls: Calls) -> Result<Vec<(u8, u64)>, AllocError> {
     let mut failing = Vec::new(alloc);
-    if let Some(number) = number_of(words, letter) {
-        failing.push((kind, number.unsigned_abs()))?;
+    for (letter, kind) in calls {
+        if let Some(number) = number_in(given, *letter) {
+            failing.push((*kind, number))?;
+        }
     }
     Ok(failing)
 }

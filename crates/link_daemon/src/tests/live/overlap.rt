@@ -7,15 +7,16 @@
 ghost use Rattle.std.specs.Prelude.{None};
 ghost use Rattle.lk_outside.specs.ListPort.{bound_of, faults_of};
 
-use super::super::live_run::{block_after, count_of};
 use super::super::spelled;
+use super::blocks::block_after;
+use super::events::count_of;
 use super::flags::{has_come, raise};
 use super::peers::{endpoint_of, fields_of, id_of};
 use super::{OWN, SEED};
-use crate::report::Report;
 use crate::status::Status;
 use crate::top::link_main;
 use asdp_messages::write_alive;
+use link_live::Report;
 use link_shared::Capture;
 use lk_base::{Clicks, Endpoint, Gate, NodeId};
 use lk_outside::{

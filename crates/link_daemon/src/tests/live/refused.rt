@@ -4,8 +4,8 @@ ghost use Rattle.std.specs.Prelude.{None};
 
 use super::super::line_of;
 use super::Sides;
-use crate::report::Report;
 use crate::status::Status;
+use link_live::Report;
 use lk_outside::{BIND, BytesSource, ListAudio, ListPort, NEXT, Pace};
 use std::alloc::{AllocError, Global};
 use std::process::Abort;

@@ -1,7 +1,7 @@
 //! What a run tells: the text that it writes, and its report.
 
-use super::super::live_run::count_of;
 use super::Sides;
+use super::events::count_of;
 use crate::status::Status;
 use link_node::Event;
 use lk_outside::{ListPace, ListPort};

@@ -1,0 +1,233 @@
+-- A live run from its parts: what its loops owe, and how it ends.
+use Rattle.std.proofs.Common.{◌≡◌, ℕ, ℤ, pos, ◌<◌, ◌≤◌, ◌+◌, ◌^◌, ◌⊎◌, ◌||◌, ⊎_elim, Bool, true, false, List, [], ◌∷◌, ◌++◌, length, map, Option, None, refl, sym, ap, subst, ◌∙◌, length-append, true≢false, arith}
+use Rattle.std.specs.List.{AllByRecursion}
+use Rattle.std.proofs.lemmas.List.{length-map}
+use Rattle.lk_base.specs.Ranges.{IsQuantum}
+use Rattle.lk_base.specs.declared.block.Click.{Click}
+use Rattle.lk_base.specs.declared.endpoint.Endpoint.{Endpoint}
+use Rattle.lk_outside.specs.Audio.{AudioContents}
+use Rattle.lk_outside.specs.Faults.{Rose}
+use Rattle.lk_outside.specs.Pace.{IsPaced}
+use Rattle.lk_outside.specs.Port.{PortContents}
+use Rattle.client_state.specs.declared.commit.Commit.{Commit}
+use Rattle.client_state.specs.declared.state.State.{State}
+use Rattle.link_node.specs.Config.{ConfigValue}
+use Rattle.link_node.specs.Event.{EventValue, End, SendingValue}
+use Rattle.link_node.specs.Runs.{sent_by, sent_of, AreFitting}
+use Rattle.link_shared.specs.Audio.{AudioView}
+use Rattle.link_shared.specs.Ending.{HasEnded, app_events}
+use Rattle.link_shared.specs.Hub.{HubView, machine_of, new_hub, opening_of, read_events}
+use Rattle.link_shared.specs.Passes.{AppView}
+use Rattle.link_shared.specs.declared.capture.Capture.{Capture}
+use Rattle.link_text.specs.declared.live_script.AppCommand.{AppCommand}
+use Rattle.link_text.specs.declared.live_script.BlockCommand.{BlockCommand}
+use Rattle.link_text.specs.declared.live_script.LiveScript.{LiveScript}
+use Rattle.link_live.specs.AudioRun.{BlockRead, IsAudioRun, clicks_of_blocks}
+use Rattle.link_live.specs.Headline.{IsLiveRun, LiveSetup, new_audio}
+use Rattle.link_live.specs.Journal.{has_ended}
+use Rattle.link_live.specs.LiveRun.{EndsLiveRun, IsFull, IsReady, first_of}
+use Rattle.link_live.specs.Loops.{CanPlay, CanRun, CanTake, HasPlayedBlocks, HasRun, HasTakenCommands}
+use Rattle.link_live.specs.Network.{IsNetworkRun, locals_of}
+use Rattle.link_live.specs.Report.{ReportValue}
+use Rattle.link_live.specs.Running.{HasPosted, RunLaws}
+use Rattle.link_live.specs.declared.audio.AudioReport.{AudioReport}
+use Rattle.link_live.specs.declared.network.NetEnd.{NetEnd}
+use Rattle.link_live.specs.declared.room.Room.{Room}
+use Rattle.link_live.specs.declared.script.ScriptReport.{ScriptReport}
+use Rattle.link_live.proofs.EndLemmas.{BestLaw, all_taken, last_commits, not_ended, whole_run}
+use Rattle.link_live.proofs.JournalLemmas.{all_later, has_ended-append}
+use Rattle.link_live.proofs.LoopLemmas.{has_risen}
+
+-- ---- what the loops owe
+
+pub can_run : (bound : Bool) (hub : HubView) (gates : List Endpoint) (config given : ConfigValue) (now : ℤ) (most : ℕ)
+    → hub ≡ new_hub config now most → config ≡ given → (bound ≡ true → gates ≡ locals_of given) → CanRun bound hub gates
+can_run bound hub gates config given now most is same gates_are = record {
+  empty = ap (λ (h : HubView). h.journal) is;
+  bound_to = λ yes. gates_are yes ∙ ap locals_of (sym same ∙ sym (ap (λ (h : HubView). h.config) is));
+}
+
+pub can_play : (quantum stored : ℤ) (blocks : ℕ) (script : LiveScript) (pass : AudioView) (room : Room)
+    → stored ≡ quantum → IsQuantum quantum → IsReady script blocks room → pass ≡ new_audio → CanPlay stored blocks script.blocks.items pass room.audio
+can_play quantum stored blocks script pass room same range ready is = record {
+  range = subst IsQuantum (sym same) range;
+  each = ready.commands;
+  numbers = subst (λ (p : AudioView). length p.made + length script.blocks.items < 2 ^ 60) (sym is) (omega (arith, ready.few));
+  empty = (ready.reads.0, ready.audio_commits.0, ready.plays.0);
+  room = (ready.reads.1, ready.plays.1);
+  room_for_commits = ready.audio_commits.1;
+}
+
+abbrev pub new_app : AppView
+new_app = record { seen = []; pushed = []; made = 0; own = None; room = 65535; sole = true }
+
+pub can_take : (quantum stored : ℤ) (blocks : ℕ) (script : LiveScript) (pass : AppView) (room : Room)
+    → stored ≡ quantum → IsQuantum quantum → IsReady script blocks room → pass ≡ new_app → CanTake stored script.apps.items pass room.script
+can_take quantum stored blocks script pass room same range ready is = record {
+  range = subst IsQuantum (sym same) range;
+  each = ready.apps;
+  sole = (ap (λ (p : AppView). p.sole) is, ap (λ (p : AppView). p.made) is, ap (λ (p : AppView). p.own) is, ap (λ (p : AppView). p.pushed) is);
+  empty = (ready.captures.0, ready.app_commits.0);
+  room = (ready.captures.1, ready.app_commits.1);
+}
+
+-- ---- what the last turn sends goes out on gates that are bound
+
+pub last_on_gates : (laws : RunLaws) (hub : HubView) (pass : AudioView) (clock : ℤ) (events : List EventValue) (published : List State) (sends list : List SendingValue) (full : Bool) (bound : List Endpoint)
+    → ((config : ConfigValue) (now : ℤ) (es : List EventValue) → AreFitting (length config.gates) 0 0 es → AllByRecursion (λ (s : SendingValue). s.gate.0 < length config.gates) (sent_of config now es))
+    → HasEnded hub pass clock events published sends full → bound ≡ locals_of hub.config → list ≡ sends
+    → AllByRecursion (λ (s : SendingValue). s.gate.0 < length bound) list
+last_on_gates laws hub pass clock events published sends list full bound law last are is =
+    subst (λ (l : List SendingValue). AllByRecursion (λ (s : SendingValue). s.gate.0 < length bound) l) (sym is)
+    (subst (λ (n : ℕ). AllByRecursion (λ (s : SendingValue). s.gate.0 < n) sends) (sym (ap length are ∙ length-map hub.config.gates (λ gate. gate.local)))
+    (subst (λ (l : List SendingValue). AllByRecursion (λ (s : SendingValue). s.gate.0 < length hub.config.gates) l) (sym last.offered.sends)
+    (all_later (λ (s : SendingValue). s.gate.0 < length hub.config.gates) (sent_by (opening_of hub) hub.journal) (sent_by (machine_of hub) last.offered.taken)
+    (subst (λ (l : List SendingValue). AllByRecursion (λ (s : SendingValue). s.gate.0 < length hub.config.gates) l) both
+    (law hub.config hub.opened_at events last.fits)))))
+  where
+    both : sent_of hub.config hub.opened_at events ≡ sent_by (opening_of hub) hub.journal ++ sent_by (machine_of hub) last.offered.taken
+    both = ap (λ l. sent_by (opening_of hub) l) last.offered.journal ∙ laws.sent (opening_of hub) hub.journal last.offered.taken
+
+-- the gates that are bound, where the port has not failed in the network's loop
+pub still_bound : (bound : Bool) (hub0 hub1 hub2 : HubView) (app : AppView) (told told_then : Option PortContents) (gates gates_then : List Endpoint) (faults faults_then : ℕ) (end : NetEnd) (config given : ConfigValue) (now : ℤ) (most : ℕ)
+    → hub0 ≡ new_hub config now most → config ≡ given → HasRun bound hub0 hub1 told told_then gates gates_then faults faults_then end
+    → (bound ≡ true → gates ≡ locals_of given) → hub2 ≡ record hub1 { handed = hub1.handed ++ app ∷ [] } → end.failed ≡ false → gates_then ≡ locals_of hub2.config
+still_bound bound hub0 hub1 hub2 app told told_then gates gates_then faults faults_then end config given now most is same net gates_are hub2_is works =
+    net.stay ∙ gates_are (net.cause.works works).0
+    ∙ ap locals_of (sym same ∙ sym (ap (λ (h : HubView). h.config) is) ∙ sym net.run.same_config ∙ sym (ap (λ (h : HubView). h.config) hub2_is))
+
+-- ---- how it ends
+
+module _ (laws : RunLaws) (best : BestLaw) (config : ConfigValue) (now : ℤ) (most blocks : ℕ) (quantum stored : ℤ) (apps : List AppCommand) (list : List BlockCommand) (late : Option ℤ) (hub0 hub1 hub2 : HubView) (app : AppView) (pass0 pass : AudioView) (end : NetEnd) (clock : ℤ)
+    (p0 p1 p2 p3 : Option PortContents) (gates1 gates2 gates3 : List Endpoint) (f0 f1 f2 f3 : ℕ) (a0 a1 : Option AudioContents) (af0 af1 : ℕ) (audio_report : AudioReport) (script_report : ScriptReport)
+    (events : List EventValue) (published : List State) (sends posts : List SendingValue) (bound : Bool)
+    (hub0_is : hub0 ≡ new_hub config now most) (net : HasRun bound hub0 hub1 p1 p2 gates1 gates2 f1 f2 end)
+    (bind_gates : bound ≡ true → gates1 ≡ locals_of config) (bind_works : bound ≡ true → f1 ≡ f0) (bind_fails : bound ≡ false → Rose f0 f1) (bind_contents : p1 ≡ p0)
+    (pass_is : pass0 ≡ new_audio) (hub2_is : hub2 ≡ record hub1 { handed = hub1.handed ++ app ∷ [] }) (clock_is : clock ≡ end.clock) (stored_is : stored ≡ quantum) (opening : IsPaced late (pos 0) now)
+    (posts_are : posts ≡ sends) (post_gates : gates3 ≡ gates2) where
+  run : IsNetworkRun (new_hub config now most) hub1 p1 p2 end.clock end.failed end.full
+  run = subst (λ (h : HubView). IsNetworkRun h hub1 p1 p2 end.clock end.failed end.full) hub0_is net.run
+
+  most_is : hub2.most ≡ most
+  most_is = ap (λ (h : HubView). h.most) hub2_is ∙ run.same_most
+
+  journal_is : hub2.journal ≡ hub1.journal
+  journal_is = ap (λ (h : HubView). h.journal) hub2_is
+
+  -- the port's count rose
+  rose : (failed : Bool) → (end.failed ≡ false → failed ≡ true → Rose f2 f3) → (end.failed ≡ true → f3 ≡ f2) → failed ≡ true → Rose f0 f3
+  rose failed post_fails post_unbound fails = has_risen f0 f2 f3 end.failed failed
+      (λ works. (net.cause.works works).1 ∙ bind_works (net.cause.works works).0)
+      (λ failed_then. by_bound bound refl (net.cause.fails failed_then))
+      post_fails post_unbound fails
+    where
+      by_bound : (b : Bool) → bound ≡ b → (bound ≡ false) ⊎ Rose f1 f2 → Rose f0 f2
+      by_bound false e why = subst (λ (n : ℕ). Rose f0 n) (sym (net.cause.unbound e).1) (bind_fails e)
+      by_bound true e why =
+          ⊎_elim (λ (n : bound ≡ false). absurd (true≢false (sym e ∙ n))) (λ (r : Rose f1 f2). subst (λ (n : ℕ). Rose n f2) (bind_works e) r) why
+
+  -- and stayed
+  stays : (failed : Bool) → HasPosted posts end.failed failed p2 p3 → (failed ≡ false → f3 ≡ f2) → failed ≡ false → f3 ≡ f0
+  stays failed posted post_works works =
+      let before = (posted.all works).0 in post_works works ∙ (net.cause.works before).1 ∙ bind_works (net.cause.works before).0
+
+  abbrev told : ReportValue
+  told = record {
+    config = config;
+    now = now;
+    events = events;
+    published = published;
+    reads = audio_report.reads.items;
+    captures = script_report.captures.items;
+    app_commits = script_report.commits.items;
+    audio_commits = audio_report.commits.items;
+    plays = map (λ clicks. clicks.items) audio_report.plays.items;
+  }
+
+  abbrev setup : LiveSetup
+  setup = record { config = config; events = most; blocks = blocks; quantum = quantum; apps = apps; block_commands = list }
+
+  is_full : HasEnded hub2 pass clock events published sends true → IsFull most told
+  is_full last = record {
+    all = (last.offered.no_room refl).0 ∙ most_is;
+    goes_on =
+        ap has_ended last.offered.journal
+        ∙ has_ended-append hub2.journal last.offered.taken
+        ∙ ap (λ b. b || has_ended last.offered.taken) (ap has_ended journal_is ∙ run.goes_on)
+        ∙ not_ended clock (read_events clock (machine_of hub2).audio last.last ++ app_events clock last.rest) last.offered.taken last.offered.refused
+        (last_commits clock (machine_of hub2).audio last.last last.rest).goes_on last.offered.split (last.offered.no_room refl).1;
+  }
+
+  -- the loop's journal was not full where the last turn found room
+  not_full : HasEnded hub2 pass clock events published sends false → (b : Bool) → end.full ≡ b → end.full ≡ false
+  not_full last false e = e
+  not_full last true e =
+      let len : length hub1.journal ≡ most = run.no_room e in
+      let taken : last.offered.taken ≡ (read_events clock (machine_of hub2).audio last.last ++ app_events clock last.rest) ++ End clock ∷ [] =
+      all_taken _ last.offered.taken last.offered.refused last.offered.split (last.offered.all refl) in
+      absurd (omega (
+        arith,
+        len,
+        ap length last.offered.journal,
+        length-append hub2.journal last.offered.taken,
+        ap length journal_is,
+        ap length taken,
+        length-append (read_events clock (machine_of hub2).audio last.last ++ app_events clock last.rest) (End clock ∷ []),
+        last.offered.fits,
+        most_is,
+      ))
+
+  whole : HasEnded hub2 pass clock events published sends false → HasPosted posts end.failed false p2 p3
+      → HasPlayedBlocks stored blocks list pass0 pass a0 a1 af0 af1 audio_report true → HasTakenCommands stored late apps app script_report true
+      → IsLiveRun setup late p0 p3 gates3 a0 a1 told
+  whole last posted audio script =
+      let works : end.failed ≡ false = (posted.all refl).0 in
+      let room : end.full ≡ false = not_full last end.full refl in
+      let net_is : IsNetworkRun (new_hub config now most) hub1 p0 p2 end.clock false false =
+      subst (λ (o : Option PortContents). IsNetworkRun (new_hub config now most) hub1 o p2 end.clock false false) bind_contents
+      (subst (λ (b : Bool). IsNetworkRun (new_hub config now most) hub1 p1 p2 end.clock false b) room
+      (subst (λ (b : Bool). IsNetworkRun (new_hub config now most) hub1 p1 p2 end.clock b end.full) works run)) in
+      let last_is : HasEnded (record hub1 { handed = hub1.handed ++ app ∷ [] }) pass end.clock events published sends false =
+      subst (λ (h : HubView). HasEnded h pass end.clock events published sends false) hub2_is
+      (subst (λ (n : ℤ). HasEnded hub2 pass n events published sends false) clock_is last) in
+      subst (λ (q : ℤ). IsLiveRun (record setup { quantum = q }) late p0 p3 gates3 a0 a1 told) stored_is
+      (whole_run laws config now most hub1 app pass end.clock p0 p2 events published sends net_is last_is late blocks stored apps list p3 gates3 a0 a1
+      audio_report.reads.items script_report.captures.items script_report.commits.items audio_report.commits.items (map (λ clicks. clicks.items) audio_report.plays.items)
+      best opening
+      (subst (λ (l : List SendingValue). HasPosted l false false p2 p3) posts_are (subst (λ (b : Bool). HasPosted posts b false p2 p3) works posted))
+      (post_gates ∙ net.stay ∙ bind_gates (net.cause.works works).0)
+      (subst (λ (v : AudioView). IsAudioRun stored blocks list v pass a0 a1 audio_report.reads.items audio_report.commits.items (map (λ clicks. clicks.items) audio_report.plays.items) false) pass_is audio.run)
+      script)
+
+  pub run_ends : (captured failed played full : Bool) → HasEnded hub2 pass clock events published sends full → HasPosted posts end.failed failed p2 p3
+      → (failed ≡ false → f3 ≡ f2) → (end.failed ≡ false → failed ≡ true → Rose f2 f3) → (end.failed ≡ true → f3 ≡ f2)
+      → HasPlayedBlocks stored blocks list pass0 pass a0 a1 af0 af1 audio_report played → HasTakenCommands stored late apps app script_report captured
+      → EndsLiveRun setup late p0 p3 gates3 f0 f3 a0 a1 af0 af1 told (first_of captured failed played full)
+  run_ends false failed played full last posted works fails unbound audio script = tt
+  run_ends true true played full last posted works fails unbound audio script = rose true fails unbound refl
+  run_ends true false false full last posted works fails unbound audio script = (stays false posted works refl, audio.cause.fails refl)
+  run_ends true false true true last posted works fails unbound audio script = (stays false posted works refl, audio.cause.works refl, is_full last)
+  run_ends true false true false last posted works fails unbound audio script =
+      (stays false posted works refl, audio.cause.works refl, whole last posted audio script)
+
+-- ---- how much was played
+
+clicks_few : (quantum : ℤ) (captures : List Capture) (reads : List BlockRead) → length (clicks_of_blocks quantum captures reads) ≤ length reads
+clicks_few quantum [] reads = omega arith
+clicks_few quantum (capture ∷ captures) [] = omega arith
+clicks_few quantum (capture ∷ captures) (read ∷ reads) = let rest = clicks_few quantum captures reads in omega (arith, rest)
+
+-- no more blocks are played than asked for
+pub plays_few : (quantum : ℤ) (most : ℕ) (commands : List BlockCommand) (before after : AudioView) (told told_then : Option AudioContents)
+    (reads : List Capture) (commits : List Commit) (plays : List (List Click)) (failed : Bool)
+    → IsAudioRun quantum most commands before after told told_then reads commits plays failed → length plays ≤ most
+plays_few quantum most commands before after told told_then reads commits plays failed run =
+    omega (arith, run.few, length-append run.played run.unplayed, clicks_few quantum reads run.played, ap length run.plays_are)
+
+-- the events of a run are ones that its node can take
+pub all_fit : (bound : Bool) (hub0 hub1 hub2 : HubView) (app : AppView) (given given_then : Option PortContents) (gates gates_then : List Endpoint) (faults faults_then : ℕ) (end : NetEnd) (config : ConfigValue) (now : ℤ) (most : ℕ) (events : List EventValue)
+    → hub0 ≡ new_hub config now most → HasRun bound hub0 hub1 given given_then gates gates_then faults faults_then end
+    → hub2 ≡ record hub1 { handed = hub1.handed ++ app ∷ [] } → AreFitting (length hub2.config.gates) 0 0 events → AreFitting (length config.gates) 0 0 events
+all_fit bound hub0 hub1 hub2 app given given_then gates gates_then faults faults_then end config now most events is net hub2_is fit =
+    subst (λ (c : ConfigValue). AreFitting (length c.gates) 0 0 events)
+    (ap (λ (h : HubView). h.config) hub2_is ∙ net.run.same_config ∙ ap (λ (h : HubView). h.config) is) fit

@@ -1,0 +1,16 @@
+mod JournalLemmas
+mod HeardLemmas
+mod GoneLemmas
+mod CountLemmas
+mod GrownLemmas
+mod TurnsLemmas
+mod RunningLemmas
+mod AskLemmas
+mod PostLemmas
+mod LoopLemmas
+mod ScriptLemmas
+mod EndLemmas
+mod EditLemmas
+mod CommitLemmas
+mod AudioLemmas
+mod CloseLemmas

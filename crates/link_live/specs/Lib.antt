@@ -1,0 +1,13 @@
+pub mod Journal
+pub mod Turns
+pub mod Network
+pub mod Clients
+pub mod AudioRun
+pub mod PlayingRun
+pub mod ScriptRun
+pub mod Report
+pub mod Headline
+pub mod LiveRun
+pub mod Loops
+pub mod Running
+pub mod TakingRun

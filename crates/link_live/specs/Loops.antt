@@ -1,0 +1,56 @@
+-- Only for proofs: what the three loops of a live run owe and promise, one record each, as threads that are joined have one clause.
+use Rattle.std.specs.Prelude.{◌≡◌, ◌≤◌, ◌<◌, ◌^◌, ◌+◌, ℕ, ℤ, not, Bool, true, None, List, [], length, map, All, Option}
+use Rattle.std.specs.Vec.{vec_capacity}
+use Rattle.lk_base.specs.Ranges.{IsQuantum}
+use Rattle.lk_base.specs.declared.endpoint.Endpoint.{Endpoint}
+use Rattle.lk_outside.specs.Audio.{AudioContents}
+use Rattle.lk_outside.specs.Port.{PortContents}
+use Rattle.link_shared.specs.Audio.{AudioView}
+use Rattle.link_shared.specs.Hub.{HubView}
+use Rattle.link_shared.specs.Passes.{AppView}
+use Rattle.link_text.specs.LiveScript.{IsCommand, app, block}
+use Rattle.link_text.specs.declared.live_script.AppCommand.{AppCommand}
+use Rattle.link_text.specs.declared.live_script.BlockCommand.{BlockCommand}
+use Rattle.link_live.specs.AudioRun.{IsAudioRun, HasAudioCause}
+use Rattle.link_live.specs.Network.{IsNetworkRun, HasCause, locals_of}
+use Rattle.link_live.specs.ScriptRun.{IsScriptRun}
+use Rattle.link_live.specs.declared.audio.AudioReport.{AudioReport}
+use Rattle.link_live.specs.declared.network.NetEnd.{NetEnd}
+use Rattle.link_live.specs.declared.script.ScriptReport.{ScriptReport}
+
+-- ---- the network's
+
+pub record CanRun (bound : Bool) (hub : HubView) (gates : List Endpoint) : Type 0 where
+  pub empty : hub.journal ≡ []
+  pub bound_to : bound ≡ true → gates ≡ locals_of hub.config
+
+pub record HasRun (bound : Bool) (before after : HubView) (told told_then : Option PortContents) (gates gates_then : List Endpoint) (faults faults_then : ℕ) (end : NetEnd) : Type 0 where
+  pub run : IsNetworkRun before after told told_then end.clock end.failed end.full
+  pub cause : HasCause bound faults faults_then told told_then end.failed
+  pub stay : gates_then ≡ gates
+
+-- ---- the audio thread's
+
+pub record CanPlay (quantum : ℤ) (blocks : ℕ) (commands : List BlockCommand) (pass : AudioView) (report : AudioReport) : Type 0 where
+  pub range : IsQuantum quantum
+  pub each : All (λ command. IsCommand (block command)) commands
+  pub numbers : length pass.made + length commands < 2 ^ 60
+  pub empty : (report.reads.items ≡ []) × (report.commits.items ≡ []) × (report.plays.items ≡ [])
+  pub room : (blocks ≤ vec_capacity report.reads) × (blocks ≤ vec_capacity report.plays)
+  pub room_for_commits : length commands ≤ vec_capacity report.commits
+
+pub record HasPlayedBlocks (quantum : ℤ) (blocks : ℕ) (commands : List BlockCommand) (before after : AudioView) (told told_then : Option AudioContents) (faults faults_then : ℕ) (report : AudioReport) (ended : Bool) : Type 0 where
+  pub run : IsAudioRun quantum blocks commands before after told told_then report.reads.items report.commits.items (map (λ clicks. clicks.items) report.plays.items) (not ended)
+  pub cause : HasAudioCause faults faults_then ended
+
+-- ---- the application's
+
+pub record CanTake (quantum : ℤ) (commands : List AppCommand) (pass : AppView) (report : ScriptReport) : Type 0 where
+  pub range : IsQuantum quantum
+  pub each : All (λ command. IsCommand (app command)) commands
+  pub sole : (pass.sole ≡ true) × (pass.made ≡ 0) × (pass.own ≡ None) × (pass.pushed ≡ [])
+  pub empty : (report.captures.items ≡ []) × (report.commits.items ≡ [])
+  pub room : (length commands ≤ vec_capacity report.captures) × (length commands ≤ vec_capacity report.commits)
+
+abbrev pub HasTakenCommands : ℤ → Option ℤ → List AppCommand → AppView → ScriptReport → Bool → Type 0
+HasTakenCommands quantum late commands pass report all = IsScriptRun quantum late commands pass report.captures.items report.commits.items all

@@ -1,0 +1,173 @@
+//! The loop of an application that takes its commands from a live script.
+
+ghost use Rattle.std.specs.Prelude.{◌≡◌, ◌≤◌, ◌<◌, ◌+◌, ℕ, List, [], None, if◌then◌else◌, true, length, All, vec_capacity, vec_len};
+ghost use Rattle.lk_base.specs.Ranges.{IsQuantum};
+ghost use Rattle.client_state.specs.Commit.{IsTidyCommit};
+ghost use Rattle.link_shared.specs.Passes.{HasCommitted};
+ghost use Rattle.link_text.specs.LiveScript.{IsCommand, app as app_command};
+ghost use Rattle.link_text.specs.declared.live_script.AppCommand.{AppCommand as AnyCommand};
+ghost use Rattle.link_live.specs.ScriptRun.{IsScriptRun, is_look};
+ghost use Rattle.link_live.specs.TakingRun.{IsCommandAt, IsTaking};
+
+use crate::edit::commit_of;
+use audio_handoff::StateCell;
+use client_state::Commit;
+use link_shared::{AppPass, Capture, Link, LinkName};
+use link_text::{Act, AppCommand, LiveScript};
+use lk_outside::Pace;
+use std::alloc::Global;
+use std::sync::Wait;
+
+/// What the application did, in order.
+#[derive(Debug, Drop)]
+pub struct ScriptReport {
+    /// For each command that was taken, what was captured.
+    pub captures: Vec<Capture>,
+    /// For each of them that is no look, its commit.
+    pub commits: Vec<Commit>,
+}
+
+/// Takes the script's commands in order: for each it waits until the command's moment, captures, and commits what the command makes of the
+/// state that it is shown, with the phases of the quantum, in microbeats; a look commits nothing. Then it asks the network's loop to end.
+/// Where memory for a capture is wanting it takes no further command, and answers false.
+///
+/// Waits: in the pace, for the desk, by the way, and for room in the queue. Memory: two notes for each capture.
+pub fn script_loop<C: StateCell<9>, N: LinkName, T: Pace, R: Wait>(
+    rt: &R,
+    alloc: Global,
+    link: &Link<C, N>,
+    way: &C::Way,
+    pass: &mut AppPass<C, N>,
+    pace: &mut T,
+    script: &LiveScript,
+    quantum: i64,
+    report: &mut ScriptReport,
+) -> bool
+    requires quantum { IsQuantum quantum }
+    requires commands { All (λ command. IsCommand (app_command command)) script.now.apps.items }
+    requires sole { (pass.old.sole ≡ true) × (pass.old.made ≡ 0) × (pass.old.own ≡ None) × (pass.old.pushed ≡ []) }
+    requires empty { (report.old.captures.items ≡ []) × (report.old.commits.items ≡ []) }
+    requires room { (length script.now.apps.items ≤ vec_capacity report.old.captures)
+        × (length script.now.apps.items ≤ vec_capacity report.old.commits) }
+    ensures run { IsScriptRun quantum (T.late pace.old) script.now.apps.items pass.new
+        report.new.captures.items report.new.commits.items result }
+{
+    let all = take_commands(
+        rt,
+        alloc,
+        link,
+        way,
+        pass,
+        pace,
+        &script.apps,
+        quantum,
+        report,
+    );
+    ask_to_end(rt, link);
+    all
+}
+
+// Takes the commands in order, and answers whether it took all. Waits and memory: as in `script_loop`.
+fn take_commands<C: StateCell<9>, N: LinkName, T: Pace, R: Wait>(
+    rt: &R,
+    alloc: Global,
+    link: &Link<C, N>,
+    way: &C::Way,
+    pass: &mut AppPass<C, N>,
+    pace: &mut T,
+    commands: &[AppCommand],
+    quantum: i64,
+    report: &mut ScriptReport,
+) -> bool
+    requires quantum { IsQuantum quantum }
+    requires commands { All (λ command. IsCommand (app_command command)) commands.now }
+    requires sole { (pass.old.sole ≡ true) × (pass.old.made ≡ 0) × (pass.old.own ≡ None) × (pass.old.pushed ≡ []) }
+    requires empty { (report.old.captures.items ≡ []) × (report.old.commits.items ≡ []) }
+    requires room { (length commands.now ≤ vec_capacity report.old.captures)
+        × (length commands.now ≤ vec_capacity report.old.commits) }
+    ensures run { IsScriptRun quantum (T.late pace.old) commands.now pass.new
+        report.new.captures.items report.new.commits.items result }
+{
+    for command in commands {
+        if !take_command(rt, alloc, link, way, pass, pace, command, quantum, report) {
+            return false;
+        }
+    }
+    true
+}
+
+// Takes a command, unless memory for its capture is wanting. Waits and memory: as in `script_loop`.
+fn take_command<C: StateCell<9>, N: LinkName, T: Pace, R: Wait>(
+    rt: &R,
+    alloc: Global,
+    link: &Link<C, N>,
+    way: &C::Way,
+    pass: &mut AppPass<C, N>,
+    pace: &mut T,
+    command: &AppCommand,
+    quantum: i64,
+    report: &mut ScriptReport,
+) -> bool
+    requires quantum { IsQuantum quantum }
+    requires command { IsCommand (app_command command.now) }
+    requires room { (vec_len report.old.captures < vec_capacity report.old.captures)
+        × (vec_len report.old.commits < vec_capacity report.old.commits) }
+    ensures taken { (commands : List AnyCommand) (count : ℕ) → IsCommandAt commands count command.now
+        → IsTaking quantum (T.late pace.old) commands count pass.old report.old.captures.items report.old.commits.items
+        → IsTaking quantum (T.late pace.old) commands (if result then count + 1 else count) pass.new
+        report.new.captures.items report.new.commits.items }
+    ensures late { T.late pace.new ≡ T.late pace.old }
+    ensures captures_fit { (vec_capacity report.new.captures ≡ vec_capacity report.old.captures)
+        × (vec_len report.new.captures ≤ vec_len report.old.captures + 1) }
+    ensures commits_fit { (vec_capacity report.new.commits ≡ vec_capacity report.old.commits)
+        × (vec_len report.new.commits ≤ vec_len report.old.commits + 1) }
+{
+    let at = pace.until(command.at);
+    let Ok(capture) = link.capture(rt, alloc, way, pass) else {
+        return false;
+    };
+    report.captures.push_reserved(capture);
+    if looks(command.act) {
+        return true;
+    }
+    let commit = commit_of(command.act, at, quantum, &capture);
+    hand_over(rt, link, pass, commit);
+    report.commits.push_reserved(commit);
+    true
+}
+
+// Whether an act is a look.
+fn looks(act: Act) -> bool
+    ensures { result ≡ is_look act }
+{
+    matches!(act, Act::Look)
+}
+
+// Hands a commit over, as soon as the queue has room. Answers its number.
+// Waits: for the desk, and for room in the queue. Memory: none.
+fn hand_over<C: StateCell<9>, N: LinkName, R: Wait>(
+    rt: &R,
+    link: &Link<C, N>,
+    pass: &mut AppPass<C, N>,
+    commit: Commit,
+) -> u64
+    requires tidy { IsTidyCommit commit }
+    ensures committed { HasCommitted pass.old pass.new commit result }
+{
+    for _ in rt.forever() {
+        if let Ok(number) = link.commit(rt, pass, commit) {
+            return number;
+        }
+    }
+    unreachable!()
+}
+
+// Asks the network's loop to end, as soon as the queue has room. Waits: for the desk, and for room in the queue. Memory: none.
+fn ask_to_end<C: StateCell<9>, N: LinkName, R: Wait>(rt: &R, link: &Link<C, N>) {
+    for _ in rt.forever() {
+        if link.quit(rt).is_ok() {
+            return;
+        }
+    }
+    unreachable!()
+}
