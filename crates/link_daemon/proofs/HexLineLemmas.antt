@@ -1,8 +1,9 @@
 -- Lines of hex digits: which of them say bytes, and how far a text is checked.
-use Rattle.std.proofs.Common.{◌≡◌, ◌⊎◌, inl, inr, refl, sym, subst, ap, ◌∙◌, arith, true, false, ℕ, ◌+◌, ◌-◌, ◌*◌, ◌/◌, ◌%◌, ◌<◌, ◌≤◌, max, List, [], ◌∷◌, ◌++◌, length, take, drop, slice_index, Ok}
+use Rattle.std.proofs.Common.{◌≡◌, ◌⊎◌, inl, inr, refl, sym, subst, ap, ◌∙◌, arith, true, false, Bool, ◌&&◌, ℕ, ◌+◌, ◌-◌, ◌*◌, ◌/◌, ◌%◌, ◌<◌, ◌≤◌, max, List, [], ◌∷◌, ◌++◌, length, take, drop, slice_index, Ok}
+use Rattle.std.specs.Bool.{OnTrue, OnFalse}
 use Rattle.std.specs.List.{All, AllPass}
 use Rattle.std.proofs.lemmas.List.{append_assoc, append-nil, length_push, take_all}
-use Rattle.std.proofs.lemmas.List.Elements.{All-nil, All-push, All-weaker, All-same, Contains-append_left, Contains-push}
+use Rattle.std.proofs.lemmas.List.Elements.{All-nil, All-more, All-push, All-weaker, All-same, Contains-append_left, Contains-push}
 use Rattle.std.proofs.Math.Nat.{le-max_left, le-max_right, max-le, eq-or-lt_of_le}
 use Rattle.hex.specs.Hex.{decode_of, is_hex_digit}
 use Rattle.hex.proofs.HexLemmas.{decode_of-ok, decode_of-digits}
@@ -37,10 +38,27 @@ bad_and_decoded text output k first whole =
     bad_among first.before first.line first.after whole.reading_lines
     (subst (λ (lines : List (List ℕ)). AreDecodedLines lines whole.reading_lines) first.split whole.lines) first.bad
 
+-- the first n characters of a line are looked at: all of them are hex digits, or the line is at fault
+pub record HasSeen (line : List ℕ) (n : ℕ) (digits : Bool) : Type 0 where
+  pub good : OnTrue digits (AllPass is_hex_digit (take n line))
+  pub bad : OnFalse digits (IsBadLine line)
+
+-- one character more
+pub seen_more : (line : List ℕ) (n : ℕ) (digits digit : Bool) → HasSeen line n digits → n < length line
+    → digit ≡ is_hex_digit (slice_index line n) → HasSeen line (n + 1) (digits && digit)
+seen_more line n true true seen within is = record {
+  good = All-more (λ c. is_hex_digit c ≡ true) line n 0 within seen.good (sym is);
+  bad = tt;
+}
+seen_more line n true false seen within is = record { good = tt; bad = inr (n, within, sym is) }
+seen_more line n false digit seen within is = record { good = tt; bad = seen.bad }
+
 -- an even number of hex digits
-pub good_line : (line : List ℕ) (n : ℕ) → (length line % 2 ≡ 1 → ⊥) → AllPass is_hex_digit (take n line) → length line ≤ n → IsHexLine line
-good_line line n other digits all =
-    decode_of-digits line (omega arith) (All-same (λ c. is_hex_digit c ≡ true) line (take n line) (sym (take_all n line all)) digits)
+pub good_line : (line : List ℕ) (n : ℕ) (digits : Bool) → (length line % 2 ≡ 1 → ⊥) → HasSeen line n digits → length line ≤ n
+    → OnTrue digits (IsHexLine line)
+good_line line n true other seen all =
+    decode_of-digits line (omega arith) (All-same (λ c. is_hex_digit c ≡ true) line (take n line) (sym (take_all n line all)) seen.good)
+good_line line n false other seen all = tt
 
 even_line : (line : List ℕ) → IsHexLine line → length line % 2 ≡ 0
 even_line line (bytes, e) =

@@ -41,7 +41,7 @@ pub fn longest_line(text: &[u8]) -> Result<usize, TextFault>
     Ok(longest)
 }
 
-// Whether a line is an even number of hex digits.
+// Whether a line is an even number of hex digits. It doesn't stop at a character that is none: so a build looks at many at once.
 fn is_hex_line(line: &[u8]) -> bool
     ensures good { OnTrue result (IsHexLine line.now) }
     ensures bad { OnFalse result (IsBadLine line.now) }
@@ -49,12 +49,11 @@ fn is_hex_line(line: &[u8]) -> bool
     if line.len() % 2 == 1 {
         return false;
     }
+    let mut all_digits = true;
     for character in line {
-        if !is_hex_digit(*character) {
-            return false;
-        }
+        all_digits &= is_hex_digit(*character);
     }
-    true
+    all_digits
 }
 
 // Why a line that is no even number of hex digits is at fault.

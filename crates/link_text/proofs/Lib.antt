@@ -1,4 +1,3 @@
-mod DigitLemmas
 mod JoinLemmas
 mod LineLemmas
 mod WordLemmas

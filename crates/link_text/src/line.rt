@@ -7,6 +7,7 @@ ghost use Rattle.hex.specs.Hex.{encode_lower};
 ghost use Rattle.link_text.specs.Words.{endpoint_text_of, truth_text_of};
 
 use arrayvec::ArrayVec;
+use itoa::Buffer;
 use lk_base::{ClientStart, Endpoint, Timeline};
 
 /// A line with its line feed: the longest has 1,100 bytes or so, a datagram in hex among them.
@@ -27,17 +28,7 @@ pub fn put_decimal(line: &mut LineBuf, n: u64)
     ensures items { line.new.items ≡ line.old.items ++ decimal n }
     ensures len { array_vec_len line.new ≤ array_vec_len line.old + 20 }
 {
-    let mut digits = [0u8; 20];
-    let mut at = 20;
-    let mut rest = n;
-    while rest >= 10 {
-        at -= 1;
-        digits[at] = 48 + (rest % 10) as u8;
-        rest /= 10;
-    }
-    at -= 1;
-    digits[at] = 48 + rest as u8;
-    put(line, &digits[at..]);
+    put(line, Buffer::new().format(n).as_bytes());
 }
 
 /// Appends a signed number in decimal digits, with a minus sign before it where it is negative.
@@ -46,10 +37,7 @@ pub fn put_signed(line: &mut LineBuf, n: i64)
     ensures items { line.new.items ≡ line.old.items ++ signed_decimal n }
     ensures len { array_vec_len line.new ≤ array_vec_len line.old + 21 }
 {
-    if n < 0 {
-        put(line, b"-");
-    }
-    put_decimal(line, n.unsigned_abs());
+    put(line, Buffer::new().format(n).as_bytes());
 }
 
 /// Appends 1 for what holds and 0 for what doesn't.

@@ -2,13 +2,15 @@
 
 ghost use Rattle.std.specs.Prelude.{◌≡◌, ℕ, List, ◌∷◌, ◌++◌, Contains, IfSome, IfNone};
 
+use memchr::memchr;
+
 /// What stands before the first `end`, and what stands after it.
 pub(crate) fn cut_at(bytes: &[u8], end: u8) -> Option<(&[u8], &[u8])>
     ensures some { IfSome result (λ cut. (bytes.now ≡ cut.0.now ++ end ∷ cut.1.now)
         × (Contains cut.0.now end → ⊥)) }
     ensures none { IfNone result (Contains bytes.now end → ⊥) }
 {
-    let Some(at) = bytes.iter().position(|b| *b == end) else {
+    let Some(at) = memchr(end, bytes) else {
         return None;
     };
     Some((&bytes[..at], &bytes[at + 1..]))

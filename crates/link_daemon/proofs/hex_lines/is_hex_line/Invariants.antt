@@ -1,8 +1,6 @@
--- The characters so far are hex digits.
-use Rattle.std.proofs.Common.{take}
-use Rattle.std.specs.List.{AllPass}
-use Rattle.hex.specs.Hex.{is_hex_digit}
+-- The characters so far are looked at.
+use Rattle.link_daemon.proofs.HexLineLemmas.{HasSeen}
 use Rattle.link_daemon.proofs.hex_lines.is_hex_line.Given as goal
 
 abbrev pub invariant-loop-character : goal.invariant-loop-character
-invariant-loop-character l = AllPass is_hex_digit (take l.character-index l.line)
+invariant-loop-character l = HasSeen l.line l.character-index l.all_digits
