@@ -5,8 +5,6 @@
 
 mod cell;
 mod seq_state;
-#[cfg(test)]
-mod tests;
 
 pub use cell::{Read, StateCell};
 pub use seq_state::{SeqNote, SeqReader, SeqState, SeqWriter};

@@ -1,25 +1,25 @@
 //! Scripts worked out by hand from the rules: what a node tells and sends, event by event.
 
-ghost use Rattle.std.specs.Prelude.{◌≡◌, ◌≤◌, ◌<◌, length, IfOk};
+ghost use Rattle.std.specs.Prelude.{◌≡◌, ◌≤◌, length};
 ghost use Rattle.link_payload.specs.Entries.{AreBytes};
 ghost use Rattle.link_node.specs.Config.{config_value, IsConfig};
-ghost use Rattle.link_node.specs.Standing.{gates_of};
 
 mod broadcasts;
 mod commits;
 mod due;
 mod founding;
 mod measuring;
+mod script;
+mod stage;
 mod states;
 mod taking;
 mod ticks;
 
-use crate::{Change, Config, Event, GateSetup, Node, Sends};
+use crate::{Config, GateSetup};
 use arrayvec::ArrayVec;
-use asdp_messages::{write_alive, write_bye};
-use link_payload::PeerFields;
-use lk_base::{Endpoint, Gate, NodeId, SessionStart, Timeline, Wire, append};
-use std::alloc::{AllocError, Global};
+use asdp_messages::write_ping_message;
+use link_payload::{PeerFields, PingFields, write_ping};
+use lk_base::{Endpoint, NodeId, SessionStart, Timeline, Wire, append};
 
 // The host time at which each node opens.
 const OPENING: i64 = 1_000_000;
@@ -35,6 +35,20 @@ const STILL: SessionStart = SessionStart {
     playing: false,
     beats: 0,
     stamp: 0,
+};
+
+// The first session's timeline, as it is opened.
+const FIRST: Timeline = Timeline {
+    mpb: 500_000,
+    beat: 0,
+    time: 0,
+};
+
+// One of 100 beats a minute, with a greater beat origin.
+const SLOWER: Timeline = Timeline {
+    mpb: 600_000,
+    beat: 1_000_000,
+    time: 0,
 };
 
 fn endpoint(port: u16) -> Endpoint {
@@ -60,7 +74,7 @@ fn gate_of(gate: u16, destinations: u16) -> GateSetup {
     }
 }
 
-fn config(gates: u16, destinations: u16) -> Config
+fn config(gates: u16, destinations: u16, sync: bool) -> Config
     requires { (1 ≤ gates) × (gates ≤ 4) }
     ensures config { IsConfig (config_value result) }
     ensures gates { length result.gates.items ≡ gates }
@@ -73,34 +87,9 @@ fn config(gates: u16, destinations: u16) -> Config
         id: OWN,
         seed: 1,
         mpb: 500_000,
-        sync: true,
+        sync,
         gates: setups,
     }
-}
-
-fn opened(alloc: Global, gates: u16, destinations: u16) -> Result<Node, AllocError>
-    requires { (1 ≤ gates) × (gates ≤ 4) }
-    ensures { IfOk result (λ node. gates_of node ≡ gates) }
-{
-    Node::new(alloc, &config(gates, destinations), OPENING)
-}
-
-// A tick, so many microseconds after the opening.
-fn pass(node: &mut Node, sends: &mut Sends, after: u32) -> Change
-    ensures { gates_of node.new ≡ gates_of node.old }
-{
-    sends.clear();
-    let now = OPENING + i64::from(after);
-    node.step(&Event::Tick { now }, sends)
-}
-
-// The end.
-fn leave(node: &mut Node, sends: &mut Sends, after: u32) -> Change
-    ensures { gates_of node.new ≡ gates_of node.old }
-{
-    sends.clear();
-    let now = OPENING + i64::from(after);
-    node.step(&Event::End { now }, sends)
 }
 
 // The same bytes.
@@ -114,67 +103,65 @@ fn wire_of(bytes: &[u8]) -> Wire
     wire
 }
 
-// A datagram from the port 9 on a gate.
-fn hear(node: &mut Node, sends: &mut Sends, gate: u8, bytes: Wire, after: u32) -> Change
-    requires { gate < gates_of node.old }
-    ensures { gates_of node.new ≡ gates_of node.old }
-{
-    sends.clear();
-    let now = OPENING + i64::from(after);
-    let event = Event::Rx {
-        gate: Gate(gate),
-        from: endpoint(9),
-        bytes: wire_of(&bytes),
-        now,
-    };
-    node.step(&event, sends)
-}
-
-// An alive of a peer that is in this session with this timeline, and answers pings at the port 99.
-fn alive(from: NodeId, session: NodeId, timeline: Timeline) -> Wire {
-    let fields = PeerFields {
+// What a peer in a session tells that answers pings at this port.
+fn fields(session: NodeId, timeline: Timeline, start: SessionStart, port: u16) -> PeerFields {
+    PeerFields {
         timeline,
         session,
-        start: STILL,
-        endpoint: Some(endpoint(99)),
-    };
-    write_alive(from, 0, &fields)
-}
-
-fn bye(from: NodeId) -> Wire {
-    write_bye(from, 0)
-}
-
-// The first session's timeline, as it is opened.
-fn first_timeline() -> Timeline {
-    Timeline {
-        mpb: 500_000,
-        beat: 0,
-        time: 0,
+        start,
+        endpoint: Some(endpoint(port)),
     }
 }
 
-// One of 100 beats a minute, with a greater beat origin.
-fn slower_timeline() -> Timeline {
-    Timeline {
-        mpb: 600_000,
-        beat: 1_000_000,
-        time: 0,
-    }
+// What the node tells on a gate.
+fn told(gate: u8, session: NodeId, timeline: Timeline, start: SessionStart) -> PeerFields {
+    fields(session, timeline, start, port_of(u16::from(gate)))
 }
 
-// Whether the datagram of this place goes from this gate to this port, with these bytes.
-fn is_sent(sends: &Sends, place: usize, gate: u8, port: u16, bytes: &Wire) -> bool {
-    match sends.list().get(place) {
-        Some(sending) => {
-            sending.gate == Gate(gate)
-                && sending.to == endpoint(port)
-                && sending.bytes.as_slice() == bytes.as_slice()
-        }
-        None => false,
-    }
+// A ping of a host time, and of the ghost time of the pong before it.
+fn ping(after: u32, previous: Option<i64>) -> Wire {
+    write_ping_message(&PingFields {
+        host: OPENING + i64::from(after),
+        previous,
+    })
 }
 
-fn sent(sends: &Sends) -> usize {
-    sends.list().len()
+// What such a ping carries.
+fn payload(after: u32, previous: Option<i64>) -> Wire {
+    let mut payload = Wire::new();
+    write_ping(
+        &mut payload,
+        &PingFields {
+            host: OPENING + i64::from(after),
+            previous,
+        },
+    );
+    payload
+}
+
+// The id of a number.
+fn numbered(number: u8) -> NodeId {
+    NodeId([b'N', 0, 0, 0, 0, 0, 0, number])
+}
+
+// So many bytes, all the same.
+fn bytes_of(count: u8) -> Wire {
+    let mut bytes = Wire::new();
+    for _ in 0..count {
+        let _room = bytes.try_push(b'x');
+    }
+    bytes
+}
+
+// A ping with this payload.
+fn ping_of(payload: &Wire) -> Wire {
+    let whole = ping(0, None);
+    let mut bytes = Wire::new();
+    for byte in whole.as_slice().iter().take(9) {
+        let _room = bytes.try_push(*byte);
+    }
+    for byte in payload.as_slice() {
+        let _room = bytes.try_push(*byte);
+    }
+    bytes
 }

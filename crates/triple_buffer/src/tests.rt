@@ -6,12 +6,23 @@ ghost use Rattle.triple_buffer.specs.Views.{writer_in};
 use super::*;
 use audio_handoff::{Read, SeqState, StateCell};
 use std::alloc::{AllocError, Global};
+use std::fmt::Debug;
 use std::process::Abort;
 use std::sync::Wait;
 use std::sync::atomic::{AtomicU64, Ordering};
 use std::test::*;
 use std::thread;
 use std::thread::{Threads, yield_now};
+
+/// Fails, telling both, where the two are not the same.
+fn expect<T: PartialEq + Debug>(rt: &impl Abort, found: &T, wanted: &T) {
+    assert_eq!(rt; *found, *wanted);
+}
+
+/// The same, telling the case too.
+fn expect_in<C: Debug, T: PartialEq + Debug>(rt: &impl Abort, case: &C, found: &T, wanted: &T) {
+    assert_eq!(rt; *found, *wanted, "{case:?}");
+}
 
 /// The row of that number. The opening row is that of number 0.
 fn row_of(number: u64) -> [u64; 9]
@@ -31,7 +42,7 @@ fn row_of(number: u64) -> [u64; 9]
     ]
 }
 
-/// A cell with its tokens, at most one note, and how many rows were made.
+/// A cell with its tokens, at most one note, how many rows were made, what was read last, and whether memory was refused.
 #[derive(Drop)]
 struct Bench<C: StateCell<9>> {
     cell: C,
@@ -40,6 +51,7 @@ struct Bench<C: StateCell<9>> {
     note: Option<C::Note>,
     made: u64,
     answer: Read<9>,
+    failed: bool,
     ghost writer_is: { (C.writing writer).cell ≡ C.cell cell },
     ghost reader_is: { (C.reading reader).cell ≡ C.cell cell },
     ghost note_is: { ForSome note (λ n. (C.noting n).cell ≡ C.cell cell) },
@@ -49,38 +61,38 @@ struct Bench<C: StateCell<9>> {
 #[test]
 fn a_second_read_answers_the_same_row_until_a_row_is_made(rt: HostRuntime) -> Result<(), Fail> {
     let (cell, mut writer, mut reader) = Triple::<1>::make(rt.alloc(), &(), &[9])?;
-    assert_eq!(rt;
-        cell.read(&(), &mut reader),
-        Read {
-            number: 0,
-            row: [9]
-        }
-    );
-    assert_eq!(rt;
-        cell.read(&(), &mut reader),
-        Read {
-            number: 0,
-            row: [9]
-        }
-    );
-    assert_eq!(rt; cell.publish(&(), &mut writer, &[4]), 1);
-    assert_eq!(rt; cell.publish(&(), &mut writer, &[5]), 2);
-    assert_eq!(rt; cell.last_read(&reader), 0);
-    assert_eq!(rt;
-        cell.read(&(), &mut reader),
-        Read {
-            number: 2,
-            row: [5]
-        }
-    );
-    assert_eq!(rt; cell.last_read(&reader), 2);
-    assert!(rt; !cell.is_spent(&writer));
+    let opening = Read {
+        number: 0,
+        row: [9],
+    };
+    let second = Read {
+        number: 2,
+        row: [5],
+    };
+    expect(&rt, &cell.read(&(), &mut reader), &opening);
+    expect(&rt, &cell.read(&(), &mut reader), &opening);
+    expect(&rt, &cell.publish(&(), &mut writer, &[4]), &1);
+    expect(&rt, &cell.publish(&(), &mut writer, &[5]), &2);
+    expect(&rt, &cell.last_read(&reader), &0);
+    expect(&rt, &cell.read(&(), &mut reader), &second);
+    expect(&rt, &cell.last_read(&reader), &2);
+    expect(&rt, &cell.is_spent(&writer), &false);
     Ok(())
 }
 
+/// What a read of the row of that number answers.
+fn read_of(number: u64) -> Read<9>
+    requires { number < 1000 }
+{
+    Read {
+        number,
+        row: row_of(number),
+    }
+}
+
 impl<C: StateCell<9>> Bench<C> {
-    fn open(alloc: Global, way: &C::Way) -> Result<Bench<C>, AllocError> {
-        let (cell, writer, reader) = C::make(alloc, way, &row_of(0))?;
+    fn open(alloc: Global, way: &C::Way, row: &[u64; 9]) -> Result<Bench<C>, AllocError> {
+        let (cell, writer, reader) = C::make(alloc, way, row)?;
         Ok(Bench {
             cell,
             writer,
@@ -89,13 +101,65 @@ impl<C: StateCell<9>> Bench<C> {
             made: 1,
             answer: Read {
                 number: 0,
-                row: row_of(0),
+                row: *row,
             },
+            failed: false,
         })
     }
 
-    /// p: publish. r: read. w, n: a note of the writer or the reader. c: tell a copy of the note. t: tell the note.
-    fn take_step(&mut self, alloc: Global, way: &C::Way, step: u8) -> Result<(), AllocError> {
+    /// Makes the row, and answers its number. The thousandth is not made.
+    fn publish(&mut self, way: &C::Way, row: &[u64; 9]) -> u64 {
+        let Bench {
+            cell,
+            writer,
+            made,
+            ..
+        } = self;
+        if *made >= 1000 {
+            return 0;
+        }
+        *made += 1;
+        cell.publish(way, writer, row)
+    }
+
+    /// w, n: a note of the writer or the reader. c: tell a copy of the note. o: tell a note of the reader beside it.
+    fn take_note_step(&mut self, alloc: Global, way: &C::Way, step: u8) {
+        let Bench {
+            cell,
+            writer,
+            reader,
+            note,
+            failed,
+            ..
+        } = self;
+        match step {
+            b'w' => {
+                *note = cell.note_of_writer(alloc, way, writer).ok();
+                *failed = *failed || note.is_none();
+            }
+            b'n' => {
+                *note = cell.note_of_reader(alloc, way, reader).ok();
+                *failed = *failed || note.is_none();
+            }
+            b'o' => match cell.note_of_reader(alloc, way, reader) {
+                Ok(own) => cell.tell(way, reader, own),
+                Err(_) => *failed = true,
+            },
+            b'c' => {
+                if let Some(first) = note {
+                    match cell.copy_note(alloc, way, first) {
+                        Ok(copy) => cell.tell(way, reader, copy),
+                        Err(_) => *failed = true,
+                    }
+                }
+            }
+            _ => {}
+        }
+    }
+
+    /// p: publish. r: read. t: tell the note. Others: those above.
+    fn take_step(&mut self, alloc: Global, way: &C::Way, step: u8) {
+        self.take_note_step(alloc, way, step);
         let Bench {
             cell,
             writer,
@@ -103,6 +167,7 @@ impl<C: StateCell<9>> Bench<C> {
             note,
             made,
             answer,
+            ..
         } = self;
         match step {
             b'p' if *made < 1000 => {
@@ -110,14 +175,6 @@ impl<C: StateCell<9>> Bench<C> {
                 *made += 1;
             }
             b'r' => *answer = cell.read(way, reader),
-            b'w' => *note = Some(cell.note_of_writer(alloc, way, writer)?),
-            b'n' => *note = Some(cell.note_of_reader(alloc, way, reader)?),
-            b'c' => {
-                if let Some(first) = note {
-                    let copy = cell.copy_note(alloc, way, first)?;
-                    cell.tell(way, reader, copy);
-                }
-            }
             b't' => {
                 if let Some(last) = note.take() {
                     cell.tell(way, reader, last);
@@ -125,8 +182,76 @@ impl<C: StateCell<9>> Bench<C> {
             }
             _ => {}
         }
-        Ok(())
     }
+
+    /// Takes the steps, and answers the last row read.
+    fn read_after(&mut self, alloc: Global, way: &C::Way, steps: &str) -> Read<9> {
+        for step in steps.bytes() {
+            self.take_step(alloc, way, step);
+        }
+        self.answer
+    }
+
+    /// Whether no number is left, and the number last read.
+    fn told(&self) -> (bool, u64) {
+        (
+            self.cell.is_spent(&self.writer),
+            self.cell.last_read(&self.reader),
+        )
+    }
+
+    /// Settles, and answers the last row.
+    fn settle(self, way: &C::Way) -> Read<9> {
+        let Bench {
+            cell,
+            writer,
+            reader,
+            ..
+        } = self;
+        cell.settle(way, writer, reader)
+    }
+}
+
+/// The opening row of the cell below.
+const OPENING: [u64; 9] = [40, 41, 42, 43, 44, 45, 46, 47, 48];
+
+/// A read of a row whose words are all the same.
+fn same_words(number: u64, word: u64) -> Read<9> {
+    Read {
+        number,
+        row: [word; 9],
+    }
+}
+
+/// The steps of the test below, over any cell.
+fn expect_rows<C: StateCell<9>>(
+    rt: &impl Abort,
+    alloc: Global,
+    way: &C::Way,
+) -> Result<(), AllocError> {
+    let mut bench = Bench::<C>::open(alloc, way, &OPENING)?;
+    let opening = Read {
+        number: 0,
+        row: OPENING,
+    };
+    expect(rt, &bench.told().1, &0);
+    expect(rt, &bench.read_after(alloc, way, "r"), &opening);
+    expect(rt, &bench.publish(way, &[1; 9]), &1);
+    expect(rt, &bench.read_after(alloc, way, "wtr"), &same_words(1, 1));
+    expect(rt, &bench.publish(way, &[2; 9]), &2);
+    expect(rt, &bench.publish(way, &[3; 9]), &3);
+    expect(rt, &bench.read_after(alloc, way, "wcr"), &same_words(3, 3));
+    bench.read_after(alloc, way, "ot");
+    expect(rt, &bench.told(), &(false, 3));
+    expect(rt, &bench.failed, &false);
+    expect(rt, &bench.settle(way), &same_words(3, 3));
+    Ok(())
+}
+
+#[test]
+fn a_read_answers_the_opening_row_and_then_each_row_told(rt: HostRuntime) -> Result<(), Fail> {
+    expect_rows::<SeqState<HostRuntime, 9>>(&rt, rt.alloc(), &rt)?;
+    Ok(())
 }
 
 /// Takes the steps of a case, and settles. A digit is the number that the read before it answers.
@@ -139,97 +264,44 @@ fn run_case<C: StateCell<9>>(
 ) -> Result<(), AllocError>
     requires { last < 1000 }
 {
-    let mut bench = Bench::<C>::open(alloc, way)?;
+    let mut bench = Bench::<C>::open(alloc, way, &row_of(0))?;
     for step in case.bytes() {
         if step >= b'0' && step <= b'9' {
-            let number = u64::from(step - b'0');
-            assert_eq!(rt;
-                bench.answer,
-                Read {
-                    number,
-                    row: row_of(number)
-                },
-                "in {case}"
-            );
+            let wanted = read_of(u64::from(step - b'0'));
+            expect_in(rt, &case, &bench.answer, &wanted);
         } else {
-            bench.take_step(alloc, way, step)?;
+            bench.take_step(alloc, way, step);
         }
     }
-    let Bench {
-        cell,
-        writer,
-        reader,
-        note: _,
-        made: _,
-        answer: _,
-    } = bench;
-    let settled = cell.settle(way, writer, reader);
-    assert_eq!(rt;
-        settled,
-        Read {
-            number: last,
-            row: row_of(last)
-        },
-        "at the end of {case}"
-    );
+    expect_in(rt, &case, &bench.failed, &false);
+    expect_in(rt, &case, &bench.settle(way), &read_of(last));
     Ok(())
 }
 
-/// Steps of one thread. The number of a row is that of the rows made before it, so a read answers how often p stands
-/// before it.
-const CASES: [(&str, u64); 43] = [
-    ("r0pwtr1ppwctr3ntr3", 3),
-    ("", 0),
-    ("p", 1),
-    ("pp", 2),
-    ("ppppp", 5),
-    ("r0", 0),
-    ("r0r0", 0),
-    ("r0p", 1),
-    ("pr1", 1),
-    ("pr1r1", 1),
-    ("pr1p", 2),
-    ("ppr2", 2),
-    ("ppr2r2r2", 2),
-    ("r0pr1", 1),
-    ("r0pr1pr2", 2),
-    ("r0pr1pr2pr3", 3),
-    ("r0ppr2", 2),
-    ("r0pppr3ppr5", 5),
-    ("pppppppppr9", 9),
-    ("wt", 0),
-    ("wtr0", 0),
-    ("ntr0", 0),
-    ("pwtr1", 1),
-    ("pwpr2t", 2),
-    ("pwprtr2", 2),
-    ("ppwtr2", 2),
-    ("pwppctr3", 3),
-    ("pwcr1tr1", 1),
-    ("wpctr1", 1),
-    ("ncr0tr0", 0),
-    ("pr1ntr1", 1),
-    ("pr1npctr2", 2),
-    ("pr1npr2ctr2", 2),
-    ("pr1nppwtr3", 3),
-    ("wwwtr0", 0),
-    ("pwcccctr1", 1),
-    ("t", 0),
-    ("cr0", 0),
-    ("ttpr1", 1),
-    ("pr1wppr3tr3p", 4),
-    ("r0nppr2t", 2),
-    ("ppwr2ctppr4", 4),
-    ("prpnrpwctrpr4", 4),
-];
+/// Steps of one thread, and behind the sign the number of the row that it ends with. The number of a row is that of the rows
+/// made before it, so a read answers how often p stands before it.
+const CASES: &str = "\
+    r0pwtr1ppwctr3ntr3=3 =0 p=1 pp=2 ppppp=5 r0=0 r0r0=0 r0p=1 pr1=1 pr1r1=1 pr1p=2 ppr2=2 ppr2r2r2=2 \
+    r0pr1=1 r0pr1pr2=2 r0pr1pr2pr3=3 r0ppr2=2 r0pppr3ppr5=5 pppppppppr9=9 wt=0 wtr0=0 ntr0=0 pwtr1=1 \
+    pwpr2t=2 pwprtr2=2 ppwtr2=2 pwppctr3=3 pwcr1tr1=1 wpctr1=1 ncr0tr0=0 pr1ntr1=1 pr1npctr2=2 \
+    pr1npr2ctr2=2 pr1nppwtr3=3 wwwtr0=0 pwcccctr1=1 t=0 cr0=0 ttpr1=1 pr1wppr3tr3p=4 r0nppr2t=2 \
+    ppwr2ctppr4=4 prpnrpwctrpr4=4 \
+";
+
+/// Runs a case over either cell.
+fn expect_case<R: Wait + Abort>(rt: &R, alloc: Global, case: &str) -> Result<(), AllocError> {
+    let (steps, last) = case.split_once('=').unwrap_or((case, ""));
+    let last = last.parse::<u64>().unwrap_or(1000);
+    assert!(rt; last < 1000);
+    run_case::<Triple<9>>(rt, alloc, &(), steps, last)?;
+    run_case::<SeqState<R, 9>>(rt, alloc, rt, steps, last)
+}
 
 #[test]
 fn either_cell_answers_as_the_lists_say(rt: HostRuntime) -> Result<(), Fail> {
-    for (case, last) in CASES {
-        if last < 1000 {
-            run_case::<Triple<9>>(&rt, rt.alloc(), &(), case, last)?;
-            run_case::<SeqState<HostRuntime, 9>>(&rt, rt.alloc(), &rt, case, last)?;
-        }
+    expect(&rt, &CASES.split_whitespace().count(), &43);
+    for case in CASES.split_whitespace() {
+        expect_case(&rt, rt.alloc(), case)?;
     }
     Ok(())
 }
@@ -397,8 +469,8 @@ fn check_found<const W: usize>(rt: &impl Abort, last: Read<W>, found: Found)
     requires { W < 16 }
 {
     let row = [ROWS; W];
-    assert_eq!(rt; last, Read { number: ROWS, row }, "of rows of {W} words");
-    assert!(rt; found.whole, "of rows of {W} words");
+    expect_in(rt, &W, &last, &Read { number: ROWS, row });
+    expect_in(rt, &W, &found.whole, &true);
     let numbers = found.numbers;
     assert!(rt; numbers > 2, "{numbers} numbers of rows of {W} words");
 }

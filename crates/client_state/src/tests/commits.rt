@@ -1,8 +1,53 @@
 //! What a commit carries, and what is shown.
 
-use super::{start, state, timeline};
+use super::{expect, start, state, timeline};
 use crate::{Commit, Own, State, shown};
-use lk_base::LIMIT;
+use lk_base::{ClientStart, LIMIT, Timeline};
+use std::process::Abort;
+
+// A state of this timeline and start.
+fn state_of((timeline, start): (Timeline, ClientStart)) -> State {
+    State {
+        start,
+        ..state(timeline, 1)
+    }
+}
+
+// What a commit at 100 carries, of the state captured, the state shown and the state edited.
+fn expect_carried(
+    rt: &impl Abort,
+    old: (Timeline, ClientStart),
+    seen: (Timeline, ClientStart),
+    new: (Timeline, ClientStart),
+    (timeline, start): (Option<Timeline>, Option<ClientStart>),
+) {
+    let commit = Commit::between(&state_of(old), &state_of(seen), &state_of(new), 100);
+    let wanted = Commit {
+        timeline,
+        start,
+        at: 100,
+    };
+    expect(rt, &new, &commit, &wanted);
+}
+
+// What is shown of a state with the last commit of this number laid over it.
+fn expect_shown(
+    rt: &impl Abort,
+    old: &State,
+    (number, taken): (u64, u64),
+    (timeline, start): (Option<Timeline>, Option<ClientStart>),
+    wanted: State,
+) {
+    let last = Commit {
+        timeline,
+        start,
+        at: 9,
+    };
+    let own = Own {
+        last: Some((number, last)),
+    };
+    expect(rt, &(number, taken), &shown(&own, taken, old), &wanted);
+}
 
 #[test]
 fn a_commit_carries_what_differs_from_the_captured_or_the_shown_state(rt: HostRuntime) {
@@ -49,27 +94,7 @@ fn a_commit_carries_what_differs_from_the_captured_or_the_shown_state(rt: HostRu
             Some(start(true, 8, 100)),
         ),
     ] {
-        let commit = Commit::between(
-            &State {
-                start: was,
-                ..state(old, 1)
-            },
-            &State {
-                start: showed,
-                ..state(seen, 1)
-            },
-            &State {
-                start: is,
-                ..state(new, 1)
-            },
-            100,
-        );
-        let want = Commit {
-            timeline: sent,
-            start: starts,
-            at: 100,
-        };
-        assert_eq!(rt; commit, want);
+        expect_carried(&rt, (old, was), (seen, showed), (new, is), (sent, starts));
     }
 }
 
@@ -78,64 +103,31 @@ fn an_own_commit_shows_until_it_is_taken(rt: HostRuntime) {
     let old = state(timeline(500_000, 0, 0), 1);
     let new = timeline(250_000, 3, 4);
     let playing = start(false, 1, 2);
+    let moved = State {
+        timeline: new,
+        ..old
+    };
+    let begun = State {
+        start: playing,
+        ..old
+    };
+    let both = State {
+        start: playing,
+        ..moved
+    };
     for (number, taken, tl, begins, want) in [
-        (
-            1,
-            0,
-            Some(new),
-            None,
-            State {
-                timeline: new,
-                ..old
-            },
-        ),
-        (
-            1,
-            0,
-            None,
-            Some(playing),
-            State {
-                start: playing,
-                ..old
-            },
-        ),
-        (
-            2,
-            1,
-            Some(new),
-            Some(playing),
-            State {
-                timeline: new,
-                start: playing,
-                ..old
-            },
-        ),
+        (1, 0, Some(new), None, moved),
+        (1, 0, None, Some(playing), begun),
+        (2, 1, Some(new), Some(playing), both),
         (2, 0, None, None, old),
         (1, 1, Some(new), Some(playing), old),
         (1, 2, Some(new), Some(playing), old),
-        (
-            u64::MAX,
-            u64::MAX - 1,
-            Some(new),
-            None,
-            State {
-                timeline: new,
-                ..old
-            },
-        ),
+        (u64::MAX, u64::MAX - 1, Some(new), None, moved),
         (u64::MAX, u64::MAX, Some(new), None, old),
     ] {
-        let last = Commit {
-            timeline: tl,
-            start: begins,
-            at: 9,
-        };
-        let own = Own {
-            last: Some((number, last)),
-        };
-        assert_eq!(rt; shown(&own, taken, &old), want, "{number} after {taken}");
+        expect_shown(&rt, &old, (number, taken), (tl, begins), want);
     }
-    assert_eq!(rt; shown(&Own { last: None }, 0, &old), old);
+    expect(&rt, &0, &shown(&Own { last: None }, 0, &old), &old);
 }
 
 #[test]
@@ -161,6 +153,6 @@ fn a_commit_is_tidy_where_each_of_its_numbers_is_in_range(rt: HostRuntime) {
             start: begins,
             at,
         };
-        assert_eq!(rt; commit.is_tidy(), tidy, "{commit:?}");
+        expect(&rt, &commit, &commit.is_tidy(), &tidy);
     }
 }

@@ -4,7 +4,7 @@ ghost use Rattle.std.specs.Prelude.{◌≡◌, ◌≤◌, ◌^◌, pos, ◌≤�
 ghost use Rattle.lk_base.specs.Ranges.{IsQuantum, IsWithin, IsWithinLimit};
 ghost use Rattle.lk_base.specs.Timeline.{IsTidy};
 
-use super::{start, timeline};
+use super::{expect, start, timeline};
 use crate::{Commit, Own, State, client_from_session, session_from_client, shown};
 use ghost_xform::XForm;
 use lk_base::{Timeline, clip};
@@ -64,10 +64,10 @@ fn tidy_state(seed: &mut u64) -> State
 
 fn expect_rows(rt: &impl Abort, seed: &mut u64) {
     let state = State::from_row(&words(seed));
-    assert_eq!(rt; State::from_row(&state.row()), state);
+    expect(rt, &"state", &State::from_row(&state.row()), &state);
     let commit = Commit::from_row(&words(seed));
-    assert!(rt; commit.is_tidy());
-    assert_eq!(rt; Commit::from_row(&commit.row()), commit);
+    expect(rt, &commit, &commit.is_tidy(), &true);
+    expect(rt, &"commit", &Commit::from_row(&commit.row()), &commit);
 }
 
 // How far the beat at a time is past the beat origin.
@@ -88,6 +88,26 @@ fn past(place: i64, beat: i64, quantum: i64) -> i64
     phase(place - beat, quantum)
 }
 
+// How much later the beat of the one timeline is at a time than that of the other.
+fn moved_by(from: &Timeline, to: &Timeline, at: i64) -> i64
+    requires from { IsTidy from.now }
+    requires to { IsTidy to.now }
+    requires at { IsWithinLimit at }
+{
+    beat_at(to, at) - beat_at(from, at)
+}
+
+// A tempo keeps the beat at its time, and the beat origin.
+fn expect_kept(rt: &impl Abort, old: &Timeline, new: &Timeline, at: i64)
+    requires old { IsTidy old.now }
+    requires new { IsTidy new.now }
+    requires at { IsWithinLimit at }
+{
+    let moved = moved_by(old, new, at);
+    expect(rt, &(*old, at), &(-8 <= moved && moved <= 8), &true);
+    expect(rt, &"origin", &new.beat, &old.beat);
+}
+
 // A tempo keeps the beat, and a forced beat falls on the quantum.
 fn expect_edits(rt: &impl Abort, seed: &mut u64) {
     let old = tidy_state(seed);
@@ -96,52 +116,64 @@ fn expect_edits(rt: &impl Abort, seed: &mut u64) {
     let quantum = quantum(seed);
     let mut new = old;
     new.set_tempo(number(seed), at);
-    let moved = beat_at(&new.timeline, at) - beat_at(&old.timeline, at);
-    assert!(rt; -8 <= moved && moved <= 8, "{old:?} at {at}");
-    assert_eq!(rt; new.timeline.beat, old.timeline.beat);
+    expect_kept(rt, &old.timeline, &new.timeline, at);
     new.force_beat(beat, at, quantum);
     let past = past(since(&new.timeline, at), beat, quantum);
-    assert!(rt;
-        past <= 17 || past >= quantum - 17,
-        "{beat} at {at} in {quantum}"
-    );
-    assert_eq!(rt;
-        State {
-            timeline: old.timeline,
-            ..new
-        },
-        old
-    );
+    let near = past <= 17 || past >= quantum - 17;
+    expect(rt, &(beat, at, quantum), &near, &true);
+    new.timeline = old.timeline;
+    expect(rt, &"all else", &new, &old);
+}
+
+fn coin(seed: &mut u64) -> bool {
+    word(seed) % 2 == 0
+}
+
+// The same state, or another.
+fn seen_of(seed: &mut u64, old: State) -> State
+    requires { IsTidy old.timeline }
+    ensures { IsTidy result.timeline }
+{
+    if coin(seed) { old } else { tidy_state(seed) }
+}
+
+// One of the two.
+fn one_of(seed: &mut u64, first: State, second: State) -> State
+    requires first { IsTidy first.timeline }
+    requires second { IsTidy second.timeline }
+    ensures { IsTidy result.timeline }
+{
+    if coin(seed) { first } else { second }
+}
+
+// The same with a tempo, a start, both or none set.
+fn edited(seed: &mut u64, old: State) -> State
+    requires { IsTidy old.timeline }
+{
+    let mut new = old;
+    if coin(seed) {
+        new.set_tempo(number(seed), number(seed));
+    }
+    if coin(seed) {
+        new.set_playing(coin(seed), number(seed) % 3);
+    }
+    new
 }
 
 fn expect_commit(rt: &impl Abort, seed: &mut u64) {
     let old = tidy_state(seed);
-    let seen = if word(seed) % 2 == 0 {
-        old
-    } else {
-        tidy_state(seed)
-    };
-    let mut new = if word(seed) % 2 == 0 { seen } else { old };
-    if word(seed) % 2 == 0 {
-        new.set_tempo(number(seed), number(seed));
-    }
-    if word(seed) % 2 == 0 {
-        new.set_playing(word(seed) % 2 == 0, number(seed) % 3);
-    }
+    let seen = seen_of(seed, old);
+    let captured = one_of(seed, seen, old);
+    let new = edited(seed, captured);
     let commit = Commit::between(&old, &seen, &new, number(seed));
-    assert!(rt; commit.is_tidy());
-    let shows = shown(
-        &Own {
-            last: Some((2, commit)),
-        },
-        1,
-        &old,
-    );
-    assert_eq!(rt; shows.timeline, new.timeline);
-    assert_eq!(rt;
-        (shows.start.playing, shows.start.time),
-        (new.start.playing, new.start.time)
-    );
+    expect(rt, &commit, &commit.is_tidy(), &true);
+    let own = Own {
+        last: Some((2, commit)),
+    };
+    let shows = shown(&own, 1, &old);
+    expect(rt, &"timeline", &shows.timeline, &new.timeline);
+    expect(rt, &"playing", &shows.start.playing, &new.start.playing);
+    expect(rt, &"time", &shows.start.time, &new.start.time);
 }
 
 // What goes to the session and comes back moves no beat far, and wins where it changes something.
@@ -152,11 +184,10 @@ fn expect_return(rt: &impl Abort, seed: &mut u64) {
     let xform = XForm { offset };
     match session_from_client(&session, &client, number(seed), xform) {
         Ok(given) => {
-            assert!(rt; given.beat > session.beat);
+            expect(rt, &given, &(given.beat > session.beat), &true);
             let back = client_from_session(&client, &given, number(seed), xform);
-            let time = number(seed);
-            let moved = beat_at(&back, time) - beat_at(&client, time);
-            assert!(rt; -2 <= moved && moved <= 2, "{client:?} by {given:?}");
+            let moved = moved_by(&client, &back, number(seed));
+            expect(rt, &(client, given), &(-2 <= moved && moved <= 2), &true);
         }
         Err(_) => assert!(rt; false),
     }

@@ -1,8 +1,9 @@
 //! Rows of words, read and written.
 
-use super::{start, timeline};
+use super::{expect, start, timeline};
 use crate::{Commit, State};
-use lk_base::LIMIT;
+use lk_base::{ClientStart, LIMIT, Timeline};
+use std::process::Abort;
 
 // The words of -1, of -7, of 2^60 and of -2^60.
 const MINUS_ONE: u64 = 18_446_744_073_709_551_615;
@@ -12,6 +13,48 @@ const MINUS_SEVEN: u64 = 18_446_744_073_709_551_609;
 const TOP: u64 = 1_152_921_504_606_846_976;
 
 const BOTTOM: u64 = 17_293_822_569_102_704_640;
+
+// Reads the state of these words, and whether it gives the same words.
+fn expect_state(
+    rt: &impl Abort,
+    words: [u64; 9],
+    (timeline, start): (Timeline, ClientStart),
+    (sync, peers, moment): (bool, u32, i64),
+    stored: bool,
+) {
+    let wanted = State {
+        timeline,
+        start,
+        sync,
+        peers,
+        moment,
+        app: words[7],
+        audio: words[8],
+    };
+    let found = State::from_row(&words);
+    expect(rt, &words, &found, &wanted);
+    expect(rt, &words, &(found.row() == words), &stored);
+    expect(rt, &words, &State::from_row(&found.row()), &found);
+}
+
+// Reads the commit of these words, and whether it gives the same words.
+fn expect_commit(
+    rt: &impl Abort,
+    words: [u64; 9],
+    (timeline, start, at): (Option<Timeline>, Option<ClientStart>, i64),
+    stored: bool,
+) {
+    let wanted = Commit {
+        timeline,
+        start,
+        at,
+    };
+    let found = Commit::from_row(&words);
+    expect(rt, &words, &found, &wanted);
+    expect(rt, &words, &found.is_tidy(), &true);
+    expect(rt, &words, &(found.row() == words), &stored);
+    expect(rt, &words, &Commit::from_row(&found.row()), &found);
+}
 
 #[test]
 fn a_state_is_read_from_its_words_and_numbers_out_of_range_are_brought_in(rt: HostRuntime) {
@@ -141,19 +184,13 @@ fn a_state_is_read_from_its_words_and_numbers_out_of_range_are_brought_in(rt: Ho
     ] {
         let (mpb, beat, time) = tl;
         let (playing, from, stamp) = starts;
-        let want = State {
-            timeline: timeline(mpb, beat, time),
-            start: start(playing, from, stamp),
-            sync,
-            peers,
-            moment,
-            app: words[7],
-            audio: words[8],
-        };
-        let found = State::from_row(&words);
-        assert_eq!(rt; found, want);
-        assert_eq!(rt; found.row() == words, stored, "{words:?}");
-        assert_eq!(rt; State::from_row(&found.row()), found);
+        expect_state(
+            &rt,
+            words,
+            (timeline(mpb, beat, time), start(playing, from, stamp)),
+            (sync, peers, moment),
+            stored,
+        );
     }
 }
 
@@ -163,7 +200,7 @@ fn a_commit_is_read_from_its_words_and_what_has_no_flag_is_passed_over(rt: HostR
         ([0, 0, 0, 0, 0, 0, 9, 0, 0], None, None, 9, true),
         (
             [1, 500_000, 0, MINUS_SEVEN, 0, 0, MINUS_ONE, 0, 0],
-            Some((500_000, 0, -7)),
+            Some(timeline(500_000, 0, -7)),
             None,
             -1,
             true,
@@ -171,28 +208,28 @@ fn a_commit_is_read_from_its_words_and_what_has_no_flag_is_passed_over(rt: HostR
         (
             [2, 0, 0, 0, MINUS_ONE, 3, TOP, 0, 0],
             None,
-            Some((false, -1, 3)),
+            Some(start(false, -1, 3)),
             LIMIT,
             true,
         ),
         (
             [6, 0, 0, 0, TOP, BOTTOM, BOTTOM, 0, 0],
             None,
-            Some((true, LIMIT, -LIMIT)),
+            Some(start(true, LIMIT, -LIMIT)),
             -LIMIT,
             true,
         ),
         (
             [7, 60_060, TOP, BOTTOM, 1, 2, 3, 0, 0],
-            Some((60_060, LIMIT, -LIMIT)),
-            Some((true, 1, 2)),
+            Some(timeline(60_060, LIMIT, -LIMIT)),
+            Some(start(true, 1, 2)),
             3,
             true,
         ),
         (
             [3, 3_000_000, 1, 2, 3, 4, 5, 0, 0],
-            Some((3_000_000, 1, 2)),
-            Some((false, 3, 4)),
+            Some(timeline(3_000_000, 1, 2)),
+            Some(start(false, 3, 4)),
             5,
             true,
         ),
@@ -200,7 +237,7 @@ fn a_commit_is_read_from_its_words_and_what_has_no_flag_is_passed_over(rt: HostR
         ([8, 1, 2, 3, 4, 5, 6, 7, 8], None, None, 6, false),
         (
             [5, 1, TOP + 1, 3, 4, 5, 6, 7, 8],
-            Some((60_060, LIMIT, 3)),
+            Some(timeline(60_060, LIMIT, 3)),
             None,
             6,
             false,
@@ -217,21 +254,12 @@ fn a_commit_is_read_from_its_words_and_what_has_no_flag_is_passed_over(rt: HostR
                 7,
                 8,
             ],
-            Some((60_060, -LIMIT, -LIMIT)),
-            Some((true, -LIMIT, LIMIT)),
+            Some(timeline(60_060, -LIMIT, -LIMIT)),
+            Some(start(true, -LIMIT, LIMIT)),
             LIMIT,
             false,
         ),
     ] {
-        let want = Commit {
-            timeline: tl.map(|(mpb, beat, time)| timeline(mpb, beat, time)),
-            start: starts.map(|(playing, time, stamp)| start(playing, time, stamp)),
-            at,
-        };
-        let found = Commit::from_row(&words);
-        assert_eq!(rt; found, want);
-        assert!(rt; found.is_tidy());
-        assert_eq!(rt; found.row() == words, stored, "{words:?}");
-        assert_eq!(rt; Commit::from_row(&found.row()), found);
+        expect_commit(&rt, words, (tl, starts, at), stored);
     }
 }

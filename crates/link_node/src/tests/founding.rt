@@ -1,102 +1,84 @@
 //! A node that has lost all its peers founds a session.
 
-use super::{OTHER, OWN, PEER, alive, bye, first_timeline, hear, opened, pass, slower_timeline};
-use crate::{Change, Sends};
+use super::script::{Step, play};
+use super::{FIRST, OTHER, OWN, PEER, SLOWER, STILL};
+use crate::Change;
 use lk_base::{NodeId, Timeline};
-use std::test::Fail;
 
 // What the generator draws first from the seed 1.
-const DRAWN: [NodeId; 2] = [NodeId(*b">pz1+Yoc"), NodeId(*b"rs19+?#%")];
+pub(super) const DRAWN: NodeId = NodeId(*b">pz1+Yoc");
+
+const DRAWN_NEXT: NodeId = NodeId(*b"rs19+?#%");
+
+const FOUNDED: Timeline = Timeline {
+    mpb: 600_000,
+    beat: 4_333_333,
+    time: 0,
+};
 
 #[test]
-fn a_session_is_founded_with_the_tempo_and_the_beat_of_the_last(
-    rt: HostRuntime,
-) -> Result<(), Fail> {
-    let mut sends = Sends::new(rt.alloc())?;
-    let mut node = opened(rt.alloc(), 1, 1)?;
-    let seen = alive(PEER, OWN, slower_timeline());
-    hear(&mut node, &mut sends, 0, seen, 500_000);
-    let before = node.state().timeline;
-    // The ghost time is 2,000,000, which is 3 1/3 beats after the origin.
-    let change = hear(&mut node, &mut sends, 0, bye(PEER), 2_000_000);
-    assert_eq!(rt; change, Change::Published);
-    assert_eq!(rt; node.id(), DRAWN[0]);
-    assert_eq!(rt; node.session(), DRAWN[0]);
-    let founded = Timeline {
-        mpb: 600_000,
-        beat: 4_333_333,
-        time: 0,
-    };
-    assert_eq!(rt; node.session_timeline(), founded);
-    // The client goes on as it was.
-    assert_eq!(rt; node.state().timeline, before);
-    assert_eq!(rt; node.state().peers, 0);
-    // The peer of the old session is in another one now, and the next session has the next id.
-    let seen = alive(PEER, DRAWN[0], founded);
-    hear(&mut node, &mut sends, 0, seen, 2_600_000);
-    assert_eq!(rt; node.state().peers, 1);
-    hear(&mut node, &mut sends, 0, bye(PEER), 3_200_000);
-    assert_eq!(rt; node.id(), DRAWN[1]);
-    // The session's ghost time was 1,200,000, which is 2 beats after the origin.
-    let founded = Timeline {
-        mpb: 600_000,
-        beat: 6_333_333,
-        time: 0,
-    };
-    assert_eq!(rt; node.session_timeline(), founded);
-    Ok(())
+fn a_session_is_founded_with_the_tempo_and_the_beat_of_the_last(rt: HostRuntime) {
+    play(
+        &rt,
+        rt.alloc(),
+        &[
+            Step::Open(1, 1, true),
+            Step::HearPeer(0, PEER, OWN, SLOWER, STILL, 500_000),
+            Step::Keep,
+            // The ghost time is 2,000,000, which is 3 1/3 beats after the origin.
+            Step::HearBye(0, PEER, 2_000_000),
+            Step::Changed(Change::Published),
+            Step::HasId(DRAWN),
+            Step::IsIn(DRAWN),
+            Step::HasTimeline(600_000, 4_333_333, 0),
+            // The client goes on as it was.
+            Step::HasKept,
+            Step::HasPeers(0),
+            // The peer of the old session is in another one now, and the next session has the next id.
+            Step::HearPeer(0, PEER, DRAWN, FOUNDED, STILL, 2_600_000),
+            Step::HasPeers(1),
+            Step::HearBye(0, PEER, 3_200_000),
+            Step::HasId(DRAWN_NEXT),
+            // The session's ghost time was 1,200,000, which is 2 beats after the origin.
+            Step::HasTimeline(600_000, 6_333_333, 0),
+        ],
+    );
 }
 
 #[test]
-fn nothing_is_founded_while_a_peer_is_left(rt: HostRuntime) -> Result<(), Fail> {
-    let mut sends = Sends::new(rt.alloc())?;
-    let mut node = opened(rt.alloc(), 2, 1)?;
-    // One peer on two gates, and one in another session.
-    hear(
-        &mut node,
-        &mut sends,
-        0,
-        alive(PEER, OWN, first_timeline()),
-        10,
+fn nothing_is_founded_while_a_peer_is_left(rt: HostRuntime) {
+    play(
+        &rt,
+        rt.alloc(),
+        &[
+            Step::Open(2, 1, true),
+            // One peer on two gates, and one in another session.
+            Step::HearPeer(0, PEER, OWN, FIRST, STILL, 10),
+            Step::HearPeer(1, PEER, OWN, FIRST, STILL, 20),
+            Step::HearPeer(1, OTHER, OTHER, FIRST, STILL, 30),
+            Step::HasPeers(1),
+            Step::HearBye(0, PEER, 40),
+            Step::HasId(OWN),
+            Step::HasPeers(1),
+            Step::HearBye(1, PEER, 50),
+            Step::HasId(DRAWN),
+        ],
     );
-    hear(
-        &mut node,
-        &mut sends,
-        1,
-        alive(PEER, OWN, first_timeline()),
-        20,
-    );
-    hear(
-        &mut node,
-        &mut sends,
-        1,
-        alive(OTHER, OTHER, first_timeline()),
-        30,
-    );
-    assert_eq!(rt; node.state().peers, 1);
-    hear(&mut node, &mut sends, 0, bye(PEER), 40);
-    assert_eq!(rt; node.id(), OWN);
-    assert_eq!(rt; node.state().peers, 1);
-    hear(&mut node, &mut sends, 1, bye(PEER), 50);
-    assert_eq!(rt; node.id(), DRAWN[0]);
-    Ok(())
 }
 
 #[test]
-fn peers_are_lost_at_their_limits_too(rt: HostRuntime) -> Result<(), Fail> {
-    let mut sends = Sends::new(rt.alloc())?;
-    let mut node = opened(rt.alloc(), 1, 1)?;
-    // Seen for 5 seconds and one more.
-    hear(
-        &mut node,
-        &mut sends,
-        0,
-        alive(PEER, OWN, first_timeline()),
-        0,
+fn peers_are_lost_at_their_limits_too(rt: HostRuntime) {
+    play(
+        &rt,
+        rt.alloc(),
+        &[
+            Step::Open(1, 1, true),
+            // Seen for 5 seconds and one more.
+            Step::HearPeer(0, PEER, OWN, FIRST, STILL, 0),
+            Step::Tick(5_999_999),
+            Step::HasId(OWN),
+            Step::Tick(6_000_000),
+            Step::HasId(DRAWN),
+        ],
     );
-    pass(&mut node, &mut sends, 5_999_999);
-    assert_eq!(rt; node.id(), OWN);
-    pass(&mut node, &mut sends, 6_000_000);
-    assert_eq!(rt; node.id(), DRAWN[0]);
-    Ok(())
 }

@@ -1,9 +1,11 @@
 //! The events of a load, worked out apart from the code: the words by PCG's reference generator, the lines by the rule.
 
+use super::{expect, expect_line};
 use crate::{LineBuf, LoadEvents, write_event, write_load_line};
 use client_state::State;
-use link_node::Event;
+use link_node::{Event, GateSetup};
 use lk_base::{ClientStart, Endpoint, NodeId, Timeline};
+use std::process::Abort;
 
 /// What the node shows.
 const STATE: State = State {
@@ -176,53 +178,61 @@ fn hash_of(event: &Event) -> u32 {
     hash
 }
 
+// Fails where an event of the seed 7 is told otherwise than by a row's line: that before which there were so many.
+fn expect_events(rt: &impl Abort, rows: &[(u8, &[u8])]) {
+    for (row, (before, wanted)) in rows.iter().enumerate() {
+        let mut line = LineBuf::new();
+        write_event(&mut line, &event_after(7, *before));
+        expect_line(rt, row, &line, wanted);
+    }
+}
+
 #[test]
 fn each_kind_of_event_is_spelled(rt: HostRuntime) {
-    let cases: [(u8, &[u8]); 6] = [
-        (
-            0,
-            b"rx 1002484 0 127.0.0.1:30014 5f6c696e6b5f7601015f5f68740000000800000000000f4bf4\n",
-        ),
-        (1, b"tick 1016406\n"),
-        (
-            4,
-            b"rx 1052337 0 127.0.0.1:30007 5f617364705f7601010500005045455230303037746d6c6e0000001800000000000635d80000000\
+    expect_events(
+        &rt,
+        &[
+            (
+                0,
+                b"rx 1002484 0 127.0.0.1:30014 5f6c696e6b5f7601015f5f68740000000800000000000f4bf4\n",
+            ),
+            (1, b"tick 1016406\n"),
+            (
+                4,
+                b"rx 1052337 0 127.0.0.1:30007 5f617364705f7601010500005045455230303037746d6c6e0000001800000000000635d80000000\
 000001388000000000000000073657373000000084c4f41444e4f4445737473740000001100000000000000000000000000000000006\
 d657034000000067f0000017537\n",
-        ),
-        (
-            5,
-            b"rx 1052410 0 127.0.0.1:30009 5f617364705f7601010500005045455230303039746d6c6e000000180000000000063da80000000\
+            ),
+            (
+                5,
+                b"rx 1052410 0 127.0.0.1:30009 5f617364705f7601010500005045455230303039746d6c6e000000180000000000063da80000000\
 000001770000000000000000073657373000000085045455230303039737473740000001100000000000000000000000000000000006\
 d657034000000067f0000017539\n",
-        ),
-        (
-            13,
-            b"rx 1116864 0 127.0.0.1:30008 5f617364705f7601030000005045455230303038\n",
-        ),
-        (14, b"app 1122621 1122621 t 392500 -1234567 1013647\n"),
-    ];
-    for (before, wanted) in cases {
-        let mut line = LineBuf::new();
-        write_event(&mut line, &event_after(7, before));
-        assert_eq!(rt; line.as_slice(), wanted);
+            ),
+            (
+                13,
+                b"rx 1116864 0 127.0.0.1:30008 5f617364705f7601030000005045455230303038\n",
+            ),
+            (14, b"app 1122621 1122621 t 392500 -1234567 1013647\n"),
+        ],
+    );
+}
+
+// Fails where the first events of a seed are others than those of these hashes.
+fn expect_hashes(rt: &impl Abort, seed: u64, hashes: &[u32]) {
+    let mut before = 0u8;
+    for hash in hashes {
+        let found = hash_of(&event_after(seed, before));
+        expect(rt, usize::from(before), &found, hash);
+        before = before.wrapping_add(1);
     }
 }
 
 #[test]
 fn a_seed_gives_its_events(rt: HostRuntime) {
-    for (seed, wanted) in [
-        (0, FROM_0),
-        (7, FROM_7),
-        (18_446_744_073_709_551_615, FROM_GREATEST),
-    ] {
-        for before in 0..40u8 {
-            assert_eq!(rt;
-                hash_of(&event_after(seed, before)),
-                wanted[usize::from(before)]
-            );
-        }
-    }
+    expect_hashes(&rt, 0, &FROM_0);
+    expect_hashes(&rt, 7, &FROM_7);
+    expect_hashes(&rt, 18_446_744_073_709_551_615, &FROM_GREATEST);
 }
 
 // 127.0.0.1 and a port.
@@ -233,36 +243,46 @@ fn local(port: u16) -> Endpoint {
     }
 }
 
+// Fails where a gate has another endpoint or another destination than these ports.
+fn expect_gate(rt: &impl Abort, gate: &GateSetup, own: u16, destination: u16) {
+    expect(rt, 0, &gate.local, &local(own));
+    expect(rt, 1, &gate.peers.first(), &Some(&local(destination)));
+    expect(rt, 2, &gate.peers.len(), &1);
+}
+
 #[test]
 fn a_load_has_one_node_of_one_gate(rt: HostRuntime) {
     let config = LoadEvents::new(7).config();
-    assert_eq!(rt; config.id, NodeId(*b"LOADNODE"));
-    assert_eq!(rt; config.seed, 7);
-    assert_eq!(rt; config.mpb, 500_000);
-    assert!(rt; config.sync);
-    assert_eq!(rt; config.gates.len(), 1);
+    let node = (config.id, config.seed, config.mpb, config.sync);
+    expect(&rt, 3, &node, &(NodeId(*b"LOADNODE"), 7, 500_000, true));
+    expect(&rt, 4, &config.gates.len(), &1);
     for gate in config.gates.as_slice() {
-        assert_eq!(rt; gate.local, local(20_808));
-        assert_eq!(rt; gate.peers.as_slice(), [local(20_809)].as_slice());
+        expect_gate(&rt, gate, 20_808, 20_809);
+    }
+}
+
+// Fails where a line of a load is told otherwise than a row's.
+fn expect_loads(rt: &impl Abort, rows: &[(u64, u64, u64, &[u8])]) {
+    for (row, (events, states, sends, wanted)) in rows.iter().enumerate() {
+        let mut line = LineBuf::new();
+        write_load_line(&mut line, *events, *states, *sends);
+        expect_line(rt, row, &line, wanted);
     }
 }
 
 #[test]
 fn a_load_is_told_by_its_events_states_and_sendings(rt: HostRuntime) {
-    let most = 18_446_744_073_709_551_615;
-    let cases: [(u64, u64, u64, &[u8]); 3] = [
-        (0, 1, 0, b"load 0 1 0\n"),
-        (500_000, 62_501, 1_400_000, b"load 500000 62501 1400000\n"),
-        (
-            most,
-            most,
-            most,
-            b"load 18446744073709551615 18446744073709551615 18446744073709551615\n",
-        ),
-    ];
-    for (events, states, sends, wanted) in cases {
-        let mut line = LineBuf::new();
-        write_load_line(&mut line, events, states, sends);
-        assert_eq!(rt; line.as_slice(), wanted);
-    }
+    expect_loads(
+        &rt,
+        &[
+            (0, 1, 0, b"load 0 1 0\n"),
+            (500_000, 62_501, 1_400_000, b"load 500000 62501 1400000\n"),
+            (
+                18_446_744_073_709_551_615,
+                18_446_744_073_709_551_615,
+                18_446_744_073_709_551_615,
+                b"load 18446744073709551615 18446744073709551615 18446744073709551615\n",
+            ),
+        ],
+    );
 }

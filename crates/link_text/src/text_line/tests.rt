@@ -1,18 +1,21 @@
 use super::*;
+use crate::tests::expect;
+use std::process::Abort;
+
+// Fails where a text has another line at a place, or another place behind it.
+fn expect_line(rt: &impl Abort, text: &[u8], at: usize, line: &[u8], next: usize) {
+    if at < text.len() {
+        expect(rt, at, &line_at(text, at), &(line, next));
+    } else {
+        expect(rt, at, &text.len(), &next);
+    }
+}
 
 #[test]
 fn lines_may_be_empty_and_the_last_may_lack_its_line_feed(rt: HostRuntime) {
-    let text = b"ab\n\nc\r\nd".as_slice();
-    for (at, line, next) in [
-        (0, b"ab".as_slice(), 3),
-        (3, b"", 4),
-        (4, b"c\r", 7),
-        (7, b"d", 8),
-    ] {
-        if at < text.len() {
-            let found = line_at(text, at);
-            assert_eq!(rt; found.0, line, "at {at}");
-            assert_eq!(rt; found.1, next, "at {at}");
-        }
-    }
+    let text: &[u8] = b"ab\n\nc\r\nd";
+    expect_line(&rt, text, 0, b"ab", 3);
+    expect_line(&rt, text, 3, b"", 4);
+    expect_line(&rt, text, 4, b"c\r", 7);
+    expect_line(&rt, text, 7, b"d", 8);
 }

@@ -1,8 +1,10 @@
 //! An audio device and a pace in memory: which calls fail, and what stands after each.
 
 ghost use Rattle.std.specs.Prelude.{All, IfOk};
+ghost use Rattle.lk_base.specs.Ranges.{IsMoment};
 ghost use Rattle.lk_outside.specs.Audio.{IsBlock};
 
+use super::expect;
 use crate::{Audio, ListAudio, ListPace, NEXT, Next, PLAY, Pace, Played};
 use lk_base::{Block, Click, Clicks};
 use std::alloc::{AllocError, Global};
@@ -40,14 +42,14 @@ fn click(at: i64) -> Clicks {
 // Plays one click at each of these moments, each with its answer.
 fn expect_plays(rt: &impl Abort, audio: &mut ListAudio, want: &[(i64, Played)]) {
     for (at, answer) in want {
-        assert_eq!(rt; audio.play(&click(*at)), *answer, "at {at}");
+        expect(rt, at, &audio.play(&click(*at)), answer);
     }
 }
 
 // Asks for the next block once for each of these answers.
 fn expect_blocks(rt: &impl Abort, audio: &mut ListAudio, want: &[Next]) {
     for (k, answer) in want.iter().enumerate() {
-        assert_eq!(rt; audio.next(), *answer, "at call {k}");
+        expect(rt, &k, &audio.next(), answer);
     }
 }
 
@@ -58,19 +60,73 @@ fn expect_counts(rt: &impl Abort, audio: &ListAudio, want: (usize, usize, u64)) 
         audio.plays().len(),
         audio.fault_count(),
     );
-    assert_eq!(rt; counts, want);
+    expect(rt, &"counts", &counts, &want);
 }
 
 // Plays of one click each, at these moments.
 fn expect_played(rt: &impl Abort, audio: &ListAudio, want: &[i64]) {
-    assert_eq!(rt; audio.plays().len(), want.len());
+    expect(rt, &"plays", &audio.plays().len(), &want.len());
     for (clicks, at) in audio.plays().iter().zip(want) {
         let one = [Click {
             at: *at,
             accent: true,
         }];
-        assert_eq!(rt; clicks.as_slice(), one.as_slice());
+        expect(rt, at, &clicks.as_slice(), &one.as_slice());
     }
+}
+
+// Asks for the blocks of a device of which one call fails, each time with its answer.
+fn expect_asks(
+    rt: &impl Abort,
+    alloc: Global,
+    call: u64,
+    answers: [Next; 4],
+) -> Result<(), AllocError> {
+    let mut audio = ListAudio::new(alloc, three_blocks(alloc)?, vec![in alloc; (NEXT, call)]?)?;
+    expect_blocks(rt, &mut audio, &answers[..3]);
+    // One of the three calls failed.
+    expect(rt, &call, &audio.given(), &[FIRST, SECOND].as_slice());
+    expect(rt, &call, &audio.rest(), &[THIRD].as_slice());
+    expect_blocks(rt, &mut audio, &answers[3..]);
+    expect_blocks(rt, &mut audio, &[Next::Closed, Next::Closed]);
+    expect_counts(rt, &audio, (3, 0, 1));
+    Ok(())
+}
+
+// Plays three clicks on a device of which one play fails. Expects these answers and that these were played.
+fn expect_tries(
+    rt: &impl Abort,
+    alloc: Global,
+    call: u64,
+    answers: [(i64, Played); 3],
+    played: [i64; 2],
+) -> Result<(), AllocError> {
+    let mut audio = ListAudio::new(alloc, three_blocks(alloc)?, vec![in alloc; (PLAY, call)]?)?;
+    expect_plays(rt, &mut audio, &answers);
+    expect_played(rt, &audio, &played);
+    expect_counts(rt, &audio, (0, 2, 1));
+    Ok(())
+}
+
+// The same number, which has to be a moment.
+fn a_moment(rt: &impl Abort, number: i64) -> i64
+    ensures { IsMoment result }
+{
+    assert!(rt; 0 <= number && number <= 36_028_797_018_963_968);
+    number
+}
+
+// The answer of a pace that is so late, twice.
+fn expect_until(rt: &impl Abort, late: i64, moment: i64, answer: i64) {
+    let mut pace = ListPace::new(a_moment(rt, late));
+    let moment = a_moment(rt, moment);
+    expect(rt, &(late, moment), &pace.until(moment), &answer);
+    expect(
+        rt,
+        &(late, moment, "once more"),
+        &pace.until(moment),
+        &answer,
+    );
 }
 
 #[test]
@@ -83,14 +139,7 @@ fn a_failing_call_takes_no_block(rt: HostRuntime) -> Result<(), Fail> {
         (2, [first, Next::Failed, second, third]),
         (3, [first, second, Next::Failed, third]),
     ] {
-        let mut audio = ListAudio::new(alloc, three_blocks(alloc)?, vec![in alloc; (NEXT, call)]?)?;
-        expect_blocks(&rt, &mut audio, &answers[..3]);
-        // One of the three calls failed.
-        assert_eq!(rt; audio.given(), [FIRST, SECOND].as_slice());
-        assert_eq!(rt; audio.rest(), [THIRD].as_slice());
-        expect_blocks(&rt, &mut audio, &answers[3..]);
-        expect_blocks(&rt, &mut audio, &[Next::Closed, Next::Closed]);
-        expect_counts(&rt, &audio, (3, 0, 1));
+        expect_asks(&rt, alloc, call, answers)?;
     }
     Ok(())
 }
@@ -105,10 +154,7 @@ fn a_failing_play_plays_nothing(rt: HostRuntime) -> Result<(), Fail> {
         (2, [(5, done), (6, failed), (7, done)], [5, 7]),
         (3, [(5, done), (6, done), (7, failed)], [5, 6]),
     ] {
-        let mut audio = ListAudio::new(alloc, three_blocks(alloc)?, vec![in alloc; (PLAY, call)]?)?;
-        expect_plays(&rt, &mut audio, &answers);
-        expect_played(&rt, &audio, &played);
-        expect_counts(&rt, &audio, (0, 2, 1));
+        expect_tries(&rt, alloc, call, answers, played)?;
     }
     Ok(())
 }
@@ -124,9 +170,15 @@ fn there_is_room_for_as_many_plays_as_blocks(rt: HostRuntime) -> Result<(), Fail
         &[(5, done), (6, done), (7, done), (8, failed)],
     );
     expect_counts(&rt, &audio, (0, 3, 1));
+    Ok(())
+}
+
+#[test]
+fn there_is_room_for_no_play_without_blocks(rt: HostRuntime) -> Result<(), Fail> {
+    let alloc = rt.alloc();
     let mut empty = ListAudio::new(alloc, Vec::new(alloc), Vec::new(alloc))?;
     expect_blocks(&rt, &mut empty, &[Next::Closed]);
-    expect_plays(&rt, &mut empty, &[(5, failed)]);
+    expect_plays(&rt, &mut empty, &[(5, Played::Failed)]);
     expect_counts(&rt, &empty, (0, 0, 1));
     Ok(())
 }
@@ -147,14 +199,6 @@ fn a_moment_is_answered_late_but_never_after_the_last_one(rt: HostRuntime) {
         (1, 36_028_797_018_963_967, 36_028_797_018_963_968),
         (2, 36_028_797_018_963_967, 36_028_797_018_963_968),
     ] {
-        assert!(rt; (0..=36_028_797_018_963_968).contains(&late));
-        assert!(rt; (0..=36_028_797_018_963_968).contains(&moment));
-        let mut pace = ListPace::new(late);
-        assert_eq!(rt; pace.until(moment), answer, "{moment} and {late}");
-        assert_eq!(rt;
-            pace.until(moment),
-            answer,
-            "{moment} and {late}, once more"
-        );
+        expect_until(&rt, late, moment, answer);
     }
 }

@@ -4,6 +4,7 @@ ghost use Rattle.std.specs.Prelude.{◌≤◌, length, All, IfOk};
 ghost use Rattle.lk_base.specs.Ranges.{IsMoment};
 ghost use Rattle.lk_outside.specs.Coming.{IsToCome};
 
+use super::expect;
 use crate::{Arrival, BIND, Bound, ListPort, Port, Posted, RECEIVE, SEND};
 use lk_base::{Endpoint, Gate, Wire};
 use std::alloc::{AllocError, Global};
@@ -78,7 +79,7 @@ fn three_arrivals(alloc: Global) -> Result<Vec<Arrival>, AllocError>
 fn expect_answers(rt: &impl Abort, port: &mut ListPort, want: &[Answer]) {
     for (k, answer) in want.iter().enumerate() {
         assert!(rt; !port.gates().is_empty());
-        assert_eq!(rt; answer_of(&port.receive(0)), *answer, "at receive {k}");
+        expect(rt, &k, &answer_of(&port.receive(0)), answer);
     }
 }
 
@@ -86,11 +87,7 @@ fn expect_answers(rt: &impl Abort, port: &mut ListPort, want: &[Answer]) {
 fn expect_sends(rt: &impl Abort, port: &mut ListPort, want: &[(u8, Posted)]) {
     for (byte, answer) in want {
         assert!(rt; !port.gates().is_empty());
-        assert_eq!(rt;
-            port.send(Gate(0), AWAY, &[*byte]),
-            *answer,
-            "at byte {byte}"
-        );
+        expect(rt, byte, &port.send(Gate(0), AWAY, &[*byte]), answer);
     }
 }
 
@@ -99,22 +96,22 @@ fn expect_gates(rt: &impl Abort, port: &mut ListPort, gates: &[Endpoint], want: 
     requires { (1 ≤ length gates.now) × (length gates.now ≤ 4) }
 {
     let fails = port.bind(gates) == Bound::Failed;
-    assert_eq!(rt; fails, want.0);
-    assert_eq!(rt; port.gates(), want.1);
+    expect(rt, &gates, &fails, &want.0);
+    expect(rt, &gates, &port.gates(), &want.1);
 }
 
 // How many arrivals were given, datagrams posted and calls failed.
 fn expect_counts(rt: &impl Abort, port: &ListPort, want: (usize, usize, u64)) {
     let counts = (port.given().len(), port.posts().len(), port.fault_count());
-    assert_eq!(rt; counts, want);
+    expect(rt, &"counts", &counts, &want);
 }
 
 // One post a byte, each from gate 0.
 fn expect_posts(rt: &impl Abort, port: &ListPort, want: &[u8]) {
-    assert_eq!(rt; port.posts().len(), want.len());
+    expect(rt, &"posts", &port.posts().len(), &want.len());
     for (post, byte) in port.posts().iter().zip(want) {
-        assert_eq!(rt; (post.gate, post.to), (Gate(0), AWAY));
-        assert_eq!(rt; post.bytes.as_slice(), [*byte].as_slice());
+        expect(rt, byte, &(post.gate, post.to), &(Gate(0), AWAY));
+        expect(rt, byte, &post.bytes.as_slice(), &[*byte].as_slice());
     }
 }
 
@@ -130,6 +127,93 @@ fn port_of(
     ListPort::new(alloc, arrivals, room, vec![in alloc; failing]?)
 }
 
+// Binds one gate, two and another, of which one call fails. Expects these gates after each.
+fn expect_binds(
+    rt: &impl Abort,
+    alloc: Global,
+    call: u64,
+    (first, second, third): (&[Endpoint], &[Endpoint], &[Endpoint]),
+) -> Result<(), AllocError> {
+    let mut port = port_of(alloc, Vec::new(alloc), 0, (BIND, call))?;
+    expect_gates(rt, &mut port, &[HERE], (call == 1, first));
+    expect_gates(rt, &mut port, &[HERE, THERE], (call == 2, second));
+    expect_gates(rt, &mut port, &[AWAY], (call == 3, third));
+    expect_counts(rt, &port, (0, 0, 1));
+    Ok(())
+}
+
+// Receives from a port of which one receive fails, each time with its answer.
+fn expect_receives(
+    rt: &impl Abort,
+    alloc: Global,
+    call: u64,
+    answers: [Answer; 4],
+) -> Result<(), AllocError> {
+    let mut port = port_of(alloc, three_arrivals(alloc)?, 0, (RECEIVE, call))?;
+    expect_gates(rt, &mut port, &[HERE, THERE], (false, &[HERE, THERE]));
+    expect_answers(rt, &mut port, &answers[..3]);
+    // One of the three receives failed.
+    expect_counts(rt, &port, (2, 0, 1));
+    expect_answers(rt, &mut port, &answers[3..]);
+    expect_counts(rt, &port, (3, 0, 1));
+    Ok(())
+}
+
+// Sends on a port of which one send fails. Expects these answers and these bytes posted.
+fn expect_tries(
+    rt: &impl Abort,
+    alloc: Global,
+    call: u64,
+    answers: [(u8, Posted); 3],
+    posted: &[u8],
+) -> Result<(), AllocError> {
+    let mut port = port_of(alloc, Vec::new(alloc), 3, (SEND, call))?;
+    expect_gates(rt, &mut port, &[HERE], (false, &[HERE]));
+    expect_sends(rt, &mut port, &answers);
+    expect_posts(rt, &port, posted);
+    expect_counts(rt, &port, (0, 2, 1));
+    Ok(())
+}
+
+// Sends on a port of that room. Expects these answers, so many posts and so many faults.
+fn expect_room(
+    rt: &impl Abort,
+    alloc: Global,
+    room: usize,
+    answers: [(u8, Posted); 3],
+    (posts, faults): (usize, u64),
+) -> Result<(), AllocError> {
+    let mut port = ListPort::new(alloc, Vec::new(alloc), room, Vec::new(alloc))?;
+    expect_gates(rt, &mut port, &[HERE], (false, &[HERE]));
+    expect_sends(rt, &mut port, &answers);
+    expect_counts(rt, &port, (0, posts, faults));
+    Ok(())
+}
+
+// Sends these bytes, and they alone are posted.
+fn expect_sent(rt: &impl Abort, port: &mut ListPort, bytes: &[u8], want: Posted) {
+    assert!(rt; !port.gates().is_empty());
+    expect(rt, &bytes.len(), &port.send(Gate(0), AWAY, bytes), &want);
+    for post in port.posts() {
+        expect(rt, &bytes.len(), &post.bytes.as_slice(), &bytes);
+    }
+}
+
+// Sends a datagram of that length. Expects this answer, so many posts and so many faults.
+fn expect_length(
+    rt: &impl Abort,
+    alloc: Global,
+    length: usize,
+    answer: Posted,
+    (posts, faults): (usize, u64),
+) -> Result<(), AllocError> {
+    let mut port = ListPort::new(alloc, Vec::new(alloc), 1, Vec::new(alloc))?;
+    expect_gates(rt, &mut port, &[HERE], (false, &[HERE]));
+    expect_sent(rt, &mut port, &vec![in alloc; 7u8; length]?, answer);
+    expect_counts(rt, &port, (0, posts, faults));
+    Ok(())
+}
+
 #[test]
 fn a_failing_bind_leaves_the_gates_of_before(rt: HostRuntime) -> Result<(), Fail> {
     let alloc = rt.alloc();
@@ -142,11 +226,7 @@ fn a_failing_bind_leaves_the_gates_of_before(rt: HostRuntime) -> Result<(), Fail
         (2, one, one, other),
         (3, one, two, two),
     ] {
-        let mut port = port_of(alloc, Vec::new(alloc), 0, (BIND, call))?;
-        expect_gates(&rt, &mut port, &[HERE], (call == 1, first));
-        expect_gates(&rt, &mut port, &[HERE, THERE], (call == 2, second));
-        expect_gates(&rt, &mut port, &[AWAY], (call == 3, third));
-        expect_counts(&rt, &port, (0, 0, 1));
+        expect_binds(&rt, alloc, call, (first, second, third))?;
     }
     Ok(())
 }
@@ -163,13 +243,7 @@ fn a_failing_receive_takes_nothing(rt: HostRuntime) -> Result<(), Fail> {
         (2, [first, Answer::Failed, second, third]),
         (3, [first, second, Answer::Failed, third]),
     ] {
-        let mut port = port_of(alloc, three_arrivals(alloc)?, 0, (RECEIVE, call))?;
-        expect_gates(&rt, &mut port, &[HERE, THERE], (false, &[HERE, THERE]));
-        expect_answers(&rt, &mut port, &answers[..3]);
-        // One of the three receives failed.
-        expect_counts(&rt, &port, (2, 0, 1));
-        expect_answers(&rt, &mut port, &answers[3..]);
-        expect_counts(&rt, &port, (3, 0, 1));
+        expect_receives(&rt, alloc, call, answers)?;
     }
     Ok(())
 }
@@ -184,11 +258,7 @@ fn a_failing_send_posts_nothing(rt: HostRuntime) -> Result<(), Fail> {
         (2, [(b'a', sent), (b'b', failed), (b'c', sent)], b"ac"),
         (3, [(b'a', sent), (b'b', sent), (b'c', failed)], b"ab"),
     ] {
-        let mut port = port_of(alloc, Vec::new(alloc), 3, (SEND, call))?;
-        expect_gates(&rt, &mut port, &[HERE], (false, &[HERE]));
-        expect_sends(&rt, &mut port, &answers);
-        expect_posts(&rt, &port, posted);
-        expect_counts(&rt, &port, (0, 2, 1));
+        expect_tries(&rt, alloc, call, answers, posted)?;
     }
     Ok(())
 }
@@ -232,21 +302,9 @@ fn a_send_without_room_fails(rt: HostRuntime) -> Result<(), Fail> {
         (2, [(b'a', sent), (b'b', sent), (b'c', failed)], 2, 1),
         (3, [(b'a', sent), (b'b', sent), (b'c', sent)], 3, 0),
     ] {
-        let mut port = ListPort::new(alloc, Vec::new(alloc), room, Vec::new(alloc))?;
-        expect_gates(&rt, &mut port, &[HERE], (false, &[HERE]));
-        expect_sends(&rt, &mut port, &answers);
-        expect_counts(&rt, &port, (0, posts, faults));
+        expect_room(&rt, alloc, room, answers, (posts, faults))?;
     }
     Ok(())
-}
-
-// Sends these bytes, and they alone are posted.
-fn expect_sent(rt: &impl Abort, port: &mut ListPort, bytes: &[u8], want: Posted) {
-    assert!(rt; !port.gates().is_empty());
-    assert_eq!(rt; port.send(Gate(0), AWAY, bytes), want);
-    for post in port.posts() {
-        assert_eq!(rt; post.bytes.as_slice(), bytes);
-    }
 }
 
 #[test]
@@ -258,10 +316,7 @@ fn a_datagram_of_514_bytes_is_too_long(rt: HostRuntime) -> Result<(), Fail> {
         (513, Posted::Sent, 1, 0),
         (514, Posted::Failed, 0, 1),
     ] {
-        let mut port = ListPort::new(alloc, Vec::new(alloc), 1, Vec::new(alloc))?;
-        expect_gates(&rt, &mut port, &[HERE], (false, &[HERE]));
-        expect_sent(&rt, &mut port, &vec![in alloc; 7u8; length]?, answer);
-        expect_counts(&rt, &port, (0, posts, faults));
+        expect_length(&rt, alloc, length, answer, (posts, faults))?;
     }
     Ok(())
 }
