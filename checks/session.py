@@ -1,0 +1,344 @@
+#!/usr/bin/env python3
+"""Compares what tools/session.py tells of recordings, over the built program, with what is written here: checks/session.py PROGRAM.
+
+Each examples/NAME.script is told as examples/NAME.told has it, by the program's own run and by stored output; docs/session.svg is the
+picture of three-peers.script. Then scripts made here: events of one moment, a ping that carries a session, ids that aren't text, a record
+with its summary, moments that fall. Of pictures is looked at whether they are XML, and how many steps, marks and bands they have. Input
+that can't be told has to end with status 2 and one sentence on standard error. The last line is 'N passed, N failed'.
+"""
+import os
+import re
+import subprocess
+import sys
+import tempfile
+import xml.etree.ElementTree as ElementTree
+
+sys.dont_write_bytecode = True
+import node  # noqa: E402
+
+HERE = os.path.dirname(os.path.dirname(os.path.realpath(__file__)))
+TOOL = os.path.join(HERE, "tools", "session.py")
+EXAMPLES = os.path.join(HERE, "examples")
+SVG = "{http://www.w3.org/2000/svg}"
+
+HEAD = "replay 1\nnode QRSTUVWX 1 500000 1 1000000\ngate 127.0.0.1:20809\nto 127.0.0.1:20808\n"
+OWN, SLOW, FAST = b"QRSTUVWX", node.Timeline(500_000, 0, 0), node.Timeline(400_000, 600_000, 300_000)
+PLACE = node.endpoint_of("127.0.0.1:20808")
+OPENS = (
+    "0:00.000  QRSTUVWX opens alone: 120.00 beats per minute, 500000 microseconds per beat, beat 0.000000 is at 0:00.000000, not playing, "
+    "starts are shared\n"
+)
+
+
+def response(now, sender, session=OWN, line=SLOW, start=node.STOPPED):
+    return f"rx {now} 0 127.0.0.1:20808 {node.write_state(2, sender, session, line, start, PLACE).hex()}\n"
+
+
+def bye(now, sender):
+    return f"rx {now} 0 127.0.0.1:20808 {(b'_asdp_v' + bytes([1, 3, 0, 0, 0]) + sender).hex()}\n"
+
+
+def ping(now, payload):
+    return f"rx {now} 0 127.0.0.1:20808 {(b'_link_v' + bytes([1, 1]) + payload).hex()}\n"
+
+
+# A name, a script, and the lines behind the opening one.
+SCRIPTS = [
+    (
+        "datagrams of two peers at one moment, of which one brings a tempo",
+        response(1_100_000, b"ABCDEFGH") + response(1_300_000, b"ABCDEFGH", line=FAST) + response(1_300_000, b"IJKLMNOP", b"IJKLMNOP"),
+        "0:00.100  ABCDEFGH at 127.0.0.1:20808 comes: 1 peer\n"
+        "0:00.300  the tempo is now 150.00 beats per minute, 400000 microseconds per beat (one of several datagrams)\n"
+        "0:00.300  the beat moves: beat 0.000000 is now at 0:00.060000, and this moment is beat 0.600, as before (one of several datagrams)\n"
+        "0:00.300  the recording ends: 3 events, 3 states shown, 0 datagrams sent\n",
+    ),
+    (
+        "the same, each with a state of its own",
+        response(1_100_000, b"ABCDEFGH") + response(1_100_000, b"IJKLMNOP"),
+        "0:00.100  ABCDEFGH at 127.0.0.1:20808 comes: 1 peer\n"
+        "0:00.100  IJKLMNOP at 127.0.0.1:20808 comes: 2 peers\n"
+        "0:00.100  the recording ends: 2 events, 3 states shown, 0 datagrams sent\n",
+    ),
+    (
+        "a tick and a goodbye at one moment, and commits between datagrams",
+        response(1_100_000, b"ABCDEFGH")
+        + response(1_100_000, b"IJKLMNOP")
+        + "tick 1200000\n"
+        + bye(1_200_000, b"ABCDEFGH")
+        + "app 1200000 1200000 s 1 6000000 1200000\naudio 1200000 4 1200000 s 0 1200000 1200001\n"
+        + response(1_200_000, b"ABCDEFGH"),
+        "0:00.100  ABCDEFGH at 127.0.0.1:20808 comes: 1 peer\n"
+        "0:00.100  IJKLMNOP at 127.0.0.1:20808 comes: 2 peers\n"
+        "0:00.200  ABCDEFGH at 127.0.0.1:20808 says goodbye: 1 peer is left\n"
+        "0:00.200  starts to play as of 0:05.000 (application)\n"
+        "0:00.200  stops as of 0:00.200 (audio thread)\n"
+        "0:00.200  ABCDEFGH at 127.0.0.1:20808 comes: 2 peers\n"
+        "0:00.200  the recording ends: 7 events, 7 states shown, 1 datagram sent\n",
+    ),
+    (
+        "a ping whose payload tells a session, which its pong gives back, and one that is cut",
+        ping(1_100_000, node.entry(b"sess", b"OTHERONE")) + ping(1_200_000, b"\1\2\3"),
+        "0:00.200  the recording ends: 2 events, 1 state shown, 2 datagrams sent\n",
+    ),
+    (
+        "an id that is no text, a peer that goes over to its own session, and silence",
+        response(1_100_000, b"\0\1<&\"'>\xff", OWN)
+        + response(1_200_000, b"IJKLMNOP")
+        + response(1_300_000, b"IJKLMNOP", b"IJKLMNOP")
+        + "tick 9000000\n",
+        "0:00.100  0x00013c2622273eff at 127.0.0.1:20808 comes: 1 peer\n"
+        "0:00.200  IJKLMNOP at 127.0.0.1:20808 comes: 2 peers\n"
+        "0:00.300  IJKLMNOP at 127.0.0.1:20808 goes over to the session of IJKLMNOP: 1 peer is left\n"
+        "0:08.000  1 peer is heard no more: no peer is left\n"
+        "0:08.000  a session of the new id >pz1+Yoc is founded\n"
+        "0:08.000  the recording ends: 4 events, 5 states shown, 1 datagram sent\n",
+    ),
+    (
+        "moments that fall, a start that a peer tells, and one that moves",
+        response(2_000_000, b"ABCDEFGH", start=node.Start(1, 1_000_000, 900_000))
+        + "app 1500000 1500000 s 1 1900000 1950000\nend 1000000\n# state of a record\n\nend 2000000\n",
+        "0:01.000  ABCDEFGH at 127.0.0.1:20808 comes: 1 peer\n"
+        "0:01.000  starts to play as of 0:00.500 (peer ABCDEFGH at 127.0.0.1:20808)\n"
+        "0:01.000  plays on, now as of 0:00.900 (application)\n"
+        "0:01.000  the node says goodbye to 127.0.0.1:20808\n"
+        "0:01.000  the node says goodbye to 127.0.0.1:20808\n"
+        "0:01.000  the recording ends: 4 events, 3 states shown, 2 datagrams sent\n",
+    ),
+]
+
+# Of the pictures of examples: tempo steps, peer steps, spans in which it plays, sessions, offsets told, and marks with those of the legend.
+PICTURES = {
+    "one-alive": (0, 0, 0, 1, 0, 0),
+    "several-peers": (0, 0, 0, 1, 0, 0),
+    "two-peers": (1, 2, 1, 2, 1, 3 + 2),
+    "three-peers": (4, 6, 2, 3, 3, 4 + 5 + 4 + 4),
+}
+
+
+def tell(words, text=b"", **streams):
+    """Status, standard output and standard error of the tool."""
+    done = subprocess.run([sys.executable, TOOL, *words], input=text, capture_output=True, timeout=600, check=False, **streams)
+    return done.returncode, done.stdout.decode(), done.stderr.decode()
+
+
+def read(*names):
+    with open(os.path.join(*names), encoding="utf-8") as file:
+        return file.read()
+
+
+def write(folder, name, text):
+    path = os.path.join(folder, name)
+    with open(path, "wb") as file:
+        file.write(text if isinstance(text, bytes) else text.encode())
+    return path
+
+
+def counted(text):
+    """What a picture has, by its classes; an error where it isn't XML, asks for something else, or has no title."""
+    root = ElementTree.fromstring(text)
+    if root.tag != SVG + "svg" or root[0].tag != SVG + "title" or not root[0].text or re.search("href|url\\(|<script|<style", text):
+        raise ValueError("it is no picture of its own with a title")
+    by_class = {}
+    for part in root.iter():
+        by_class.setdefault(part.get("class"), []).append(part)
+    steps = [by_class[name][0].get("d").count("V") for name in ("tempo", "peers")]
+    return (*steps, *(len(by_class.get(name, [])) for name in ("playing", "session", "offset", "mark")))
+
+
+def examples(program, folder):
+    names = sorted(name[:-7] for name in os.listdir(EXAMPLES) if name.endswith(".script"))
+    for name in names:
+        script, drawn = os.path.join(EXAMPLES, name + ".script"), os.path.join(folder, name + ".svg")
+        told = read(EXAMPLES, name + ".told") if os.path.exists(os.path.join(EXAMPLES, name + ".told")) else None
+        yield name, tell(["--program", program, "--svg", drawn, script]), (0, told, "")
+        yield f"the picture of {name}", counted(read(drawn)), PICTURES.get(name, counted(read(drawn)))
+        # Without the program, but for one run of decode in between, and over standard input.
+        output = ["--output", os.path.join(EXAMPLES, name + ".expected"), "--program", os.path.join(folder, "none")]
+        text = read(script).encode()
+        status, digits, error = tell([*output, "--datagrams"], text)
+        decoded = subprocess.run([program, "decode"], input=digits.encode(), capture_output=True, timeout=600, check=False).stdout
+        stored = tell([*output, "--decoded", write(folder, "decoded", decoded), "-"], text)
+        yield f"{name} of stored output", (status, error, stored), (0, "", (0, told, ""))
+    yield "docs/session.svg", read(folder, "three-peers.svg") == read(HERE, "docs", "session.svg"), True
+
+
+def made_here(program, folder):
+    for name, events, lines in SCRIPTS:
+        text = "# live 1 2 3 4 5 6 7 8\n# state 0 500000\n" + HEAD + events
+        yield name, tell(["--program", program, "--svg", os.path.join(folder, "made.svg")], text.encode()), (0, OPENS + lines, "")
+        counted(read(folder, "made.svg"))
+    # An id of signs that mean something in XML, a gate without a place, and starts that aren't shared.
+    name = "<&\"'>abc"
+    text = f"replay 1\nnode {name} 1 2999999 0 7\ngate 127.0.0.1:20809\ntick 8\nend 3600000007\n"
+    told = (
+        f" 0:00.000  {name} opens alone: 20.00 beats per minute, 2999999 microseconds per beat, beat 0.000000 is at 0:00.000000, not playing, "
+        "starts aren't shared\n60:00.000  the node ends\n60:00.000  the recording ends: 2 events, 1 state shown, 0 datagrams sent\n"
+    )
+    drawn = os.path.join(folder, "made.svg")
+    yield "an id of signs of XML", tell(["--program", program, "--svg", drawn], text.encode()), (0, told, "")
+    yield "its title", ElementTree.parse(drawn).getroot()[0].text, f"A session as {name} is shown it, 60:00.000 long"
+    yield "--help", tell(["--help"])[::2], (0, "")
+
+
+def refused(program, folder):
+    """The words, the input, and what has to stand on standard error."""
+    two_peers, none = os.path.join(EXAMPLES, "two-peers.script"), os.path.join(folder, "none")
+    names = "one-alive", "several-peers", "two-peers"
+    one_output, several_output, two_output = (os.path.join(EXAMPLES, name + ".expected") for name in names)
+    output = read(two_output).splitlines(keepends=True)
+    opening = "state 0 500000 0 1000000 0 0 0 1 0 1000000 0 0\n"
+    run = ["--program", program]
+    stored = lambda text: ["--output", write(folder, "output", text)]  # noqa: E731
+    path = os.path.join(folder, "output")
+    cases = [
+        ([], b"", "line 1: expected `replay 1`, found the end of the text"),
+        ([], b"# nothing\n\n", "line 3: expected `replay 1`, found the end of the text"),
+        (
+            [],
+            b"link 1\nsetup 500000 1\n",
+            "line 1: expected `replay 1`, found `link 1`, a live script; what `live --record` writes of its run can be told",
+        ),
+        ([], b"\xff\xfer\0e\0p\0", 'line 1: expected `replay 1`, found "\\xff\\xfer\\x00e\\x00p\\x00"'),
+        (
+            [],
+            HEAD.replace("\n", "\r\n").encode(),
+            "line 1: expected a line feed alone at the end of the line, found a carriage return before it",
+        ),
+        (
+            [],
+            HEAD.replace("STUVWX", "").encode(),
+            "line 2: expected `node` and a node's id, seed, tempo, sync and opening moment, found \"node QR 1 500000 1 1000000\"",
+        ),
+        ([], HEAD[:41].encode() + b"\n", "line 3: expected `gate` and an endpoint, found the end of the text"),
+        ([], HEAD.encode() + b"tick 5\nwait 5\n", 'line 6: expected an event: `rx`, `tick`, `app`, `audio` or `end`, found "wait 5"'),
+        ([], HEAD.encode() + b"tick 05\n", 'line 5: expected `tick` and a moment, found "tick 05"'),
+        ([], HEAD.encode() + b"rx 5 1 127.0.0.1:20808 00\n", 'line 5: expected a gate below 1, found "1"'),
+        (
+            [],
+            HEAD.encode() + b"rx 5 0 127.0.0.1:20808 000\n",
+            "line 5: expected two hex digits for each byte, of 513 bytes at most, found 3 digits",
+        ),
+        ([folder], b"", f"{folder} could not be read: Is a directory"),
+        (["--output", folder, two_peers], b"", f"{folder} could not be read: Is a directory"),
+        ([none], b"", f"{none} could not be read: No such file or directory"),
+        (["--svgs", "x"], b"", "unrecognized arguments: --svgs; --help tells all"),
+        (["--program", none, two_peers], b"", f"{none} could not be run: No such file or directory"),
+        ([*stored(b""), two_peers], b"", f"{path}: line 1: expected the opening state, found the end of the text"),
+        (
+            ["--output", one_output, two_peers],
+            b"",
+            f"{one_output}: line 3: expected the output of this recording, which has 10 events, found that of 1",
+        ),
+        (
+            ["--output", several_output, two_peers],
+            b"",
+            f"{several_output}: line 1: expected the opening state of this recording's node, "
+            'found "state 0 666667 0 1000000 0 0 0 1 0 10000" and more',
+        ),
+    ]
+    for words, text, sentence in cases:
+        yield f"{words} on {text[-40:]!r}", tell(words, text), (2, "", f"session: {sentence}\n")
+    # Of the output: each written anew, since all have one path.
+    whole = "".join(output)
+    for name, text, events, sentence in [
+        ("without its end", "".join(output[:-1]), None, "line 15: expected `done` and three counts, found the end of the text"),
+        ("with lines behind", whole + "done\n", None, 'line 16: expected nothing behind the line `done`, found "done"'),
+        (
+            "without a datagram",
+            "".join(output[:1] + output[2:]),
+            None,
+            'line 14: expected `done 10 5 8` behind these lines, found "done 10 5 9"',
+        ),
+        (
+            "with a datagram of another moment",
+            whole.replace("tx 1200000", "tx 1200001"),
+            None,
+            'line 6: expected a line that follows from this recording up to its line 30, found "tx 1200001 0 127.0.0.1:20808"',
+        ),
+        (
+            "with a state behind the last event",
+            opening + opening.replace("state 0", "state 1") + "done 1 2 0\n",
+            "tick 1000000\n",
+            'line 2: expected a line that follows from this recording, found "state 1"',
+        ),
+        (
+            "of a commit without its state",
+            opening + "done 1 1 0\n",
+            "app 1000000 1000000 s 1 1000000 1000000\n",
+            "line 2: expected the state behind the commit in line 5 of the recording, found `done`",
+        ),
+        (
+            "of an end without its goodbye",
+            opening + "done 1 1 0\n",
+            "end 5\n",
+            "line 2: expected the goodbyes of the end in line 5 of the recording, found `done`",
+        ),
+        (
+            "that says something else",
+            opening + "click 5 plain\n",
+            "end 5\n",
+            'line 2: expected a line that `replay` writes: `state`, `tx` or `done`, found "click 5 plain"',
+        ),
+    ]:
+        words = [*stored(text), *run, two_peers if events is None else "-"]
+        found = tell(words, (HEAD + (events or "")).encode())
+        yield f"an output {name}", found, (2, "", f"session: {path}: {sentence}\n")
+    decoded = write(folder, "decoded", "bye 4142434445464748 0 0\n")
+    sentence = f"session: {decoded}: line 2: expected a line for each of the 12 datagrams of this recording, found 1\n"
+    yield "decoded datagrams of something else", tell(["--output", two_output, "--decoded", decoded, two_peers]), (2, "", sentence)
+    # What replay has to say is handed on.
+    status, told, error = tell(run, HEAD.replace("500000", "60059").encode())
+    sentences = [
+        'jorazhil: line 2, column 17: expected a tempo from 60060 to 3000000 microseconds per beat, found "60059"; nothing was written',
+        f"session: `replay` of {program} ended with status 8, as it says above",
+    ]
+    yield "a script that replay refuses", (status, told, error.splitlines()), (2, "", sentences)
+    # Files that can't be written, or that were read from.
+    copy = write(folder, "copy.script", read(two_peers))
+    yield "a picture over its recording", tell([*run, "--svg", copy, copy]), (2, "", f"session: --svg {copy} is a file that is read from\n")
+    yield "the recording is as it was", read(copy) == read(two_peers), True
+    nowhere = os.path.join(folder, "none", "x.svg")
+    sentence = f"session: {nowhere} could not be written: No such file or directory\n"
+    yield "a picture in no folder", tell([*run, "--svg", nowhere, copy]), (2, "", sentence)
+
+
+def streams(program, folder):
+    """A reader that leaves, and a full device."""
+    commits = "".join(f"app {k}000000 {k}000000 t {400000 + k} 0 0\n" for k in range(1, 2000))
+    script = write(folder, "long.script", HEAD + commits)
+    pipe = subprocess.PIPE
+    child = subprocess.Popen([sys.executable, TOOL, "--program", program, script], stdout=pipe, stderr=pipe)
+    first = child.stdout.readline().decode()
+    child.stdout.close()
+    error = child.stderr.read().decode()
+    yield "a reader that leaves after a line", (first.lstrip(), error, child.wait(timeout=600)), (OPENS, "", 0)
+    if os.path.exists("/dev/full"):
+        with open("/dev/full", "wb") as full:
+            done = subprocess.run([sys.executable, TOOL, "--program", program, script], stdout=full, stderr=pipe, timeout=600, check=False)
+        found = done.returncode, done.stderr.decode()
+        yield "a full device", found, (2, "session: standard output could not be written: No space left on device\n")
+
+
+def main(program):
+    failed = passed = 0
+    with tempfile.TemporaryDirectory() as folder:
+        for part in (examples, made_here, refused, streams):
+            try:
+                for name, found, wanted in part(program, folder):
+                    if found == wanted:
+                        passed += 1
+                        continue
+                    failed += 1
+                    print(f"{name}: found {found!r}, wanted {wanted!r}")
+            except (OSError, ValueError, LookupError, ElementTree.ParseError) as error:
+                failed += 1
+                print(f"{part.__name__}: {type(error).__name__}: {error}")
+    print(f"{passed} passed, {failed} failed")
+    return 1 if failed else 0
+
+
+if __name__ == "__main__":
+    if len(sys.argv) != 2:
+        print(__doc__, file=sys.stderr)
+        sys.exit(2)
+    sys.exit(main(os.path.abspath(sys.argv[1])))
