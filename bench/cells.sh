@@ -441,7 +441,8 @@ struct Relaxed {
     static constexpr const char *name = "relaxed";
 };
 
-// Word 0 is the state, 4 * fresh + back; the row at place r begins at word r * W + 1. The reader begins at 0, the back row at 1, the writer at 2.
+// Word 0 is the state, 4 * fresh + back; the row at place r begins at word r * W + 1. The reader begins at 0, the back row at 1,
+// the writer at 2.
 template <int W, class Order>
 struct Triple {
     std::atomic<std::uint64_t> table[3 * W + 1];

@@ -8,8 +8,8 @@
 . "$(dirname "${BASH_SOURCE[0]}")/shared.sh"
 prepare bench_client client_state ghost_xform timeline_math lk_base
 cat >"$crate/src/main.rt" <<'RT'
-//! Times the calls of `client_state`. A line for each: its name, the calls of a round, the nanoseconds of the best round and of all, and the
-//! results folded into one number.
+//! Times the calls of `client_state`. A line for each: its name, the calls of a round, the nanoseconds of the best round and of all, and
+//! the results folded into one number.
 #![tactic(auto)]
 
 ghost use Rattle.std.specs.Prelude.{◌≡◌, ◌^◌, ◌<◌, ◌≤◌};

@@ -19,7 +19,8 @@ def spent(used):
 
 
 def worked():
-    """The seconds that all processors have worked or were taken away, and those of this process and its children; None where nobody tells."""
+    """The seconds that all processors have worked or were taken away, and those of this process and its children;
+    None where nobody tells."""
     try:
         with open("/proc/stat") as told:
             user, nice, system, _, _, irq, softirq, steal = map(int, told.readline().split()[1:9])
@@ -86,8 +87,8 @@ def lines_of(program, runs):
 
 
 def timed(program, runs, rounds, keys=1):
-    """By the first words of the lines `KEY .. CALLS BEST ALL RESULT ..` that a program prints: the calls of a round, the nanoseconds a call in the best
-    round and over all rounds of the best run, and the results, which are the same in each run."""
+    """By the first words of the lines `KEY .. CALLS BEST ALL RESULT ..` that a program prints: the calls of a round, the nanoseconds a call
+    in the best round and over all rounds of the best run, and the results, which are the same in each run."""
     found = {}
     for words in lines_of(program, runs):
         key = words[0] if keys == 1 else tuple(words[:keys])
@@ -101,7 +102,8 @@ def timed(program, runs, rounds, keys=1):
 
 
 def add_call(table, what, call, loop, aim=None, parts=1):
-    """A row for a call: what is left of its best round without the loop's own. Where a round has several calls at a time, what each took."""
+    """A row for a call: what is left of its best round without the loop's own. Where a round has several calls at a time,
+    what each took."""
     ns = (call.least - loop.least) / parts
     table.add(what, f"{ns:.1f} ns", None if aim is None else f"at most {aim:,} ns", aim is not None and ns <= aim)
     note(f"{what}: round {call.least:.1f} ns, loop {loop.least:.1f}, whole {call.whole:.1f}, folded {' '.join(call.results)}")

@@ -8,8 +8,8 @@
 . "$(dirname "${BASH_SOURCE[0]}")/shared.sh"
 prepare bench_measure ping_measure ghost_xform link_payload lk_base
 cat >"$crate/src/main.rt" <<'RT'
-//! Times the calls of a measurement. A line for each: its name, the calls of a round, the nanoseconds of the best round and of all, the pings
-//! that were answered, and the results folded into one number.
+//! Times the calls of a measurement. A line for each: its name, the calls of a round, the nanoseconds of the best round and of all, the
+//! pings that were answered, and the results folded into one number.
 #![tactic(auto)]
 
 ghost use Rattle.std.specs.Prelude.{pos, ◌^◌, ◌<◌, ◌≤◌, ◌≤ℤ◌};

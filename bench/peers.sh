@@ -10,8 +10,8 @@
 . "$(dirname "${BASH_SOURCE[0]}")/shared.sh"
 prepare bench_peers peer_gateway lk_base
 cat >"$crate/src/main.rt" <<'RT'
-//! Times the calls of `peer_gateway`. A line for each: its name, the rows of the table, the calls of a round, the nanoseconds of the best round
-//! and of all, and the results folded into one number.
+//! Times the calls of `peer_gateway`. A line for each: its name, the rows of the table, the calls of a round, the nanoseconds of the best
+//! round and of all, and the results folded into one number.
 #![tactic(auto)]
 
 ghost use Rattle.std.specs.Prelude.{◌≡◌, ◌≤◌, ◌<◌, ◌^◌, IfOk};

@@ -1,15 +1,16 @@
 #!/usr/bin/env python3
 """Writes a script for bench/replay.sh on standard output: bench/scripts.py NAME PEERS EVENTS.
 
-`alives` has alives alone, each of the same peer from another address. In the others PEERS peers, a quarter of them on each of four gates, tell their
-state once, and EVENTS events follow. `mixed` has in 16 events eight alives, two pings, two pongs, two ticks, an application commit and an audio commit,
-a millisecond apart, with one destination on each gate. Every 32nd alive has a newer timeline. Every 512 events a visitor comes in a session of its
-own, which is then measured: its 51 pongs are the next ones, and are answered by pings.
+`alives` has alives alone, each of the same peer from another address. In the others PEERS peers, a quarter of them on each of four gates,
+tell their state once, and EVENTS events follow. `mixed` has in 16 events eight alives, two pings, two pongs, two ticks, an application
+commit and an audio commit, a millisecond apart, with one destination on each gate. Every 32nd alive has a newer timeline. Every 512 events
+a visitor comes in a session of its own, which is then measured: its 51 pongs are the next ones, and are answered by pings.
 
-The other names have events of one kind, a tenth of a millisecond apart, and no destination: `response`, `alive`, `ping`, `passed` (a pong that nobody
-waits for), `pongs` (a visitor's response, a tick and its 51 pongs), `bye` (a bye, and a response that brings the row back), `tick`, `app`, `audio`,
-`end`. Each has an idle form, as `ping-idle`, of the same lines, as long and with as many words, in which less is done: datagrams have another first
-byte and so aren't of Link, ticks are ends (which without destinations do nothing), commits meet a spent origin, and ends are comments.
+The other names have events of one kind, a tenth of a millisecond apart, and no destination: `response`, `alive`, `ping`, `passed` (a pong
+that nobody waits for), `pongs` (a visitor's response, a tick and its 51 pongs), `bye` (a bye, and a response that brings the row back),
+`tick`, `app`, `audio`, `end`. Each has an idle form, as `ping-idle`, of the same lines, as long and with as many words, in which less is
+done: datagrams have another first byte and so aren't of Link, ticks are ends (which without destinations do nothing), commits meet a spent
+origin, and ends are comments.
 """
 import sys
 

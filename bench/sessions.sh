@@ -9,8 +9,8 @@
 . "$(dirname "${BASH_SOURCE[0]}")/shared.sh"
 prepare bench_sessions session_choice ghost_xform lk_base
 cat >"$crate/src/main.rt" <<'RT'
-//! Times the calls of `session_choice`. A line for each measure: its name, the number of others, the calls of a round, the nanoseconds of the
-//! best round and of all, and the answers counted.
+//! Times the calls of `session_choice`. A line for each measure: its name, the number of others, the calls of a round, the nanoseconds of
+//! the best round and of all, and the answers counted.
 #![tactic(auto)]
 
 ghost use Rattle.std.specs.Prelude.{◌+◌, ◌^◌, ◌<◌, ◌≤◌};

@@ -1,9 +1,9 @@
 #!/usr/bin/env python3
 """Compares the built program's `decode` with a plain reading of the formats: checks/decode.py PROGRAM.
 
-Its datagrams are an alive, a response, a bye, a ping and a pong, each with every single byte changed to 0, to 255 and to its value plus one; the first
-n bytes of the alive for every n; repeated, reordered, unknown and empty entries; sizes that pass the end by far; 512 and 513 bytes. The last line is
-'N passed, N failed'.
+Its datagrams are an alive, a response, a bye, a ping and a pong, each with every single byte changed to 0, to 255 and to its value plus
+one; the first n bytes of the alive for every n; repeated, reordered, unknown and empty entries; sizes that pass the end by far; 512 and 513
+bytes. The last line is 'N passed, N failed'.
 """
 import struct
 import subprocess

@@ -1,10 +1,11 @@
 #!/usr/bin/env python3
 """Compares the built program's `load` with a plain reading of the rules, checks/node.py: checks/load.py PROGRAM [SEED].
 
-The events are drawn here anew from their description in docs/FORMATS.md. Compared are exit status, standard output and an empty standard error of
-seeds 0, 7 and 2^64 - 1, each at all counts from 1 to 40 and at some greater ones, since only the last state is written; of seeds and counts drawn from SEED
-(1 where not given); and of the spellings of numbers that are taken or refused. An event of a kind that no run reaches is a failure. The last line is
-'N passed, N failed'. `checks/load.py expect SEED COUNT` writes what `load SEED COUNT` has to write, without a program.
+The events are drawn here anew from their description in docs/FORMATS.md. Compared are exit status, standard output and an empty standard
+error of seeds 0, 7 and 2^64 - 1, each at all counts from 1 to 40 and at some greater ones, since only the last state is written; of seeds
+and counts drawn from SEED (1 where not given); and of the spellings of numbers that are taken or refused. An event of a kind that no run
+reaches is a failure. The last line is 'N passed, N failed'. `checks/load.py expect SEED COUNT` writes what `load SEED COUNT` has to write,
+without a program.
 """
 import random
 import subprocess

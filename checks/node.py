@@ -1,8 +1,8 @@
 #!/usr/bin/env python3
 """A plain reading of the rules of a node and of its scripts: checks/node.py < SCRIPT writes what `replay` has to answer.
 
-It keeps lists and dictionaries, numbers without bounds and one branch for each rule, and nothing that is there for speed. Where the script is outside the
-grammar it writes the first line at fault on standard error and ends with 8.
+It keeps lists and dictionaries, numbers without bounds and one branch for each rule, and nothing that is there for speed. Where the script
+is outside the grammar it writes the first line at fault on standard error and ends with 8.
 """
 import re
 import sys

@@ -1,12 +1,12 @@
 #!/usr/bin/env python3
 """Compares the built program's `replay` with a plain reading of the rules, checks/node.py: checks/replay.py PROGRAM [SEED].
 
-The scripts are drawn from the seed (1 where not given). Long and short stories of a node: what comes next is drawn with the plain reading beside it, so
-that moments fall on limits and deadlines, pongs fit the measurement that runs and commits the timeline that counts. Stories in which measurements end
-at an exact lead, tables are full, and an origin is spent. Scripts with one change: each word of every kind of line at the ends of its range, past
-them, misspelled, lost and doubled. And stories with a changed word, line or byte. Exit status, standard output and, under status 8, the line that
-standard error names first are compared. The first script that differs is shortened and printed. A rule that no story reaches is a failure. The last
-line is 'N passed, N failed'.
+The scripts are drawn from the seed (1 where not given). Long and short stories of a node: what comes next is drawn with the plain reading
+beside it, so that moments fall on limits and deadlines, pongs fit the measurement that runs and commits the timeline that counts. Stories
+in which measurements end at an exact lead, tables are full, and an origin is spent. Scripts with one change: each word of every kind of
+line at the ends of its range, past them, misspelled, lost and doubled. And stories with a changed word, line or byte. Exit status, standard
+output and, under status 8, the line that standard error names first are compared. The first script that differs is shortened and printed. A
+rule that no story reaches is a failure. The last line is 'N passed, N failed'.
 """
 import random
 import re
@@ -43,7 +43,8 @@ class Story:
         self.sent, self.node = [], node.Node(node.Config(*self.script.setup, self.script.gates))
         strangers = [bytes(draw.randrange(256) for _ in range(8)) for _ in range(3)]
         self.ids = [b"PEER000%d" % k for k in range(4)] + strangers + [b"\0" * 8, b"\xff" * 8]
-        # By how much the pongs say that the measured session is ahead, the number of the last audio commit, and how often pongs and moments don't fit.
+        # By how much the pongs say that the measured session is ahead, the number of the last audio commit, and how often
+        # pongs and moments don't fit.
         self.lead, self.number, self.noise = 0, 0, 1.0
         self.jitter, self.still = draw.choice([0, 0, 1, 3000]), False
 
