@@ -4,7 +4,8 @@
 # program on each text once to warm up and then three times, and tells of the fastest round: MB of text a second, datagrams a second, and
 # the peak resident memory over the size of the largest text; then what a loop of `read_datagram` alone takes over 10,000 of the same
 # datagrams in memory, in a program that is proved and built in a temporary folder (the best of 100 rounds, a walk that reads nothing
-# taken off). JORAZHIL_PROGRAM names another program than the built one.
+# taken off). JORAZHIL_PROGRAM names another program than the built one; with JORAZHIL_FORMER that program runs too, by turns on each text,
+# and the ratio of their fastest rounds is told.
 # shellcheck source=bench/shared.sh
 . "$(dirname "${BASH_SOURCE[0]}")/shared.sh"
 built
@@ -125,18 +126,23 @@ with open(os.path.join(folder, "slots"), "wb") as slots:
 keep()
 PY
 # Measured by a process of its own, since a child's peak memory is at least that of the process that starts it.
-figures "$decoder" "$program" "$folder" "$lines" <<'PY'
+figures "$decoder" "$program" "$folder" "$lines" "${JORAZHIL_FORMER:-}" <<'PY'
 import os, subprocess, sys
 from figures import Table, note, run
 
-decoder, reader, folder, lines = *sys.argv[1:4], int(sys.argv[4])
+decoder, reader, folder, lines, former = *sys.argv[1:4], int(sys.argv[4]), sys.argv[5]
 table = Table()
 out = os.path.join(folder, "out")
 texts = [os.path.join(folder, "texts", name) for name in sorted(os.listdir(os.path.join(folder, "texts")))]
-rounds, peak = [], 0
+rounds, before, peak = [], [], 0
 for _ in range(4):
-    runs = [run([decoder, "decode"], text, out) for text in texts]
+    runs, others = [], []
+    for text in texts:
+        runs.append(run([decoder, "decode"], text, out))
+        if former:
+            others.append(run([former, "decode"], text, out))
     rounds.append((sum(seconds for seconds, _, _ in runs), sum(used for _, used, _ in runs)))
+    before.append(sum(seconds for seconds, _, _ in others))
     peak = max(one for _, _, one in runs)
 seconds, used = min(rounds[1:])
 total, largest = sum(os.path.getsize(text) for text in texts), max(os.path.getsize(text) for text in texts)
@@ -147,6 +153,8 @@ walked, read, bare, messages = map(int, told)
 megabytes = total / 1e6 / seconds
 table.add(f"`decode` of {lines:,} datagrams, {total / 1e6:.0f} MB in {len(texts)} texts: text a second", f"{megabytes:.0f} MB", "at least 150 MB", megabytes >= 150)
 table.add("`decode`: datagrams a second", f"{lines / seconds:,.0f}")
+if former:
+    table.add("`decode`: text a second, over that of the former program in the same run", f"{min(before[1:]) / seconds:.2f}")
 table.add(f"`decode`: peak memory, a text of {largest / 1e6:.0f} MB", f"{peak / 1e6:.1f} MB, {peak / largest:.2f} times the text")
 table.add("`read_datagram` over drawn datagrams of six kinds, most of them not in the cache", f"{(read - bare) / walked:.1f} ns")
 note(f"{seconds:.3f} s, {used:.3f} s of the processor, {seconds / cat:.2f} times the time of cat; {messages} of {walked} datagrams are messages")
