@@ -4,6 +4,7 @@ use crate::{
 };
 use link_payload::{PayloadFault, PeerFields, PingFields, PongFields};
 use lk_base::{Endpoint, NodeId, SessionStart, Timeline, Wire};
+use std::process::Abort;
 
 // The key `tmln`.
 const TMLN: u32 = 0x746d_6c6e;
@@ -77,12 +78,32 @@ fn message_at(mpb: i64, beat: i64) -> StateMsg {
     StateMsg { fields, ..MESSAGE }
 }
 
+// What is read of these bytes.
+fn expect_read(rt: &impl Abort, case: &str, bytes: &[u8], wanted: Result<Message<'_>, WireFault>) {
+    assert!(rt; bytes.len() <= 600);
+    assert_eq!(rt; read_datagram(bytes), wanted, "{case}");
+}
+
+fn expect_message(rt: &impl Abort, bytes: &[u8], wanted: Message<'_>) {
+    expect_read(rt, "a message", bytes, Ok(wanted));
+}
+
+fn expect_fault(rt: &impl Abort, case: &str, bytes: &[u8], wanted: WireFault) {
+    expect_read(rt, case, bytes, Err(wanted));
+}
+
+// An alive of these parts is read as this message.
+fn expect_alive(rt: &impl Abort, parts: &[&[u8]], wanted: StateMsg) {
+    expect_message(rt, &joined(parts), Message::Alive(wanted));
+}
+
+fn expect_bytes(rt: &impl Abort, found: &[u8], wanted: &[u8]) {
+    assert_eq!(rt; found, wanted);
+}
+
 #[test]
 fn an_alive_is_read_field_by_field(rt: HostRuntime) {
-    assert_eq!(rt;
-        read_datagram(&with_header(HEADER)),
-        Ok(Message::Alive(MESSAGE))
-    );
+    expect_alive(&rt, &[HEADER, TIMELINE, SESSION, START, ENDPOINT], MESSAGE);
     let other: &[&[u8]] = &[
         HEADER,
         b"tmln\0\0\0\x18\0\0\0\0\0\0\x01\x01\0\0\0\0\0\0\x02\x02\xff\xff\xff\xff\xff\xff\xff\xfe",
@@ -107,67 +128,63 @@ fn an_alive_is_read_field_by_field(rt: HostRuntime) {
             port: 0x0506,
         }),
     };
-    assert_eq!(rt;
-        read_datagram(&joined(other)),
-        Ok(Message::Alive(StateMsg { fields, ..MESSAGE }))
-    );
+    expect_alive(&rt, other, StateMsg { fields, ..MESSAGE });
 }
 
 #[test]
 fn a_damaged_alive_has_a_fault(rt: HostRuntime) {
-    let damaged: &[(&str, Wire, WireFault)] = &[
-        (
-            "three bytes less",
-            joined(&[HEADER, TIMELINE, SESSION, START, b"mep4\0\0\0\x06\x7f\0\0"]),
-            WireFault::Payload(PayloadFault::Cut { at: 73 }),
-        ),
-        (
-            "one byte more",
-            joined(&[HEADER, TIMELINE, SESSION, START, ENDPOINT, b"\0"]),
-            WireFault::Payload(PayloadFault::Cut { at: 87 }),
-        ),
-        (
-            "another version",
-            with_header(b"_asdp_v\x02\x01\x05\0\0ABCDEFGH"),
-            WireFault::NotLink,
-        ),
-        (
-            "a timeline of 25 bytes",
-            joined(&[
-                HEADER,
-                b"tmln\0\0\0\x19\0\0\0\0\0\x07\xa1\x20",
-                ZERO,
-                ZERO,
-                SESSION,
-                START,
-                ENDPOINT,
-            ]),
-            WireFault::Payload(PayloadFault::WrongSize {
-                key: TMLN,
-                size: 25,
-            }),
-        ),
-        ("a tempo of 0", with_mpb(ZERO), out_of_range(0)),
-        (
-            "a tempo above 2^31",
-            with_mpb(b"\0\0\0\0\x80\0\0\x01"),
-            out_of_range(2_147_483_649),
-        ),
-        (
-            "a beat above 2^60",
-            with_beat(b"\x10\0\0\0\0\0\0\x01"),
-            out_of_range(1_152_921_504_606_846_977),
-        ),
-        (
-            "a beat below -2^60",
-            with_beat(b"\xef\xff\xff\xff\xff\xff\xff\xff"),
-            out_of_range(-1_152_921_504_606_846_977),
-        ),
-        ("nothing", Wire::new(), WireFault::Short { len: 0 }),
-    ];
-    for (damage, bytes, fault) in damaged {
-        assert_eq!(rt; read_datagram(bytes), Err(*fault), "{damage}");
-    }
+    expect_fault(
+        &rt,
+        "three bytes less",
+        &joined(&[HEADER, TIMELINE, SESSION, START, b"mep4\0\0\0\x06\x7f\0\0"]),
+        WireFault::Payload(PayloadFault::Cut { at: 73 }),
+    );
+    expect_fault(
+        &rt,
+        "one byte more",
+        &joined(&[HEADER, TIMELINE, SESSION, START, ENDPOINT, b"\0"]),
+        WireFault::Payload(PayloadFault::Cut { at: 87 }),
+    );
+    expect_fault(
+        &rt,
+        "another version",
+        &with_header(b"_asdp_v\x02\x01\x05\0\0ABCDEFGH"),
+        WireFault::NotLink,
+    );
+    let long: &[u8] = b"tmln\0\0\0\x19\0\0\0\0\0\x07\xa1\x20";
+    expect_fault(
+        &rt,
+        "a timeline of 25 bytes",
+        &joined(&[HEADER, long, ZERO, ZERO, SESSION, START, ENDPOINT]),
+        WireFault::Payload(PayloadFault::WrongSize {
+            key: TMLN,
+            size: 25,
+        }),
+    );
+    expect_fault(&rt, "nothing", &Wire::new(), WireFault::Short { len: 0 });
+}
+
+#[test]
+fn a_number_outside_its_range_is_a_fault(rt: HostRuntime) {
+    expect_fault(&rt, "a tempo of 0", &with_mpb(ZERO), out_of_range(0));
+    expect_fault(
+        &rt,
+        "a tempo above 2^31",
+        &with_mpb(b"\0\0\0\0\x80\0\0\x01"),
+        out_of_range(2_147_483_649),
+    );
+    expect_fault(
+        &rt,
+        "a beat above 2^60",
+        &with_beat(b"\x10\0\0\0\0\0\0\x01"),
+        out_of_range(1_152_921_504_606_846_977),
+    );
+    expect_fault(
+        &rt,
+        "a beat below -2^60",
+        &with_beat(b"\xef\xff\xff\xff\xff\xff\xff\xff"),
+        out_of_range(-1_152_921_504_606_846_977),
+    );
 }
 
 // A number of the timeline that is outside its range.
@@ -175,49 +192,42 @@ fn out_of_range(value: i64) -> WireFault {
     WireFault::Payload(PayloadFault::OutOfRange { key: TMLN, value })
 }
 
+// The message of an alive with this header.
+fn headed(ttl: u8, group: u16) -> StateMsg {
+    StateMsg {
+        ttl,
+        group,
+        ..MESSAGE
+    }
+}
+
+fn expect_mpb(rt: &impl Abort, mpb: &[u8], wanted: i64) {
+    expect_message(rt, &with_mpb(mpb), Message::Alive(message_at(wanted, 0)));
+}
+
+fn expect_beat(rt: &impl Abort, beat: &[u8], wanted: i64) {
+    expect_message(
+        rt,
+        &with_beat(beat),
+        Message::Alive(message_at(500_000, wanted)),
+    );
+}
+
+fn expect_header(rt: &impl Abort, header: &[u8], ttl: u8, group: u16) {
+    expect_message(rt, &with_header(header), Message::Alive(headed(ttl, group)));
+}
+
 #[test]
 fn the_ends_of_each_range_are_read(rt: HostRuntime) {
     let limit = 1_152_921_504_606_846_976;
-    let edges: &[(Wire, StateMsg)] = &[
-        (with_mpb(b"\0\0\0\0\0\0\0\x01"), message_at(1, 0)),
-        (
-            with_mpb(b"\0\0\0\0\x80\0\0\0"),
-            message_at(2_147_483_648, 0),
-        ),
-        (with_beat(b"\x10\0\0\0\0\0\0\0"), message_at(500_000, limit)),
-        (
-            with_beat(b"\xf0\0\0\0\0\0\0\0"),
-            message_at(500_000, -limit),
-        ),
-        (
-            with_header(b"_asdp_v\x01\x01\0\0\0ABCDEFGH"),
-            StateMsg { ttl: 0, ..MESSAGE },
-        ),
-        (
-            with_header(b"_asdp_v\x01\x01\xff\0\0ABCDEFGH"),
-            StateMsg {
-                ttl: 255,
-                ..MESSAGE
-            },
-        ),
-        (
-            with_header(b"_asdp_v\x01\x01\x05\xff\xffABCDEFGH"),
-            StateMsg {
-                group: 65_535,
-                ..MESSAGE
-            },
-        ),
-    ];
-    for (bytes, message) in edges {
-        assert_eq!(rt; read_datagram(bytes), Ok(Message::Alive(*message)));
-    }
-    let no_port = joined(&[
-        HEADER,
-        TIMELINE,
-        SESSION,
-        START,
-        b"mep4\0\0\0\x06\x7f\0\0\x01\0\0",
-    ]);
+    expect_mpb(&rt, b"\0\0\0\0\0\0\0\x01", 1);
+    expect_mpb(&rt, b"\0\0\0\0\x80\0\0\0", 2_147_483_648);
+    expect_beat(&rt, b"\x10\0\0\0\0\0\0\0", limit);
+    expect_beat(&rt, b"\xf0\0\0\0\0\0\0\0", -limit);
+    expect_header(&rt, b"_asdp_v\x01\x01\0\0\0ABCDEFGH", 0, 0);
+    expect_header(&rt, b"_asdp_v\x01\x01\xff\0\0ABCDEFGH", 255, 0);
+    expect_header(&rt, b"_asdp_v\x01\x01\x05\xff\xffABCDEFGH", 5, 65_535);
+    let place: &[u8] = b"mep4\0\0\0\x06\x7f\0\0\x01\0\0";
     let endpoint = Some(Endpoint {
         addr: 0x7f00_0001,
         port: 0,
@@ -226,9 +236,10 @@ fn the_ends_of_each_range_are_read(rt: HostRuntime) {
         endpoint,
         ..MESSAGE.fields
     };
-    assert_eq!(rt;
-        read_datagram(&no_port),
-        Ok(Message::Alive(StateMsg { fields, ..MESSAGE }))
+    expect_alive(
+        &rt,
+        &[HEADER, TIMELINE, SESSION, START, place],
+        StateMsg { fields, ..MESSAGE },
     );
 }
 
@@ -253,10 +264,7 @@ fn a_response_is_written_byte_for_byte(rt: HostRuntime) {
         START,
         b"mep4\0\0\0\x06\x7f\0\0\x01\x51\x49",
     ]);
-    assert_eq!(rt;
-        write_response(from, 0, &fields).as_slice(),
-        whole.as_slice()
-    );
+    expect_bytes(&rt, &write_response(from, 0, &fields), &whole);
     let unreachable = PeerFields {
         endpoint: None,
         ..fields
@@ -267,17 +275,34 @@ fn a_response_is_written_byte_for_byte(rt: HostRuntime) {
         session,
         START,
     ]);
-    assert_eq!(rt;
-        write_response(from, 0x1234, &unreachable).as_slice(),
-        three.as_slice()
-    );
-    assert_eq!(rt; three.len(), 93);
+    expect_bytes(&rt, &write_response(from, 0x1234, &unreachable), &three);
+    assert!(rt; three.len() == 93);
 }
 
 #[test]
 fn a_datagram_names_its_first_fault(rt: HostRuntime) {
     let mut long = [0u8; 513];
     long[..20].copy_from_slice(HEADER);
+    let short: &[u8] = b"_asdp_v\x01\x01\x05\0\0ABCDEFG";
+    expect_fault(&rt, "nothing", b"", WireFault::Short { len: 0 });
+    expect_fault(&rt, "19 bytes", short, WireFault::Short { len: 19 });
+    expect_fault(&rt, "8 bytes", b"_link_v\x01", WireFault::Short { len: 8 });
+    expect_fault(&rt, "9 zeros", &[0; 9], WireFault::NotLink);
+    expect_fault(&rt, "600 zeros", &[0; 600], WireFault::NotLink);
+    expect_fault(&rt, "513 bytes", &long, WireFault::TooLong { len: 513 });
+}
+
+// These parts behind the header of an alive have this fault.
+fn expect_payload_fault(rt: &impl Abort, parts: &[&[u8]], wanted: PayloadFault) {
+    let mut bytes = joined(&[HEADER]);
+    for part in parts {
+        let _appended = bytes.try_extend_from_slice(part);
+    }
+    expect_fault(rt, "payload", &bytes, WireFault::Payload(wanted));
+}
+
+#[test]
+fn a_payload_names_its_first_fault(rt: HostRuntime) {
     let missing = PayloadFault::Missing { key: 0x7365_7373 };
     let size = PayloadFault::WrongSize {
         key: 0x746d_6c6e,
@@ -287,30 +312,12 @@ fn a_datagram_names_its_first_fault(rt: HostRuntime) {
         key: 0x746d_6c6e,
         value: 0,
     };
-    let alone = joined(&[HEADER, TIMELINE]);
-    let oversized = joined(&[HEADER, b"tmln\0\0\0\x19", ZERO, ZERO, ZERO, b"\0"]);
-    let endless = joined(&[HEADER, b"tmln\xff\xff\xff\xff", ZERO, ZERO, ZERO]);
-    let half = joined(&[HEADER, b"abcd\x80\0\0\0"]);
-    let still = joined(&[HEADER, MPB_HEAD, ZERO, ZERO, ZERO, SESSION]);
-    let faults: &[(&[u8], WireFault)] = &[
-        (b"", WireFault::Short { len: 0 }),
-        (
-            b"_asdp_v\x01\x01\x05\0\0ABCDEFG",
-            WireFault::Short { len: 19 },
-        ),
-        (b"_link_v\x01", WireFault::Short { len: 8 }),
-        (&[0; 9], WireFault::NotLink),
-        (&[0; 600], WireFault::NotLink),
-        (&long, WireFault::TooLong { len: 513 }),
-        (&alone, WireFault::Payload(missing)),
-        (&oversized, WireFault::Payload(size)),
-        (&endless, WireFault::Payload(PayloadFault::Cut { at: 0 })),
-        (&half, WireFault::Payload(PayloadFault::Cut { at: 0 })),
-        (&still, WireFault::Payload(range)),
-    ];
-    for (bytes, fault) in faults {
-        assert_eq!(rt; read_datagram(bytes), Err(*fault));
-    }
+    let cut = PayloadFault::Cut { at: 0 };
+    expect_payload_fault(&rt, &[TIMELINE], missing);
+    expect_payload_fault(&rt, &[b"tmln\0\0\0\x19", ZERO, ZERO, ZERO, b"\0"], size);
+    expect_payload_fault(&rt, &[b"tmln\xff\xff\xff\xff", ZERO, ZERO, ZERO], cut);
+    expect_payload_fault(&rt, &[b"abcd\x80\0\0\0"], cut);
+    expect_payload_fault(&rt, &[MPB_HEAD, ZERO, ZERO, ZERO, SESSION], range);
 }
 
 #[test]
@@ -321,78 +328,69 @@ fn an_alive_is_read_past_unknown_and_repeated_entries(rt: HostRuntime) {
         endpoint: None,
         ..MESSAGE.fields
     };
-    let read: &[(Wire, StateMsg)] = &[
-        (with_header(HEADER), MESSAGE),
-        (
-            joined(&[HEADER, TIMELINE, &unknown, SESSION, START, ENDPOINT]),
-            MESSAGE,
-        ),
-        (
-            joined(&[HEADER, TIMELINE, &again, SESSION, START, ENDPOINT]),
-            message_at(400_000, 0),
-        ),
-        (
-            joined(&[HEADER, TIMELINE, SESSION]),
-            StateMsg { fields, ..MESSAGE },
-        ),
-    ];
-    for (bytes, message) in read {
-        assert_eq!(rt; read_datagram(bytes), Ok(Message::Alive(*message)));
-    }
+    expect_alive(&rt, &[HEADER, TIMELINE, SESSION, START, ENDPOINT], MESSAGE);
+    expect_alive(
+        &rt,
+        &[HEADER, TIMELINE, &unknown, SESSION, START, ENDPOINT],
+        MESSAGE,
+    );
+    expect_alive(
+        &rt,
+        &[HEADER, TIMELINE, &again, SESSION, START, ENDPOINT],
+        message_at(400_000, 0),
+    );
+    expect_alive(
+        &rt,
+        &[HEADER, TIMELINE, SESSION],
+        StateMsg { fields, ..MESSAGE },
+    );
+}
+
+#[test]
+fn a_discovery_message_of_512_bytes_and_another_kind_is_read(rt: HostRuntime) {
     let mut full = [0u8; 512];
     full[..20].copy_from_slice(b"_asdp_v\x01\x09\x05\0\0ABCDEFGH");
-    assert_eq!(rt;
-        read_datagram(&full),
-        Ok(Message::OtherDiscovery { kind: 9 })
-    );
+    expect_message(&rt, &full, Message::OtherDiscovery { kind: 9 });
 }
 
 #[test]
 fn each_message_is_read_as_it_was_written(rt: HostRuntime) {
     let from = MESSAGE.from;
     let fields = MESSAGE.fields;
-    let alive = write_alive(from, 0, &fields);
-    assert_eq!(rt; alive.as_slice(), with_header(HEADER).as_slice());
-    let response = write_response(from, 0, &fields);
-    assert_eq!(rt; read_datagram(&response), Ok(Message::Response(MESSAGE)));
+    expect_bytes(&rt, &write_alive(from, 0, &fields), &with_header(HEADER));
+    expect_message(
+        &rt,
+        &write_response(from, 0, &fields),
+        Message::Response(MESSAGE),
+    );
     let bye = write_bye(from, 258);
-    assert_eq!(rt;
-        bye.as_slice(),
-        b"_asdp_v\x01\x03\0\x01\x02ABCDEFGH".as_slice()
-    );
+    expect_bytes(&rt, &bye, b"_asdp_v\x01\x03\0\x01\x02ABCDEFGH");
     let ttl = 0;
-    assert_eq!(rt;
-        read_datagram(&bye),
-        Ok(Message::Bye {
-            from,
-            ttl,
-            group: 258
-        })
-    );
+    let group = 258;
+    expect_message(&rt, &bye, Message::Bye { from, ttl, group });
+}
+
+#[test]
+fn a_ping_and_its_pong_are_read_as_they_were_written(rt: HostRuntime) {
     let host = 1_000;
-    let ping = write_ping_message(&PingFields {
-        host,
-        previous: None,
-    });
+    let previous = None;
+    let ping = write_ping_message(&PingFields { host, previous });
     let payload: &[u8] = b"__ht\0\0\0\x08\0\0\0\0\0\0\x03\xe8";
-    assert_eq!(rt;
-        ping.as_slice(),
-        joined(&[b"_link_v\x01\x01", payload]).as_slice()
-    );
-    assert_eq!(rt; read_datagram(&ping), Ok(Message::Ping { payload }));
-    let pong = write_pong_message(from, 250, payload);
+    expect_bytes(&rt, &ping, &joined(&[b"_link_v\x01\x01", payload]));
+    expect_message(&rt, &ping, Message::Ping { payload });
+    let pong = write_pong_message(MESSAGE.from, 250, payload);
     let time = b"__gt\0\0\0\x08\0\0\0\0\0\0\0\xfa";
-    let whole = joined(&[b"_link_v\x01\x02", SESSION, time, payload]);
-    assert_eq!(rt; pong.as_slice(), whole.as_slice());
+    expect_bytes(
+        &rt,
+        &pong,
+        &joined(&[b"_link_v\x01\x02", SESSION, time, payload]),
+    );
     let fields = PongFields {
-        session: from,
+        session: MESSAGE.from,
         ghost_time: 250,
         host,
         previous: 0,
     };
-    assert_eq!(rt; read_datagram(&pong), Ok(Message::Pong(fields)));
-    assert_eq!(rt;
-        read_datagram(b"_link_v\x01\x03"),
-        Ok(Message::OtherLink { kind: 3 })
-    );
+    expect_message(&rt, &pong, Message::Pong(fields));
+    expect_message(&rt, b"_link_v\x01\x03", Message::OtherLink { kind: 3 });
 }

@@ -2,6 +2,7 @@
 
 ghost use Rattle.std.specs.Prelude.{◌≡◌, ◌<◌};
 
+use super::expect;
 use crate::{Expiry, Peers, Seen};
 use lk_base::{Endpoint, Gate, NodeId, Target};
 use std::alloc::AllocError;
@@ -133,14 +134,23 @@ fn are_limits_of(by_limit: &[Expiry], model: &[Plain]) -> bool {
 
 // Compares each answer about a session.
 fn compare(rt: &impl Abort, peers: &Peers, model: &[Plain], session: u32) {
-    assert_eq!(rt; peers.count(id(session)), plain_count(model, session));
-    assert_eq!(rt;
-        peers.has(id(session)),
-        model.iter().any(|row| row.session == session)
+    expect(
+        rt,
+        &session,
+        &peers.count(id(session)),
+        &plain_count(model, session),
     );
-    assert_eq!(rt; peers.target(id(session)), plain_target(model, session));
-    assert_eq!(rt; peers.least_limit(), model.first().map(|row| row.limit));
-    assert!(rt; are_limits_of(peers.by_limit(), model));
+    let has = model.iter().any(|row| row.session == session);
+    expect(rt, &session, &peers.has(id(session)), &has);
+    expect(
+        rt,
+        &session,
+        &peers.target(id(session)),
+        &plain_target(model, session),
+    );
+    let least = model.first().map(|row| row.limit);
+    expect(rt, &session, &peers.least_limit(), &least);
+    expect(rt, &session, &are_limits_of(peers.by_limit(), model), &true);
 }
 
 // One of eight sessions, each founded by one of the peers.
@@ -169,7 +179,7 @@ fn sight(
     };
     let (gate, from, of) = (Gate(row.gate), id(row.id), id(row.session));
     let found = peers.saw(gate, from, ttl, of, endpoint(row.port), i64::from(now));
-    assert_eq!(rt; found, plain_saw(model, row)?);
+    expect(rt, &row, &found, &plain_saw(model, row)?);
     Ok(match found {
         Seen::New => 0,
         Seen::Known => 1,
@@ -197,13 +207,13 @@ fn happen(
         let now = i64::from(now);
         model.retain(|row| row.limit > now);
         let ended = before - model.len();
-        assert_eq!(rt; peers.prune(now) as usize, ended);
+        expect(rt, &now, &(peers.prune(now) as usize), &ended);
         return Ok(if ended > 0 { 3 } else { 4 });
     }
     let (gate, n) = ((drawn(state) % 2) as u8, drawn(state) % 160);
     model.retain(|row| !is_of(row, gate, n));
     let had = model.len() < before;
-    assert_eq!(rt; peers.bye(Gate(gate), id(n)), had);
+    expect(rt, &(gate, n), &peers.bye(Gate(gate), id(n)), &had);
     Ok(if had { 5 } else { 6 })
 }
 
@@ -219,6 +229,6 @@ fn a_long_run_answers_as_a_plain_list_of_rows(rt: HostRuntime) -> Result<(), Fai
         met[answer % 7] = true;
         compare(&rt, &peers, &model, session(drawn(&mut state)));
     }
-    assert_eq!(rt; met, [true; 7]);
+    expect(&rt, &"met", &met, &[true; 7]);
     Ok(())
 }
