@@ -6,7 +6,7 @@ A rule is a sentence and then its parts, of which each may be left out, but not 
 - defined: a definition in a module of specs/ of the section's crate, or of another one (`crate::Module.name`);
 - carried by: a public function or method of that crate, or of another one (`crate::Type::name`), with the labels of its clauses where its
   contract promises several things;
-- tested: a function under #[test] of that crate, or of another one (`crate::name`);
+- tested: a function under #[test] of that crate, or of another one (`crate::name`); the tests of `link_node_tests`, say, are `link_node`'s;
 - refused: a file of the must-fail/ of that crate, or of another one (`crate::name`).
 
 Told are names that don't exist (any more), crates of crates.txt without a section, sections without such a crate, rules that stand twice or
@@ -22,6 +22,8 @@ from typing import NamedTuple
 ROOT = Path(__file__).resolve().parent.parent
 MOST = 140
 PARTS = ["defined", "carried by", "tested", "refused"]
+# How the name of a crate ends that has the tests of another one.
+APART = "_tests"
 
 SECTION = re.compile(r"## `(\w+)`: \S.*")
 NAME = re.compile(r"`([^`]+)`(?: \((`\w+`(?:, `\w+`)*)\))?")
@@ -164,7 +166,9 @@ def definitions(crate, module):
 
 @cache
 def tests(crate):
-    return {name for text in sources(crate, True) for name in TEST.findall(text)}
+    """The functions under #[test] of a crate, and of the crate of its tests where they stand apart."""
+    homes = [home for home in (crate, crate + APART) if home in listed_crates()]
+    return {name for home in homes for text in sources(home, True) for name in TEST.findall(text)}
 
 
 @cache
@@ -345,7 +349,7 @@ def compare_crates(page):
         if not any(rule.crate == crate for rule in page.rules):
             page.tell(number, f"{crate} has no rule")
     for crate in listed:
-        if crate not in told:
+        if crate not in told and crate.removesuffix(APART) not in told:
             page.tell(0, f"{crate} stands in crates.txt and has no section")
 
 

@@ -12,8 +12,6 @@ mod room;
 mod run;
 mod script;
 mod sides;
-#[cfg(test)]
-mod tests;
 
 pub use audio::{AudioReport, audio_loop};
 pub use edit::commit_of;

@@ -15,8 +15,6 @@ mod news;
 mod node;
 mod sends;
 mod staying;
-#[cfg(test)]
-mod tests;
 
 pub use config::{Config, GateSetup};
 pub use event::{Change, Event};

@@ -15,8 +15,6 @@ mod name;
 mod opened;
 mod parts;
 mod queue;
-#[cfg(test)]
-mod tests;
 
 pub use capture::{Busy, Capture, QueueFull};
 pub use got::{Ended, Got, Turned};

@@ -29,8 +29,6 @@ mod reason;
 mod replay_script;
 mod sending_line;
 mod state_line;
-#[cfg(test)]
-mod tests;
 mod text_line;
 mod truth;
 mod values;

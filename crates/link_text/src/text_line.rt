@@ -19,6 +19,3 @@ pub fn line_at(text: &[u8], at: usize) -> (&[u8], usize)
         None => (rest, text.len()),
     }
 }
-
-#[cfg(test)]
-mod tests;

@@ -23,6 +23,3 @@ pub(crate) fn after<'a>(bytes: &'a [u8], prefix: &[u8]) -> Option<&'a [u8]>
 {
     bytes.strip_prefix(prefix)
 }
-
-#[cfg(test)]
-mod tests;

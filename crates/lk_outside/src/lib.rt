@@ -18,8 +18,6 @@ mod pace;
 mod port;
 mod sink;
 mod source;
-#[cfg(test)]
-mod tests;
 mod transfer;
 
 pub use audio::{Audio, Next, Played};

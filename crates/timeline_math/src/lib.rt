@@ -9,8 +9,6 @@ mod encoding;
 mod laws;
 mod metronome;
 mod quantum;
-#[cfg(test)]
-mod tests;
 mod tidying;
 
 pub use beats::{beat_at, time_at};

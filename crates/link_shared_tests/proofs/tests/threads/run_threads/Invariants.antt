@@ -1,0 +1,13 @@
+use Rattle.link_shared_tests.proofs.tests.threads.run_threads.Given as goal
+
+abbrev pub ghosts-run_link-N-LinkName : goal.ghosts-run_link-N-LinkName
+ghosts-run_link-N-LinkName g a = record {
+  app_states = a.parts.app_states;
+  audio_states = a.parts.audio_states;
+  audio_commits = a.parts.audio_commits;
+  queue = a.parts.queue;
+  whole = a.parts.shares;
+}
+
+abbrev pub ghosts-run_link-N-Ledger : goal.ghosts-run_link-N-Ledger
+ghosts-run_link-N-Ledger g a = record { name = a.parts.ledger; parts = a.parts.shares }
