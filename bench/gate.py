@@ -1,16 +1,18 @@
 #!/usr/bin/env python3
-"""What a whole run of the gate costs from nothing: bench/gate.py [PROCESSORS] runs `rt ci --anew` on so many processors (2 if not given).
+"""What a whole run of the gate costs from nothing: bench/gate.py [PROCESSORS] runs it on so many processors (2 if not given).
 
-It watches the provers that rt starts, and puts the figures into docs/GATE.md, between its two marks: how long the run took, and for each
-crate the seconds of one processor that its proof, the proof of its tests and its must-fail edits took. Edits begin with a check of the
-crate as it stands, which is counted with them. Nothing is written where the run fails. The commit has to be clean, so that the figures
-are those of a commit; what the run proves is kept on the machine for the next one, so `.ci/run` on the same commit is short.
+That is `rt ci --anew` where `rt help` speaks of --anew, and else `rt ci`, which proves all from nothing then. It watches the provers that
+rt starts, and puts the figures into docs/GATE.md, between its two marks: how long the run took, and for each crate the seconds of one
+processor that its proof, the proof of its tests and its must-fail edits took, with the check that the edits begin with. Beside each stands
+its budget, from the table that people keep between two other marks of that page. Nothing is written where the run fails. The commit has
+to be clean, so that the figures are those of a commit.
 """
 import os
 import platform
 import resource
 import subprocess
 import sys
+import textwrap
 import threading
 import time
 
@@ -18,7 +20,9 @@ HERE = os.path.dirname(os.path.dirname(os.path.abspath(__file__)))
 PAGE = os.path.join(HERE, "docs", "GATE.md")
 BEGIN, END = "<!-- figures: written by bench/gate.py -->", "<!-- end of the figures -->"
 TICK = os.sysconf("SC_CLK_TCK")
+BUDGET, BUDGET_END = "<!-- budget -->", "<!-- end of the budget -->"
 KINDS = ("proof", "tests", "edits")
+ALL = "all"
 
 
 class Failed(Exception):
@@ -40,13 +44,14 @@ def is_below(pid, top):
 
 
 def kind_of(words, folder):
-    """What a prover works at: its crate, and one of KINDS."""
+    """What a prover works at in a folder: its crate, and one of KINDS. It is an edit, or what the crate's edits begin with, where that is
+    another folder than the crate's own, or where it works over what is kept in another one; these are named rt-edit-.. and rt-edits-.."""
     crate = words[words.index("--crate-name") + 1]
-    if "--test" in words:
-        return crate, "tests"
-    if os.path.basename(folder).startswith("rt-edit-"):
+    kept = [word for flag, word in zip(words, words[1:]) if flag == "--incremental"]
+    is_made = any(part.startswith(("rt-edit-", "rt-edits-")) for place in (folder, *kept) for part in place.split("/"))
+    if is_made or folder.split("/")[-2:] != ["crates", crate]:
         return crate, "edits"
-    return crate, "proof"
+    return crate, "tests" if "--test" in words else "proof"
 
 
 def memory_of(pid):
@@ -116,11 +121,75 @@ def edits_of(crate):
     return len([name for name in os.listdir(folder) if name.endswith(".edit")]) if os.path.isdir(folder) else 0
 
 
-def measured(processors):
-    """Runs the gate, and returns the lines of its figures."""
+def between(page, begin, end):
+    """Where the text between two marks of the page begins and ends."""
+    if page.count(begin) != 1 or page.count(end) != 1 or page.index(begin) > page.index(end):
+        raise Failed(f"docs/GATE.md has not just one line {begin!r} and after it one {end!r}")
+    return page.index(begin) + len(begin), page.index(end)
+
+
+def budgets_of(text):
+    """The seconds that a table gives each crate, by KINDS, an empty place for 0; and those that its row ALL gives a whole run."""
+    found, whole = {}, None
+    rows = [[cell.strip().strip("`") for cell in line.strip().strip("|").split("|")] for line in text.splitlines() if line.startswith("|")]
+    for name, *cells in rows[2:]:
+        if len(cells) != len(KINDS) or not all(cell == "" or cell.isdigit() for cell in cells):
+            raise Failed(f"the budget of {name} is not {len(KINDS)} numbers or empty places")
+        if name in found or name == ALL and whole is not None:
+            raise Failed(f"{name} has two rows in the budget")
+        if name == ALL:
+            whole = int(cells[0] or 0)
+        else:
+            found[name] = dict(zip(KINDS, (int(cell or 0) for cell in cells)))
+    return found, whole
+
+
+def beside(taken, budget):
+    """A figure with its budget, where it has one, and whether it is over."""
+    if budget is None:
+        return f"{taken:.0f}", False
+    is_over = round(taken) > budget
+    of = f" of {budget}" if budget or is_over else ""
+    return f"{taken:.0f}{of}{' **over**' if is_over else ''}", is_over
+
+
+def prose(text):
+    """The text in lines that aren't too long for the page."""
+    return textwrap.wrap(text, 140, break_long_words=False, break_on_hyphens=False)
+
+
+def table(names, sums, edits, budgets, whole):
+    """The lines of the figures, and how many of them are over. `edits` has the number of each crate's edits."""
+    lines, over = ["| Crate | Its proof | Its tests' proof | Must-fail edits | Their proofs |", "|---|---|---|---|---|"], 0
+    for name in names:
+        row = {}
+        for kind in KINDS:
+            row[kind], is_over = beside(sums.get(name, {}).get(kind, 0), budgets[name][kind] if name in budgets else None)
+            over += is_over
+        lines.append(f"| `{name}` | {row['proof']} | {row['tests']} | {edits[name]} | {row['edits']} |")
+    of = {kind: sum(taken[kind] for taken in sums.values()) for kind in KINDS}
+    lines.append(f"| {ALL} | {of['proof']:.0f} | {of['tests']:.0f} | {sum(edits.values())} | {of['edits']:.0f} |")
+    together, is_over = beside(sum(of.values()), whole)
+    over += is_over
+    lacking, gone = [name for name in names if name not in budgets], [name for name in budgets if name not in names]
+    say = [f"Seconds of all provers together: {together}."]
+    say += [f"**Over their budgets: {over}.**" if over else "None is over its budget." if lacking else "All are within their budgets."]
+    say += [f"Without a budget: {', '.join(f'`{name}`' for name in lacking)}."] * bool(lacking)
+    say += [f"In the budget, and no crate: {', '.join(f'`{name}`' for name in gone)}."] * bool(gone)
+    return [*lines, "", *prose(" ".join(say))], over
+
+
+def keeps_proofs():
+    """Whether this rt keeps what a run has passed, so that it has to be told to prove all. Its help ends with a status that isn't 0."""
+    return "--anew" in subprocess.run(["rt", "help"], cwd=HERE, stdout=subprocess.PIPE, stderr=subprocess.STDOUT, text=True).stdout
+
+
+def measured(processors, budgets, whole):
+    """Runs the gate, and returns the lines of its figures, and how many are over their budgets."""
+    words = ["rt", "ci", *["--anew"] * keeps_proofs()]
     began, before = time.monotonic(), resource.getrusage(resource.RUSAGE_CHILDREN)
     run = subprocess.Popen(
-        ["taskset", "-c", f"0-{processors - 1}", "rt", "ci", "--anew"], cwd=HERE, stdout=subprocess.PIPE, stderr=subprocess.STDOUT, text=True
+        ["taskset", "-c", f"0-{processors - 1}", *words], cwd=HERE, stdout=subprocess.PIPE, stderr=subprocess.STDOUT, text=True
     )
     watch = Watch(run.pid)
     watch.start()
@@ -133,26 +202,17 @@ def measured(processors):
     watch.join()
     took, after = time.monotonic() - began, resource.getrusage(resource.RUSAGE_CHILDREN)
     if status:
-        raise Failed(f"rt ci ended with status {status}: {last}")
+        raise Failed(f"{' '.join(words)} ended with status {status}: {last}")
     worked = after.ru_utime + after.ru_stime - before.ru_utime - before.ru_stime
-    sums = watch.sums()
-    lines = [
-        f"`bench/gate.py` ran `rt ci --anew` at commit {told(['git', 'rev-parse', '--short', 'HEAD'])} on {processors} processors "
-        f"({processor()}): **{took / 60:.0f} minutes**, in which they",
-        f"worked {worked / 60:.0f} minutes together; all provers at once held {watch.most / 2**30:.1f} GB at most. It said: {last.removeprefix('rt: ')}",
-        "",
-        "Seconds of one processor:",
-        "",
-        "| Crate | Its proof | Its tests' proof | Must-fail edits | Their proofs |",
-        "|---|---|---|---|---|",
-    ]
-    for crate in crates():
-        of = sums.get(crate, dict.fromkeys(KINDS, 0.0))
-        lines.append(f"| `{crate}` | {of['proof']:.0f} | {of['tests']:.0f} | {edits_of(crate)} | {of['edits']:.0f} |")
-    whole = {kind: sum(of[kind] for of in sums.values()) for kind in KINDS}
-    count = sum(map(edits_of, crates()))
-    lines.append(f"| all | {whole['proof']:.0f} | {whole['tests']:.0f} | {count} | {whole['edits']:.0f} |")
-    return lines
+    names = crates()
+    lines, over = table(names, watch.sums(), {name: edits_of(name) for name in names}, budgets, whole)
+    commit = told(["git", "rev-parse", "--short", "HEAD"])
+    head = (
+        f"`bench/gate.py` ran `{' '.join(words)}` of `{told(['rt', 'version'])}` at commit {commit} on {processors} processors "
+        f"({processor()}): **{took / 60:.0f} minutes**, in which they worked {worked / 60:.0f} minutes together; all provers at once held "
+        f"{watch.most / 2**30:.1f} GB at most. It said: {last.removeprefix('rt: ')}"
+    )
+    return [*prose(head), "", "Seconds of one processor, and of how many by the budget:", "", *lines], over
 
 
 def main():
@@ -165,16 +225,15 @@ def main():
             raise Failed("the checkout has changes that are in no commit: commit them first")
         with open(PAGE, encoding="utf-8") as file:
             page = file.read()
-        if page.count(BEGIN) != 1 or page.count(END) != 1 or page.index(BEGIN) > page.index(END):
-            raise Failed(f"docs/GATE.md has not just one line {BEGIN!r} and after it one {END!r}")
-        lines = measured(processors)
+        begin, end = between(page, BEGIN, END)
+        first, last = between(page, BUDGET, BUDGET_END)
+        lines, over = measured(processors, *budgets_of(page[first:last]))
     except Failed as error:
         print(f"gate: {error}", file=sys.stderr)
         return 1
-    begin, end = page.index(BEGIN) + len(BEGIN), page.index(END)
     with open(PAGE, "w", encoding="utf-8") as file:
         file.write(page[:begin] + "\n" + "\n".join(lines) + "\n" + page[end:])
-    print("gate: docs/GATE.md has the figures")
+    print(f"gate: docs/GATE.md has the figures; over their budgets: {over}")
     return 0
 
 

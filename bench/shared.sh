@@ -36,7 +36,7 @@ built() {
   if [ -z "$program" ]; then
     "$here/jorazhil" replay <"$here/examples/one-alive.script" >/dev/null
     # shellcheck disable=SC2034 # for the script that sources this
-    program=$here/crates/link_daemon/out/link_daemon
+    program=$here/crates/jorazhil/out/jorazhil
   fi
 }
 

@@ -3,11 +3,16 @@
 
 Its datagrams are an alive, a response, a bye, a ping and a pong, each with every single byte changed to 0, to 255 and to its value plus
 one; the first n bytes of the alive for every n; repeated, reordered, unknown and empty entries; sizes that pass the end by far; 512 and 513
-bytes. The last line is 'N passed, N failed'.
+bytes. Beside them the texts that checks/worked.py has for `decode`, with what was worked out by hand. The last line is
+'N passed, N failed'.
 """
+import re
 import struct
 import subprocess
 import sys
+
+sys.dont_write_bytecode = True
+import worked  # noqa: E402
 
 LIMIT = 2**60
 STATE = {b"tmln": 24, b"sess": 8, b"stst": 17, b"mep4": 6}
@@ -147,8 +152,14 @@ def datagrams():
         yield b"_link_v\x01\x01" + bytes(length - 9)
 
 
+def answer(program, text):
+    run = subprocess.run([program, "decode"], input=text, capture_output=True, text=True, timeout=60, check=False)
+    named = re.search(r"line ([0-9]+)", run.stderr) if run.returncode == 8 else None
+    return run.returncode, run.stdout, int(named[1]) if named else None
+
+
 def main(program):
-    given = list(datagrams())
+    given, rows = list(datagrams()), list(worked.decoded())
     # Digits of upper case for every other one.
     text = "".join((d.hex().upper() if k % 2 else d.hex()) + "\n" for k, d in enumerate(given))
     run = subprocess.run([program, "decode"], input=text, capture_output=True, text=True)
@@ -161,7 +172,12 @@ def main(program):
             if line != line_of(datagram):
                 failed += 1
                 print(f"{datagram.hex()}\n  wanted {line_of(datagram)}\n  told   {line}")
-    print(f"{len(given) - failed} passed, {failed} failed")
+    for text, wanted in rows:
+        found = answer(program, text)
+        if not worked.agrees(found, wanted):
+            failed += 1
+            print(f"{text[:200]!r}\n  wanted {str(wanted)[:400]}\n  told   {str(found)[:400]}")
+    print(f"{len(given) + len(rows) - failed} passed, {failed} failed")
     return 1 if failed else 0
 
 

@@ -3,9 +3,9 @@
 
 The events are drawn here anew from their description in docs/FORMATS.md. Compared are exit status, standard output and an empty standard
 error of seeds 0, 7 and 2^64 - 1, each at all counts from 1 to 40 and at some greater ones, since only the last state is written; of seeds
-and counts drawn from SEED (1 where not given); and of the spellings of numbers that are taken or refused. An event of a kind that no run
-reaches is a failure. The last line is 'N passed, N failed'. `checks/load.py expect SEED COUNT` writes what `load SEED COUNT` has to write,
-without a program.
+and counts drawn from SEED (1 where not given); of some that were worked out by hand; and of the spellings of numbers that are taken or
+refused. An event of a kind that no run reaches is a failure. The last line is 'N passed, N failed'. `checks/load.py expect SEED COUNT`
+writes what `load SEED COUNT` has to write, without a program.
 """
 import random
 import subprocess
@@ -53,7 +53,38 @@ SPELLINGS = [
     (["help"], None),
     (["--seed=7", "40"], None),
     ([b"7\xff", "40"], None),
+    (["+7", "007"], (7, 7)),
+    (["007", "+5"], (7, 5)),
+    (["--", "7", "5"], (7, 5)),
+    (["7", "--", "5"], (7, 5)),
+    (["7", "5", "--"], (7, 5)),
+    (["7", "5", "5"], None),
+    (["7", "5", ""], None),
+    (["7", "5", "--", "5"], None),
+    (["", "5"], None),
+    (["7 5"], None),
+    ([" 7", "5"], None),
+    (["7", "5\n"], None),
+    (["-1", "5"], None),
+    (["--", "-1", "5"], None),
+    (["7", "-0"], None),
+    (["-", "5"], None),
+    (["+", "5"], None),
+    (["++7", "5"], None),
+    (["1e3", "5"], None),
+    (["0x7", "5"], None),
+    (["7.0", "5"], None),
+    (["1_000", "5"], None),
+    (["18446744073709551616", "5"], None),
+    (["7", "5", "--help"], None),
 ]
+# What was worked out by hand.
+WORKED = {
+    (0, 1): "load 1 1 1\nstate 0 500000 0 1000000 0 0 0 1 0 1000000 0 0\n",
+    (7, 1000): "load 1000 109 806\nstate 108 372100 -21618 296253 0 0 0 1 8 10985784 61 0\n",
+    (2**64 - 1, 5000): "load 5000 553 3992\nstate 552 389900 -6853 -5257281 0 0 0 1 6 51348760 320 0\n",
+    (123456789, 20_000): "load 20000 2245 15864\nstate 2244 397100 -37720 -27662380 0 0 0 1 8 200561943 1271 0\n",
+}
 
 
 def local(port):
@@ -120,8 +151,8 @@ def texts(seed, counts, kinds):
     kinds.update(load.kinds)
 
 
-def told(program, words):
-    done = subprocess.run([program, "load", *words], stdin=subprocess.DEVNULL, capture_output=True, timeout=60, check=False)
+def told(program, words, given=b""):
+    done = subprocess.run([program, "load", *words], input=given, capture_output=True, timeout=60, check=False)
     return done.returncode, done.stdout.decode("latin-1"), done.stderr.decode("latin-1")
 
 
@@ -135,12 +166,25 @@ def cases(draw, kinds):
     for seed, counts in runs:
         for count, text in texts(seed, counts, kinds):
             yield [str(seed), str(count)], text
+    for (seed, count), text in WORKED.items():
+        yield [str(seed), str(count)], text
     for words, meant in SPELLINGS:
         yield words, next(texts(meant[0], [meant[1]], kinds))[1] if meant else None
 
 
+def apart(program):
+    """A run whose standard input isn't read, and the greatest seed and count, which would take the plain reading too long."""
+    yield "with something on standard input", told(program, ["7", "1000"], b"not read") == (0, WORKED[7, 1000], "")
+    status, output, error = told(program, [str(2**64 - 1), str(MOST)])
+    yield "of the greatest count", (status, error) == (0, "") and output.startswith(f"load {MOST} ")
+
+
 def main(program, seed):
     passed, failed, kinds = 0, 0, Counter()
+    for name, holds in apart(program):
+        passed, failed = passed + holds, failed + (not holds)
+        if not holds:
+            print(f"load {name} is not as wanted")
     for words, text in cases(random.Random(seed), kinds):
         status, output, error = told(program, words)
         if (status, output, error) == (0, text, "") or text is None and (status, output) == (2, "") and error:

@@ -6,7 +6,8 @@ beside it, so that moments fall on limits and deadlines, pongs fit the measureme
 in which measurements end at an exact lead, tables are full, and an origin is spent. Scripts with one change: each word of every kind of
 line at the ends of its range, past them, misspelled, lost and doubled. And stories with a changed word, line or byte. Exit status, standard
 output and, under status 8, the line that standard error names first are compared. The first script that differs is shortened and printed. A
-rule that no story reaches is a failure. The last line is 'N passed, N failed'.
+rule that no story reaches is a failure. Beside them stand the scripts that checks/worked.py has for `replay`, whose answers were worked out
+by hand; the plain reading has to give them too. The last line is 'N passed, N failed'.
 """
 import random
 import re
@@ -16,6 +17,7 @@ from collections import Counter
 
 sys.dont_write_bytecode = True
 import node  # noqa: E402
+import worked  # noqa: E402
 
 LIMIT, LAST = 2**60, 2**55
 HOUR = 3_600_000_000
@@ -505,6 +507,14 @@ def main(program, seed):
             failed += 1
             if failed == 1:
                 show(program, text)
+    for text, by_hand in worked.replayed():
+        found, read = told(program, text.encode()), wanted(text.encode(), Counter())
+        if worked.agrees(found, by_hand) and worked.agrees(read, by_hand):
+            passed += 1
+            continue
+        failed += 1
+        for name, what in (("wanted", by_hand), ("told", found), ("the plain reading", read)):
+            print(f"{text[:200]!r}: {name} {str(what)[:400]}")
     for rule in REACHED:
         if not reached[rule]:
             failed += 1

@@ -6,7 +6,7 @@ A rule is a sentence and then its parts, of which each may be left out, but not 
 - defined: a definition in a module of specs/ of the section's crate, or of another one (`crate::Module.name`);
 - carried by: a public function or method of that crate, or of another one (`crate::Type::name`), with the labels of its clauses where its
   contract promises several things;
-- tested: a function under #[test] of that crate, or of another one (`crate::name`); the tests of `link_node_tests`, say, are `link_node`'s;
+- tested: a function under #[test] of that crate, or of another one (`crate::name`); a crate `.._tests` has those of the crates it uses;
 - refused: a file of the must-fail/ of that crate, or of another one (`crate::name`).
 
 Told are names that don't exist (any more), crates of crates.txt without a section, sections without such a crate, rules that stand twice or
@@ -22,7 +22,7 @@ from typing import NamedTuple
 ROOT = Path(__file__).resolve().parent.parent
 MOST = 140
 PARTS = ["defined", "carried by", "tested", "refused"]
-# How the name of a crate ends that has the tests of another one.
+# How the name of a crate ends that has the tests of others.
 APART = "_tests"
 
 SECTION = re.compile(r"## `(\w+)`: \S.*")
@@ -166,8 +166,8 @@ def definitions(crate, module):
 
 @cache
 def tests(crate):
-    """The functions under #[test] of a crate, and of the crate of its tests where they stand apart."""
-    homes = [home for home in (crate, crate + APART) if home in listed_crates()]
+    """The functions under #[test] of a crate, and of the crates of tests that use it."""
+    homes = [home for home in listed_crates() if home == crate or home.endswith(APART) and crate in uses(home)]
     return {name for home in homes for text in sources(home, True) for name in TEST.findall(text)}
 
 
@@ -248,10 +248,20 @@ def promising(call):
 
 
 @cache
+def lines_of_crates():
+    """The lines of crates.txt, by crate."""
+    lines = (ROOT / "crates.txt").read_text(encoding="utf-8").splitlines()
+    return {line.split(":")[0]: line.split(":")[1].split() for line in lines if line and not line.startswith("#")}
+
+
 def listed_crates():
     """The crates of crates.txt."""
-    lines = (ROOT / "crates.txt").read_text(encoding="utf-8").splitlines()
-    return [line.split(":")[0] for line in lines if line and not line.startswith("#")]
+    return list(lines_of_crates())
+
+
+def uses(crate):
+    """The crates that a crate uses."""
+    return lines_of_crates()[crate]
 
 
 # ---- names
@@ -349,7 +359,8 @@ def compare_crates(page):
         if not any(rule.crate == crate for rule in page.rules):
             page.tell(number, f"{crate} has no rule")
     for crate in listed:
-        if crate not in told and crate.removesuffix(APART) not in told:
+        # A crate of tests has no rules of its own, and no more has a program, whose calls are those of the libraries below it.
+        if crate not in told and not crate.endswith(APART) and exported(crate) is not None:
             page.tell(0, f"{crate} stands in crates.txt and has no section")
 
 

@@ -60,6 +60,7 @@ TOO_LONG = b"jorazhil: the input is longer than 16777216 bytes; nothing was writ
 GATE_OR_COMMAND = b"`gate`, `to` or a command: `at` or `block`"
 ACT = b"`tempo`, `force`, `request`, `play`, `stop` or `look`"
 BLOCK_ACT = b"`tempo`, `play` or `stop`"
+MOMENT = b"a moment from 0 to 36028797018963968 microseconds"
 EVENT = b"an event: `rx`, `tick`, `app`, `audio` or `end`"
 
 
@@ -75,7 +76,16 @@ def at_fault(line, column, expected, found):
 TEXTS = [
     ([], HEAD, 2, words_at_fault(b"no command was given", COMMANDS)),
     (["listen"], HEAD, 2, words_at_fault(b'"listen" is no command', COMMANDS)),
+    ([""], HEAD, 2, words_at_fault(b'"" is no command', COMMANDS)),
+    (["Replay"], HEAD, 2, words_at_fault(b'"Replay" is no command', COMMANDS)),
+    (["decoder"], HEAD, 2, words_at_fault(b'"decoder" is no command', COMMANDS)),
+    (["loads", "7", "5"], b"", 2, words_at_fault(b'"loads" is no command', COMMANDS)),
     (["--help"], HEAD, 2, words_at_fault(b"a runtime for tempo sessions", COMMANDS)),
+    (["--version"], HEAD, 2, words_at_fault(b"a runtime for tempo sessions", COMMANDS)),
+    (["replay", "--"], HEAD, 2, words_at_fault(b'"--" is one word too many: replay takes no other word, and reads standard input', REPLAY)),
+    (["decode", "replay"], HEAD, 2, words_at_fault(b'"replay" is one word too many: decode takes no other word, and reads standard input', DECODE)),
+    (["decode", ""], HEAD, 2, words_at_fault(b'"" is one word too many: decode takes no other word, and reads standard input', DECODE)),
+    (["decode", "--help"], b"00\n", 2, words_at_fault(b"decode reads standard input", DECODE)),
     (["replay", "x"], HEAD, 2, words_at_fault(b'"x" is one word too many: replay takes no other word, and reads standard input', REPLAY)),
     (["decode", "x"], b"00\n", 2, words_at_fault(b'"x" is one word too many: decode takes no other word, and reads standard input', DECODE)),
     (["replay", "--help"], HEAD, 2, words_at_fault(b"replay reads standard input", REPLAY)),
@@ -100,6 +110,7 @@ TEXTS = [
     (["live", "--quantum", "-1"], LINK, 2, words_at_fault(b"unexpected argument '-1' found", LIVE)),
     (["live", "--event", "5"], LINK, 2, words_at_fault(b"unexpected argument '--event' found", LIVE)),
     (["live", "x"], LINK, 2, words_at_fault(b"unexpected argument 'x' found", LIVE)),
+    (["live", "--record", "x"], LINK, 2, words_at_fault(b"unexpected argument 'x' found", LIVE)),
     (["live", "--record", "--record"], LINK, 2, words_at_fault(b"the argument '--record' cannot be used multiple times", LIVE)),
     (["replay"], b"replay 2\n", 8, at_fault(1, 8, b"`replay 1`", b'"2"')),
     (["replay"], b"replay 1\n", 8, at_fault(2, 1, b"`node` and a node's id, seed, tempo, sync and opening moment", b"the end of the text")),
@@ -110,8 +121,10 @@ TEXTS = [
         at_fault(2, 17, b"a tempo from 60060 to 3000000 microseconds per beat", b'"60059"'),
     ),
     (["replay"], b"# a comment\n\n" + HEAD.replace(b":20809", b""), 8, at_fault(5, 6, b"an endpoint as in 127.0.0.1:20808", b'"127.0.0.1"')),
+    (["replay"], HEAD.replace(b":20809", b""), 8, at_fault(3, 6, b"an endpoint as in 127.0.0.1:20808", b'"127.0.0.1"')),
+    (["replay"], HEAD + b"# twice\nend 1\nend\n", 8, at_fault(6, 4, MOMENT, b"the end of the line")),
     (["replay"], HEAD + b"tick 5\nwait 5\n", 8, at_fault(5, 1, EVENT, b'"wait"')),
-    (["replay"], HEAD + b"tick 5\r\n", 8, at_fault(4, 7, b"a moment from 0 to 36028797018963968 microseconds", b"a carriage return (lines end in line feeds alone)")),
+    (["replay"], HEAD + b"tick 5\r\n", 8, at_fault(4, 7, MOMENT, b"a carriage return (lines end in line feeds alone)")),
     (["live"], b"", 8, at_fault(1, 1, b"`link 1`", b"the end of the text")),
     (["live"], b"replay 1\n", 8, at_fault(1, 1, b"`link 1`", b'"replay"')),
     (["live"], b"link 1\nat x tempo\n", 8, at_fault(2, 1, b"`setup` and a tempo and a sync", b'"at"')),
@@ -121,6 +134,7 @@ TEXTS = [
     (["live"], LINK + b"block 0 play\n", 8, at_fault(4, 7, b"the number of a block from 1 to 524288", b'"0"')),
     (["live"], LINK + LOOK * 4097, 10, TOO_MANY),
     (["live"], LINK + b"#" * 16_777_216, 10, TOO_LONG),
+    (["decode"], b"00\n000", 8, at_fault(2, 4, b"a second hex digit for the last byte", b"the end of the line")),
     (["decode"], b"0\n", 8, at_fault(1, 2, b"a second hex digit for the last byte", b"the end of the line")),
     (["decode"], b"00\n\n0g\n", 8, at_fault(3, 2, b"a hex digit", b'"g"')),
     (["decode"], b"00\n0\xff00\n", 8, at_fault(2, 2, b"a hex digit", b'"\\xff"')),
@@ -128,9 +142,66 @@ TEXTS = [
 ]
 
 
+# Words that set up no live run, whatever is told of each.
+NO_LIVE_RUN = [
+    [],
+    [""],
+    ["load"],
+    ["lives"],
+    ["LIVE"],
+    ["--record", "live"],
+    ["live", "--events", "0"],
+    ["live", "--events", "524289"],
+    ["live", "--events", "18446744073709551616"],
+    ["live", "--blocks", "524289"],
+    ["live", "--quantum", "1099511627777"],
+    ["live", "--events", "7", "--events", "8"],
+    ["live", "--events=7", "--events=7"],
+    ["live", "--quantum", "1", "--blocks", "2", "--quantum", "1"],
+    ["live", "--events"],
+    ["live", "--events="],
+    ["live", "--events", ""],
+    ["live", "--events", "--blocks", "5"],
+    ["live", "--events", "--"],
+    ["live", "--events", "--", "5"],
+    ["live", "--events", "-5"],
+    ["live", "--events=-5"],
+    ["live", "--quantum=-0"],
+    ["live", "--events", "five"],
+    ["live", "--events", "1e3"],
+    ["live", "--events", "0x7"],
+    ["live", "--events", "7.0"],
+    ["live", "--events", "1_000"],
+    ["live", "--events", " 7"],
+    ["live", "--events", "5", "6"],
+    ["live", "x"],
+    ["live", "live"],
+    ["live", ""],
+    ["live", "-"],
+    ["live", "--", "x"],
+    ["live", "--", "--record"],
+    ["live", "--record", "--record"],
+    ["live", "--record=x"],
+    ["live", "--record=true"],
+    ["live", "--event", "7"],
+    ["live", "--help"],
+    ["live", "-V"],
+]
+
+
 def run(program, words, **streams):
     done = subprocess.run([program, *words], stderr=subprocess.PIPE, timeout=60, check=False, **streams)
     return done.returncode, done.stdout, done.stderr
+
+
+def no_live_runs(program):
+    """Words behind which nothing is read or written, and something is told."""
+    for words in NO_LIVE_RUN:
+        status, output, error = run(program, words, input=LINK + LOOK, stdout=subprocess.PIPE)
+        yield f"{words}", (status, output, error[:10], b"\n\nUsage: jorazhil " in error), (2, b"", b"jorazhil: ", True)
+    # A commit that says no tempo, behind one that is right.
+    status, output, error = run(program, ["live"], input=LINK + LOOK + b"at 0 tempo\n", stdout=subprocess.PIPE)
+    yield "a tempo without its number", (status, output, error[:18]), (8, b"", b"jorazhil: line 5, ")
 
 
 def read_failures(program):
@@ -162,9 +233,9 @@ def write_failures(program):
 def live_failures(program):
     """A live run goes on without the port or the device that failed, and past a full journal, and tells how much there was."""
 
-    def begins(name, script, words, wanted, error=subprocess.PIPE):
-        done = subprocess.run([program, "live", *words], input=script, stdout=subprocess.PIPE, stderr=error, timeout=60, check=False)
-        return f"live {name}", (done.returncode, done.stdout[: len(wanted[1])], done.stderr), wanted
+    def begins(name, script, words, wanted):
+        status, output, error = run(program, ["live", *words], input=script, stdout=subprocess.PIPE)
+        return f"live {name}", (status, output[: len(wanted[1])], error), wanted
 
     # No event but the opening tick and the end, and no block.
     without_port = 3, b"# live 2 1 0 1 0 0 0 0\n# state 0 500000 0 ", PORT
@@ -184,7 +255,11 @@ def live_failures(program):
         # The first click comes at once and can't be told, with which the blocks end.
         with open("/dev/full", "wb") as full:
             script = LINK.replace(b"500000", b"60060") + b"at 0 play\n"
-            yield begins("whose clicks can't be told", script, ["--blocks", "500"], (4, b"# live ", None), full)
+            done = subprocess.run([program, "live", "--blocks", "500"], input=script, stdout=subprocess.PIPE, stderr=full, timeout=60, check=False)
+            told = done.stdout.split() + [b"0"] * 10
+            reads, plays = told[4], told[8]
+            found = done.returncode, done.stdout[:7], plays
+            yield "live whose clicks can't be told", found, (4, b"# live ", b"%d" % (int(reads) - 1))
 
 
 def pipe_closed_after(program, count):
@@ -212,6 +287,7 @@ def main(program):
     for words, text, status, error in TEXTS:
         found = run(program, words, input=text, stdout=subprocess.PIPE)
         results.append((f"{words} on {text[-40:]!r}", found, (status, b"", error)))
+    results += no_live_runs(program)
     results += read_failures(program)
     results += write_failures(program)
     results += live_failures(program)

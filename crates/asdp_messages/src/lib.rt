@@ -9,8 +9,6 @@ mod header;
 mod laws;
 mod message;
 mod read;
-#[cfg(test)]
-mod tests;
 mod write;
 
 pub use fault::WireFault;

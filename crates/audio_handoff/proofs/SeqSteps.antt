@@ -98,8 +98,13 @@ no_reads row = record {
 no_rows_yet : (width : ℕ) (words : List ℕ) (views : List Known) (id : ℕ) → Running width words views → get_elem? views id ≡ some Blank → ⊥
 no_rows_yet width words views id r at = r.each_seat id Blank at
 
+pub begins : (width : ℕ) (words : List ℕ) → length words ≡ 16 → Kept width words (Blank ∷ [])
+unfolding Kept
+begins width words long = (long, inl refl)
+
 module _ (width id : ℕ) where
   pub opens : (view : Known) (words : List ℕ) → view ≡ Blank → length words ≡ 16 → number_of words ≡ 0 → Turns (Kept width) id view (λ _. words) (Opened width)
+  unfolding Kept
   opens view words is long number x views (_, inr r) at = absurd (no_rows_yet width x views id r (at ∙ ap some is))
   opens view words is long number x views (_, inl alone) at =
       let row : List ℕ = row_of width words in
@@ -130,6 +135,7 @@ module _ (width id : ℕ) where
       other_seat j u apart e = apart (only_zero j u (ap (λ l. get_elem? l j) (sym alone) ∙ e) ∙ sym (only_zero id view (ap (λ l. get_elem? l id) (sym alone) ∙ at)))
 
   pub parts : (view : Known) → view ≡ Both (rows_in view) (reader_in view) → Forks (Kept width) id view (parted_left view) (parted_right view)
+  unfolding Kept
   parts view is x views (long, inl alone) at = let e = blank_alone views id (Both (rows_in view) (reader_in view)) alone (at ∙ ap some is) in absurd (cc)
   parts view is x views (long, inr r) at =
       let mine = r.each_seat id (Both (rows_in view) (reader_in view)) (at ∙ ap some is) in
@@ -143,13 +149,14 @@ module _ (width id : ℕ) where
             (λ j u apart e. not_an_end r.made r.reader r.writer_seat r.reader_seat id (length vs) j u (λ s. apart (s ∙ sym mine.0)) (λ s. apart (s ∙ sym mine.1)) (r.each_seat j u e))))),
       )
 
-  pub publishes : (view : Known) (words row : List ℕ) (count : ℕ) → view ≡ Writes (rows_in view) → length words ≡ 16 → number_of words ≡ count → length (rows_in view) ≡ count → count < 2 ^ 60 → Turns (Kept width) id view (λ _. words) (Published width)
-  publishes view words row count is long number made_is room x views (_, inl alone) at = let e = blank_alone views id (Writes (rows_in view)) alone (at ∙ ap some is) in absurd (cc)
-  publishes view words row count is long number made_is room x views (_, inr r) at =
+  pub publishes : (view : Known) (words : List ℕ) → view ≡ Writes (rows_in view) → length words ≡ 16 → number_of words ≡ length (rows_in view) → length (rows_in view) < 2 ^ 60 → Turns (Kept width) id view (λ _. words) (Published width)
+  unfolding Kept
+  publishes view words is long number room x views (_, inl alone) at = let e = blank_alone views id (Writes (rows_in view)) alone (at ∙ ap some is) in absurd (cc)
+  publishes view words is long number room x views (_, inr r) at =
       let mine = r.each_seat id (Writes (rows_in view)) (at ∙ ap some is) in
       let new : List ℕ = row_of width words in
       let reads = r.reads_agree in
-      let here : length r.made ≡ count = ap length (sym mine.1) ∙ made_is in
+      let here : length r.made ≡ length (rows_in view) = ap length (sym mine.1) in
       let more = length-append r.made (new ∷ []) in
       let w : Known = Writes (rows_in view ++ new ∷ []) in (
         w,
@@ -201,6 +208,7 @@ module _ (width id : ℕ) where
       }
 
   pub reads : (view : Known) → view ≡ Reads (reader_in view) → Turns (Kept width) id view (λ x. x) (WasRead width)
+  unfolding Kept
   reads view is x views (long, inl alone) at = let e = blank_alone views id (Reads (reader_in view)) alone (at ∙ ap some is) in absurd (cc)
   reads view is x views (long, inr r) at =
       let mine = r.each_seat id (Reads (reader_in view)) (at ∙ ap some is) in
@@ -233,6 +241,7 @@ module _ (width id : ℕ) where
   -- a seat's view stays, and a new seat fits
   kept_beside : (view right : Known) (x : List ℕ) (views : List Known) (r : Running width x views) → get_elem? views id ≡ some view → length x ≡ 16
       → ((at : ℕ) → FitsSeat r.made r.reader r.writer_seat r.reader_seat at right) → Kept width x (set views id view ++ right ∷ [])
+  unfolding Kept
   kept_beside view right x views r at long fits =
       let F : ℕ → Known → Type 0 = FitsSeat r.made r.reader r.writer_seat r.reader_seat in (
         long,
@@ -241,6 +250,7 @@ module _ (width id : ℕ) where
       )
 
   notes_writer : (rows : List (List ℕ)) → Forks (Kept width) id (Writes rows) (noted_left (Writes rows)) (noted_right (Writes rows))
+  unfolding Kept
   notes_writer rows x views (long, inl alone) at = let e = blank_alone views id (Writes rows) alone at in absurd (cc)
   notes_writer rows x views (long, inr r) at =
       let mine = r.each_seat id (Writes rows) at in
@@ -249,6 +259,7 @@ module _ (width id : ℕ) where
       kept_beside (Writes rows) _ x views r at long (λ _. (omega arith, grows_none r.reader.seen))
 
   notes_reader : (reader : ReaderKnown) → Forks (Kept width) id (Reads reader) (noted_left (Reads reader)) (noted_right (Reads reader))
+  unfolding Kept
   notes_reader reader x views (long, inl alone) at = let e = blank_alone views id (Reads reader) alone at in absurd (cc)
   notes_reader reader x views (long, inr r) at =
       let mine = r.each_seat id (Reads reader) at in
@@ -256,10 +267,12 @@ module _ (width id : ℕ) where
       (λ _. (subst (λ (k : ReaderKnown). k.number < length r.made) (sym mine.1) r.reads_agree.number_was_made, subst (λ (k : ReaderKnown). Grows k.seen r.reader.seen) (sym mine.1) (grows_self r.reader.seen)))
 
   notes_note : (note : NoteKnown) → Forks (Kept width) id (Notes note) (noted_left (Notes note)) (noted_right (Notes note))
+  unfolding Kept
   notes_note note x views (long, inl alone) at = let e = blank_alone views id (Notes note) alone at in absurd (cc)
   notes_note note x views (long, inr r) at = let mine = r.each_seat id (Notes note) at in kept_beside (Notes note) _ x views r at long (λ _. mine)
 
   moves_note : (note : NoteKnown) → Forks (Kept width) id (Notes note) Spent (Notes note)
+  unfolding Kept
   moves_note note x views (long, inl alone) at = let e = blank_alone views id (Notes note) alone at in absurd (cc)
   moves_note note x views (long, inr r) at =
       let mine = r.each_seat id (Notes note) at in
@@ -270,6 +283,7 @@ module _ (width id : ℕ) where
       )
 
   moves_reader : (reader : ReaderKnown) → Forks (Kept width) id (Reads reader) Spent (Reads reader)
+  unfolding Kept
   moves_reader reader x views (long, inl alone) at = let e = blank_alone views id (Reads reader) alone at in absurd (cc)
   moves_reader reader x views (long, inr r) at =
       let mine = r.each_seat id (Reads reader) at in
@@ -282,6 +296,7 @@ module _ (width id : ℕ) where
       )
 
   tells_reader : (other : ℕ) (reader : ReaderKnown) (note : NoteKnown) → Merges (Kept width) id (Reads reader) other (Notes note) (Reads (after_tell reader note)) Spent
+  unfolding Kept
   tells_reader other reader note x views (long, inl alone) at apart there = let e = blank_alone views id (Reads reader) alone at in absurd (cc)
   tells_reader other reader note x views (long, inr r) at apart there =
       let mine = r.each_seat id (Reads reader) at in
@@ -317,6 +332,7 @@ module _ (width id : ℕ) where
       )
 
   settles_ends : (other : ℕ) (rows : List (List ℕ)) (reader : ReaderKnown) → Merges (Kept width) id (Writes rows) other (Reads reader) (Both rows reader) Spent
+  unfolding Kept
   settles_ends other rows reader x views (long, inl alone) at apart there = let e = blank_alone views id (Writes rows) alone at in absurd (cc)
   settles_ends other rows reader x views (long, inr r) at apart there =
       let mine = r.each_seat id (Writes rows) at in
@@ -333,6 +349,7 @@ module _ (width id : ℕ) where
       )
 
   pub checks : (view : Known) → view ≡ Reads (reader_in view) → Turns (Kept width) id view (λ x. x) Checked
+  unfolding Kept
   checks view is x views (long, inl alone) at = let e = blank_alone views id (Reads (reader_in view)) alone (at ∙ ap some is) in absurd (cc)
   checks view is x views (long, inr r) at =
       let mine = r.each_seat id (Reads (reader_in view)) (at ∙ ap some is) in (
@@ -346,6 +363,7 @@ module _ (width id : ℕ) where
       )
 
   pub ends : (view : Known) → view ≡ Both (rows_in view) (reader_in view) → Turns (Kept width) id view (λ x. x) (Ended width)
+  unfolding Kept
   ends view is x views (long, inl alone) at = let e = blank_alone views id (Both (rows_in view) (reader_in view)) alone (at ∙ ap some is) in absurd (cc)
   ends view is x views (long, inr r) at =
       let mine = r.each_seat id (Both (rows_in view) (reader_in view)) (at ∙ ap some is) in

@@ -113,8 +113,8 @@ pub record Running (width : ℕ) (words : List ℕ) (views : List Known) : Type 
   pub numbers_fit : length made ≤ 2 ^ 60
   pub each_seat : (at : ℕ) (view : Known) → get_elem? views at ≡ some view → FitsSeat made reader writer_seat reader_seat at view
 
--- before the opening row there is the first pass alone
-abbrev pub Kept : ℕ → List ℕ → List Known → Type 0
+-- Before the opening row there is the first pass alone. It stays shut where the steps are proved, so that goals stay small
+unfoldable pub Kept : ℕ → List ℕ → List Known → Type 0
 Kept width words views = (length words ≡ 16) × ((views ≡ Blank ∷ []) ⊎ Running width words views)
 
 abbrev pub Opened : ℕ → Known → List ℕ → List ℕ → Known → Type 0

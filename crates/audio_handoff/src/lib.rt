@@ -1,6 +1,6 @@
 //! The cells through which one thread hands whole rows of words to another, and what every such cell promises.
 //!
-//! In reading order: `cell`, `seq_state`, and of it `plays`.
+//! In reading order: `cell`, `seq_state`, and of it `plays` and `keeps`.
 #![tactic(auto)]
 
 mod cell;

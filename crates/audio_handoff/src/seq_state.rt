@@ -7,11 +7,16 @@ ghost use Rattle.audio_handoff.specs.SeqRule.{RestsAsWriter, RestsAsReader, Rest
 
 use crate::cell::{Read, StateCell};
 use crossbeam_utils::atomic::seq_cell::{Pass, RuledSeqCell};
+use keeps::{
+    may_begin, may_check, may_end, may_move_note, may_move_reader, may_open, may_part, may_publish,
+    may_read, may_settle, may_tell,
+};
 use plays::{Check, End, Known, LastRow, Look, Note, Open, Part, Publish, Settle, Tell, Whole};
 use std::alloc::{AllocError, Global};
 use std::marker::PhantomData;
 use std::sync::Wait;
 
+mod keeps;
 mod plays;
 
 /// A cell of rows of `W` words, from 1 to 15. A call that reads or writes the words may wait for another one, through
@@ -87,8 +92,13 @@ impl<R: Wait, const W: usize> StateCell<W> for SeqState<R, W> {
         way: &R,
         row: &[u64],
     ) -> Result<(SeqState<R, W>, SeqWriter, SeqReader), AllocError> {
-        let (cell, mut pass) = RuledSeqCell::ruled(alloc, [0u64; 16])?;
-        cell.swap_as::<Open<W>, R>(way, &mut pass, words_of(row, 0));
+        let empty = [0u64; 16];
+        may_begin::<W>(&empty);
+        let (cell, mut pass) = RuledSeqCell::ruled(alloc, empty)?;
+        let words = words_of(row, 0);
+        may_open::<W>(&pass, &words);
+        cell.swap_as::<Open<W>, R>(way, &mut pass, words);
+        may_part::<W>(&pass);
         let reader = cell.split_pass::<Part>(&mut pass);
         Ok((
             SeqState {
@@ -106,8 +116,9 @@ impl<R: Wait, const W: usize> StateCell<W> for SeqState<R, W> {
     fn publish(&self, way: &R, writer: &mut SeqWriter, row: &[u64; W]) -> u64 {
         let SeqWriter { made, pass } = writer;
         let number = *made;
-        self.cell
-            .swap_as::<Publish<W>, R>(way, pass, words_of(row, number));
+        let words = words_of(row, number);
+        may_publish::<W>(pass, &words);
+        self.cell.swap_as::<Publish<W>, R>(way, pass, words);
         *made = number + 1;
         number
     }
@@ -118,6 +129,7 @@ impl<R: Wait, const W: usize> StateCell<W> for SeqState<R, W> {
 
     fn read(&self, way: &R, reader: &mut SeqReader) -> Read<W> {
         let SeqReader { number, pass } = reader;
+        may_read::<W>(pass);
         let words = self.cell.load_as::<Look<W>, R>(way, pass);
         *number = words[15];
         let mut row = [0u64; W];
@@ -129,6 +141,7 @@ impl<R: Wait, const W: usize> StateCell<W> for SeqState<R, W> {
     }
 
     /// It never takes memory.
+    #[tactic(auto, using(crate::proofs::SeqSteps::notes_of_writer))]
     fn note_of_writer(
         &self,
         _alloc: Global,
@@ -148,6 +161,7 @@ impl<R: Wait, const W: usize> StateCell<W> for SeqState<R, W> {
     }
 
     /// It never takes memory.
+    #[tactic(auto, using(crate::proofs::SeqSteps::notes_of_reader))]
     fn note_of_reader(
         &self,
         _alloc: Global,
@@ -167,6 +181,7 @@ impl<R: Wait, const W: usize> StateCell<W> for SeqState<R, W> {
     }
 
     /// It never takes memory.
+    #[tactic(auto, using(crate::proofs::SeqSteps::copies_note))]
     fn copy_note(&self, _alloc: Global, _way: &R, note: &mut SeqNote) -> Result<SeqNote, AllocError>
         requires { note.old.pass.table_id ≡ self.now.cell.table.shared.table_id }
         ensures made { IsOk result }
@@ -182,8 +197,11 @@ impl<R: Wait, const W: usize> StateCell<W> for SeqState<R, W> {
     fn tell(&self, way: &R, reader: &mut SeqReader, note: SeqNote) {
         let SeqReader { number: _, pass } = reader;
         let SeqNote { pass: mut noted } = note;
+        may_move_note::<W>(&noted);
         let whole = self.cell.split_pass::<Whole>(&mut noted);
+        may_tell::<W>(pass, &whole);
         self.cell.join_pass::<Tell>(pass, whole);
+        may_check::<W>(pass);
         self.cell.load_as::<Check, R>(way, pass);
     }
 
@@ -193,8 +211,11 @@ impl<R: Wait, const W: usize> StateCell<W> for SeqState<R, W> {
             number: _,
             pass: mut read,
         } = reader;
+        may_move_reader::<W>(&read);
         let whole = self.cell.split_pass::<Whole>(&mut read);
+        may_settle::<W>(&pass, &whole);
         self.cell.join_pass::<Settle>(&mut pass, whole);
+        may_end::<W>(&pass);
         let words = self.cell.load_as::<End<W>, R>(way, &mut pass);
         let mut row = [0u64; W];
         row.copy_from_slice(&words[..W]);

@@ -10,8 +10,6 @@ mod laws;
 mod own;
 mod starts;
 mod state;
-#[cfg(test)]
-mod tests;
 mod timelines;
 mod words;
 

@@ -5,8 +5,6 @@
 
 mod laws;
 mod median;
-#[cfg(test)]
-mod tests;
 mod xform;
 
 pub use laws::{near_points_tell_a_near_offset, one_value_a_rank, order_does_not_matter};

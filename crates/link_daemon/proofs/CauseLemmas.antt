@@ -5,7 +5,7 @@ use Rattle.lk_outside.specs.Faults.{Rose}
 use Rattle.lk_outside.specs.Source.{Takes, IsAtEnd}
 use Rattle.lk_outside.specs.Transfer.{TakesOver}
 use Rattle.link_daemon.specs.OneStatus.{End}
-use Rattle.link_daemon.specs.Statuses.{Stream, WasRead}
+use Rattle.link_commands.specs.Statuses.{Stream, WasRead}
 
 -- ---- the first cause
 

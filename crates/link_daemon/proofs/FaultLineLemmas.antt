@@ -3,11 +3,11 @@ use Rattle.std.proofs.Common.{◌≡◌, sym, ◌∙◌, arith, ℕ, ◌<◌, Li
 use Rattle.std.proofs.lemmas.List.{append_assoc}
 use Rattle.std.proofs.lemmas.List.Elements.{All-head, All-same}
 use Rattle.link_text.specs.ReplayScript.{IsFirstFault}
-use Rattle.link_daemon.specs.HexLines.{IsHexLine, IsFirstBadLine}
-use Rattle.link_daemon.specs.Statuses.{replay_command, decode_command}
+use Rattle.link_commands.specs.HexLines.{IsHexLine, IsFirstBadLine}
+use Rattle.link_commands.specs.Statuses.{replay_command, decode_command}
 use Rattle.link_daemon.specs.OneStatus.{HasOneFaultLine}
-use Rattle.link_daemon.proofs.HexLineLemmas.{bad_line}
-use Rattle.link_daemon.proofs.DecodeLemmas.{all_back}
+use Rattle.link_commands.proofs.HexLineLemmas.{bad_line}
+use Rattle.link_commands.proofs.DecodeLemmas.{all_back}
 
 -- of two places in a list, the lines before the later one have the line at the earlier one among them
 earlier : (a b as_ bs : List (List ℕ)) (x y : List ℕ) → a ++ x ∷ as_ ≡ b ++ y ∷ bs → length a < length b

@@ -15,17 +15,17 @@ use Rattle.link_live.specs.Headline.{LiveSetup}
 use Rattle.link_daemon.specs.LiveEnds.{EndsLive, EndsRun, IsReplayable, IsSetUp}
 use Rattle.link_live.specs.LiveRun.{EndsLiveRun, setup_of, told_of}
 use Rattle.link_daemon.specs.LiveSetup.{IsRead, config_from, setup_from, status_from}
-use Rattle.link_daemon.specs.LiveWords.{NamesLive}
+use Rattle.link_words.specs.LiveWords.{NamesLive}
 use Rattle.link_daemon.specs.Outside.{AudioSeen, Outside, PortSeen}
 use Rattle.link_live.specs.Report.{IsCleared, ReportValue}
 use Rattle.link_daemon.specs.ReportText.{live_text_of}
-use Rattle.link_daemon.specs.Statuses.{Stream, WritesPart, WritesWhole}
+use Rattle.link_commands.specs.Statuses.{Stream, WritesPart, WritesWhole}
 use Rattle.link_live.specs.declared.run.LiveEnd.{LiveEnd}
 use Rattle.link_live.specs.declared.run.LiveEnd.TheVariants as end
 use Rattle.link_live.specs.declared.run.LiveRun.{LiveRun}
-use Rattle.link_daemon.specs.declared.live_words.LiveOptions.{LiveOptions}
-use Rattle.link_daemon.specs.declared.status.Status.{Status}
-use Rattle.link_daemon.specs.declared.status.Status.TheVariants as status
+use Rattle.link_words.specs.declared.live_words.LiveOptions.{LiveOptions}
+use Rattle.link_commands.specs.declared.status.Status.{Status}
+use Rattle.link_commands.specs.declared.status.Status.TheVariants as status
 use Rattle.link_daemon.proofs.RecordLemmas.{is_config, is_head, whole_record}
 
 -- what holds where a result is a success, by whether it is one
@@ -180,8 +180,4 @@ was_run words seed input input' before after cleared options script status.Memor
   is.read.quiet,
   inr (options, setup_from seed options script, set_up words seed input input' options script named is, record { run = ends.run; written = ends.written; replayable = ends.replayable }),
 )
-was_run words seed input input' before after cleared options script status.Words named is empty never = absurd never
-was_run words seed input input' before after cleared options script status.Input named is empty never = absurd never
-was_run words seed input input' before after cleared options script (status.Script g line reason) named is empty never = absurd never
-was_run words seed input input' before after cleared options script (status.TooLong limit) named is empty never = absurd never
-was_run words seed input input' before after cleared options script (status.TooMany limit) named is empty never = absurd never
+was_run words seed input input' before after cleared options script other named is empty never = absurd never

@@ -9,14 +9,14 @@ use Rattle.link_text.specs.LiveScript.{IsFirstLiveFault, IsLiveLineFault, IsSome
 use Rattle.link_live.specs.Headline.{LiveSetup}
 use Rattle.link_live.specs.Journal.{has_ended}
 use Rattle.link_daemon.specs.LiveEnds.{EndsLive, EndsRun, IsSetUp, ReadsLiveFault, ReadsTooMany, Runs}
-use Rattle.link_daemon.specs.LiveWords.{IsLive}
+use Rattle.link_words.specs.LiveWords.{IsLive}
 use Rattle.link_daemon.specs.Outside.{Outside}
-use Rattle.link_daemon.specs.declared.live_words.LiveOptions.{LiveOptions}
-use Rattle.link_daemon.specs.declared.status.Grammar.{Grammar}
-use Rattle.link_daemon.specs.declared.status.Grammar.TheVariants as grammar
-use Rattle.link_daemon.specs.declared.status.Status.{Status}
-use Rattle.link_daemon.specs.declared.status.Status.TheVariants as status
-use Rattle.link_daemon.specs.Statuses.{Stream, WasRead}
+use Rattle.link_words.specs.declared.live_words.LiveOptions.{LiveOptions}
+use Rattle.link_commands.specs.declared.status.Grammar.{Grammar}
+use Rattle.link_commands.specs.declared.status.Grammar.TheVariants as grammar
+use Rattle.link_commands.specs.declared.status.Status.{Status}
+use Rattle.link_commands.specs.declared.status.Status.TheVariants as status
+use Rattle.link_commands.specs.Statuses.{Stream, WasRead}
 use Rattle.link_daemon.specs.OneStatus.{CanFail, End, end_of, IsTold, HasOneLiveFaultLine}
 use Rattle.link_daemon.proofs.CauseLemmas.{First, here, later, IsOne, first_is_one, rose_and_quiet, one_read, more_and_whole}
 
@@ -125,11 +125,7 @@ run_cause setup recorded before after status.Done can some_memory ended =
     (later (λ goes_on. ended_and_not (has_ended after.report.events) ended.run.2.journal.ended goes_on)
     (later (λ rose. rose_and_quiet _ _ can.out_counts rose ended.written.quiet) refl)))
 run_cause setup recorded before after status.Memory can some_memory ended = absurd (some_memory refl)
-run_cause setup recorded before after status.Words can some_memory never = absurd never
-run_cause setup recorded before after status.Input can some_memory never = absurd never
-run_cause setup recorded before after (status.Script g line reason) can some_memory never = absurd never
-run_cause setup recorded before after (status.TooLong limit) can some_memory never = absurd never
-run_cause setup recorded before after (status.TooMany limit) can some_memory never = absurd never
+run_cause setup recorded before after other can some_memory never = absurd never
 
 module _ (words : List (String Global)) (seed : ℕ) (input input' : Stream) (before after : Outside) (tells : IsTold input)
     (can : CanFail before) where
@@ -170,12 +166,8 @@ module _ (words : List (String Global)) (seed : ℕ) (input input' : Stream) (be
       read_so faulty.bytes (end_of (status.Script g line reason)) live faulty.read
       (later (λ many. many_and_few input input' faulty.bytes tells.told many faulty.read faulty.few)
       (here (line, faulty) (ap (λ (in_ : Grammar). end_of (status.Script in_ line reason)) same_grammar)))
-  live_cause status.Port some_memory runs = runs_so status.Port some_memory runs
-  live_cause status.Audio some_memory runs = runs_so status.Audio some_memory runs
-  live_cause status.Events some_memory runs = runs_so status.Events some_memory runs
-  live_cause status.Sink some_memory runs = runs_so status.Sink some_memory runs
-  live_cause status.Done some_memory runs = runs_so status.Done some_memory runs
   live_cause status.Memory some_memory ended = absurd (some_memory refl)
+  live_cause end some_memory runs = runs_so end some_memory runs
 
 -- one live run
 pub one_live : HasOneLiveFaultLine → (words : List (String Global)) (seed : ℕ) (input input' : Stream) (before after : Outside)

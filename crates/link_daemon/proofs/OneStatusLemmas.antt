@@ -1,22 +1,24 @@
 -- The causes of two statuses never hold together.
-use Rattle.std.proofs.Common.{◌≡◌, ◌≢◌, inl, inr, ◌<◌, ◌-◌, ◌^◌, List, ℕ, Some, None, IsSome, refl, ap, sym, subst, ◌∙◌}
+use Rattle.std.proofs.Common.{◌≡◌, ◌≢◌, inl, inr, ◌<◌, ◌-◌, ◌^◌, List, ℕ, Option, Some, None, IsSome, refl, ap, sym, subst, ◌∙◌}
 use Rattle.std.specs.declared.alloc.Global.{Global}
 use Rattle.std.specs.declared.string.String.{String}
 use Rattle.lk_outside.specs.Faults.{Rose}
 use Rattle.lk_outside.specs.Transfer.{TakesOver}
-use Rattle.link_daemon.specs.Ends.{Ends}
-use Rattle.link_daemon.specs.LoadWords.{IsLoad}
+use Rattle.link_words.specs.CommandNames.{Names, named_by}
+use Rattle.link_words.specs.declared.command_name.CommandName.{CommandName}
+use Rattle.link_words.specs.declared.command_name.CommandName.TheVariants as name
+use Rattle.link_daemon.specs.Ends.{EndsNamed}
+use Rattle.link_words.specs.LoadWords.{IsLoad}
 use Rattle.link_daemon.specs.Outside.{Outside}
-use Rattle.link_daemon.specs.declared.status.Grammar.{Grammar}
-use Rattle.link_daemon.specs.declared.status.Status.{Status}
-use Rattle.link_daemon.specs.declared.status.Status.TheVariants as status
-use Rattle.link_daemon.specs.Statuses.{Command, Stream, Names, ReadsText, ReadsFault, EndsBy, EndsLoad, replay_command, decode_command}
+use Rattle.link_commands.specs.declared.status.Grammar.{Grammar}
+use Rattle.link_commands.specs.declared.status.Status.{Status}
+use Rattle.link_commands.specs.declared.status.Status.TheVariants as status
+use Rattle.link_commands.specs.Statuses.{Command, Stream, ReadsText, ReadsFault, EndsBy, EndsInput, EndsLoad, replay_command, decode_command}
 use Rattle.link_daemon.specs.OneStatus.{CanFail, End, end_of, IsTold, HasOneStatus, HasOneFaultLine, HasOneLiveFaultLine}
 use Rattle.link_daemon.proofs.CauseLemmas.{First, here, later, IsOne, first_is_one, rose_and_quiet, one_read, more_and_whole}
-use Rattle.link_daemon.proofs.HexLineLemmas.{bad_and_decoded}
+use Rattle.link_commands.proofs.HexLineLemmas.{bad_and_decoded}
 use Rattle.link_daemon.proofs.FaultLineLemmas.{IsFaultOnce, one_script_fault, one_bad_line}
 use Rattle.link_daemon.proofs.LiveStatusLemmas.{one_live}
-use Rattle.link_daemon.proofs.NamedLemmas.{as_replay, as_decode, as_load, as_live, as_unnamed}
 
 -- a text for which a command gives an output has no fault
 abbrev pub AreExclusive : Command → Type 0
@@ -73,64 +75,64 @@ one_read_end command once input input' out out' tells =
     (one_line command once p.0 q.0 input input' tells p.1 q.1))
     (one_write_end out out')
 
--- the causes of a command in their order
-abbrev CommandCauses : Command → List (String Global) → Stream → Stream → Stream → Stream → End → Type 0
-CommandCauses command words input input' out out' =
-    First (Names command words → ⊥) (λ cause. end_of status.Words)
-    (First (Rose input.faults input'.faults) (λ cause. end_of status.Input)
+-- the causes of a command in their order, behind its words
+abbrev InputCauses : Command → Stream → Stream → Stream → Stream → End → Type 0
+InputCauses command input input' out out' =
+    First (Rose input.faults input'.faults) (λ cause. end_of status.Input)
     (First (TakesOver command.limit input.told input'.told) (λ cause. end_of (status.TooLong command.limit))
-    (ReadCauses command input input' out out')))
+    (ReadCauses command input input' out out'))
 
-one_command_end : (command : Command) → HasOneFaultLine command → (words : List (String Global)) (input input' out out' : Stream)
-    → IsSome input.told → IsOne (CommandCauses command words input input' out out')
-one_command_end command once words input input' out out' tells =
-    first_is_one (Names command words → ⊥) (λ cause. end_of status.Words) _ (λ p q. refl)
+abbrev CommandCauses : CommandName → Command → List (String Global) → Stream → Stream → Stream → Stream → End → Type 0
+CommandCauses named command words input input' out out' =
+    First (Names named words → ⊥) (λ cause. end_of status.Words) (InputCauses command input input' out out')
+
+one_command_end : (named : CommandName) (command : Command) → HasOneFaultLine command → (words : List (String Global))
+    (input input' out out' : Stream) → IsSome input.told → IsOne (CommandCauses named command words input input' out out')
+one_command_end named command once words input input' out out' tells =
+    first_is_one (Names named words → ⊥) (λ cause. end_of status.Words) _ (λ p q. refl)
     (first_is_one (Rose input.faults input'.faults) (λ cause. end_of status.Input) _ (λ p q. refl)
     (first_is_one (TakesOver command.limit input.told input'.told) (λ cause. end_of (status.TooLong command.limit)) _ (λ p q. refl)
     (one_read_end command once input input' out out' tells)))
 
-module _ (command : Command) (exclusive : AreExclusive command) (words : List (String Global)) (input input' out out' : Stream)
+module _ (command : Command) (exclusive : AreExclusive command) (input input' out out' : Stream)
     (tells : IsTold input) (counts : out.faults < 2 ^ 64 - 1) where
   -- what follows a text with an output
-  read_so : (end : End) (output : List ℕ) → Names command words → ReadsText command input input' output → WriteCauses out out' end
-      → CommandCauses command words input input' out out' end
-  read_so end output named reads more =
-      later (λ unnamed. unnamed named)
-      (later (λ rose. rose_and_quiet _ _ tells.counts rose reads.read.quiet)
+  read_so : (end : End) (output : List ℕ) → ReadsText command input input' output → WriteCauses out out' end
+      → InputCauses command input input' out out' end
+  read_so end output reads more =
+      later (λ rose. rose_and_quiet _ _ tells.counts rose reads.read.quiet)
       (later (λ over. more_and_whole _ _ _ _ tells.told over reads.read)
-      (later (λ fault. fault_and_output command exclusive _ _ _ _ tells.told fault.1 reads) more)))
+      (later (λ fault. fault_and_output command exclusive _ _ _ _ tells.told fault.1 reads) more))
 
-  command_cause : (end : Status) → end ≢ status.Memory → EndsBy command words input input' out out' end
-      → CommandCauses command words input input' out out' (end_of end)
-  command_cause status.Words some_memory (unnamed, same_in, same_out) = here unnamed refl
-  command_cause status.Input some_memory (named, rose, few, same_out) = later (λ unnamed. unnamed named) (here rose refl)
-  command_cause (status.TooLong limit) some_memory (named, same_limit, over, quiet, same_out) =
-      later (λ unnamed. unnamed named)
-      (later (λ rose. rose_and_quiet _ _ tells.counts rose quiet) (here over (ap (λ (most : ℕ). end_of (status.TooLong most)) same_limit)))
-  command_cause (status.Script g line reason) some_memory (named, same_grammar, reads, same_out) =
-      later (λ unnamed. unnamed named)
-      (later (λ rose. rose_and_quiet _ _ tells.counts rose reads.read.quiet)
+  input_cause : (end : Status) → end ≢ status.Memory → EndsInput command input input' out out' end
+      → InputCauses command input input' out out' (end_of end)
+  input_cause status.Input some_memory (rose, few, same_out) = here rose refl
+  input_cause (status.TooLong limit) some_memory (same_limit, over, quiet, same_out) =
+      later (λ rose. rose_and_quiet _ _ tells.counts rose quiet) (here over (ap (λ (most : ℕ). end_of (status.TooLong most)) same_limit))
+  input_cause (status.Script g line reason) some_memory (same_grammar, reads, same_out) =
+      later (λ rose. rose_and_quiet _ _ tells.counts rose reads.read.quiet)
       (later (λ over. more_and_whole _ _ _ _ tells.told over reads.read)
-      (here (line, reads) (ap (λ (in_ : Grammar). end_of (status.Script in_ line reason)) same_grammar))))
-  command_cause status.Sink some_memory (named, (output, reads, wrote)) =
-      read_so (end_of status.Sink) output named reads (here wrote.rose refl)
-  command_cause status.Done some_memory (named, (output, reads, wrote)) =
-      read_so (end_of status.Done) output named reads (later (λ rose. rose_and_quiet _ _ counts rose wrote.quiet) refl)
-  command_cause status.Memory some_memory ends = absurd (some_memory refl)
-  command_cause status.Port some_memory never = absurd never
-  command_cause status.Audio some_memory never = absurd never
-  command_cause status.Events some_memory never = absurd never
-  command_cause (status.TooMany limit) some_memory never = absurd never
+      (here (line, reads) (ap (λ (in_ : Grammar). end_of (status.Script in_ line reason)) same_grammar)))
+  input_cause status.Sink some_memory (output, reads, wrote) = read_so (end_of status.Sink) output reads (here wrote.rose refl)
+  input_cause status.Done some_memory (output, reads, wrote) =
+      read_so (end_of status.Done) output reads (later (λ rose. rose_and_quiet _ _ counts rose wrote.quiet) refl)
+  input_cause status.Memory some_memory ends = absurd (some_memory refl)
+  input_cause other some_memory never = absurd never
+
+  command_cause : (named : CommandName) (words : List (String Global)) (end : Status) → end ≢ status.Memory
+      → EndsBy named command words input input' out out' end → CommandCauses named command words input input' out out' (end_of end)
+  command_cause named words end some_memory (inl (taken, ends)) = later (λ untaken. untaken taken) (input_cause end some_memory ends)
+  command_cause named words end some_memory (inr untaken) = here untaken.other_words (ap end_of untaken.words_at_fault)
 
 -- one run of one command
-one_of : (command : Command) → AreExclusive command → HasOneFaultLine command → (words : List (String Global))
+one_of : (named : CommandName) (command : Command) → AreExclusive command → HasOneFaultLine command → (words : List (String Global))
     (input input' out out' : Stream) (one other : Status) → IsTold input → out.faults < 2 ^ 64 - 1 → one ≢ status.Memory → other ≢ status.Memory
-    → EndsBy command words input input' out out' one → EndsBy command words input input' out out' other
+    → EndsBy named command words input input' out out' one → EndsBy named command words input input' out out' other
     → end_of one ≡ end_of other
-one_of command exclusive once words input input' out out' one other tells counts not_one not_other ends ends' =
-    one_command_end command once words input input' out out' tells.told (end_of one) (end_of other)
-    (command_cause command exclusive words input input' out out' tells counts one not_one ends)
-    (command_cause command exclusive words input input' out out' tells counts other not_other ends')
+one_of named command exclusive once words input input' out out' one other tells counts not_one not_other ends ends' =
+    one_command_end named command once words input input' out out' tells.told (end_of one) (end_of other)
+    (command_cause command exclusive input input' out out' tells counts named words one not_one ends)
+    (command_cause command exclusive input input' out out' tells counts named words other not_other ends')
 
 -- ---- a load
 
@@ -145,13 +147,7 @@ load_cause words out out' status.Sink counts some_memory (seed, count, named, (o
 load_cause words out out' status.Done counts some_memory (seed, count, named, (output, text, wrote)) =
     later (λ unnamed. unnamed named.load) (later (λ rose. rose_and_quiet _ _ counts rose wrote.quiet) refl)
 load_cause words out out' status.Memory counts some_memory ends = absurd (some_memory refl)
-load_cause words out out' status.Input counts some_memory never = absurd never
-load_cause words out out' (status.Script g line reason) counts some_memory never = absurd never
-load_cause words out out' status.Port counts some_memory never = absurd never
-load_cause words out out' status.Audio counts some_memory never = absurd never
-load_cause words out out' status.Events counts some_memory never = absurd never
-load_cause words out out' (status.TooLong limit) counts some_memory never = absurd never
-load_cause words out out' (status.TooMany limit) counts some_memory never = absurd never
+load_cause words out out' other counts some_memory never = absurd never
 
 -- one run of a load
 one_load : (words : List (String Global)) (out out' : Stream) (one other : Status)
@@ -168,23 +164,19 @@ one_load words out out' one other counts not_one not_other ends ends' =
 module _ (law : IsFaultOnce) (live_law : HasOneLiveFaultLine) (words : List (String Global)) (seed : ℕ) (input input' : Stream)
     (before after : Outside) (one other : Status) (tells : IsTold input) (can : CanFail before) (not_one : one ≢ status.Memory)
     (not_other : other ≢ status.Memory) where
-  one_end : Ends words seed input input' before after one → Ends words seed input input' before after other → end_of one ≡ end_of other
-  one_end (inl (named, (ends, aside))) ends' =
-      one_of replay_command replay_exclusive (one_script_fault law) words input input' before.out after.out one other tells can.out_counts
-      not_one not_other ends (as_replay words seed input input' before after other named ends')
-  one_end (inr (inl (named, (ends, aside)))) ends' =
-      one_of decode_command decode_exclusive one_bad_line words input input' before.out after.out one other tells can.out_counts
-      not_one not_other ends (as_decode words seed input input' before after other named ends')
-  one_end (inr (inr (inl (begun, (ends, unread, aside))))) ends' =
-      one_load words before.out after.out one other can.out_counts not_one not_other ends
-      (as_load words seed input input' before after other begun ends')
-  one_end (inr (inr (inr (inl (begun, ends))))) ends' =
-      one_live live_law words seed input input' before after one other tells can not_one not_other ends
-      (as_live words seed input input' before after other begun ends')
-  one_end (inr (inr (inr (inr unnamed)))) ends' =
-      ap end_of
-      (unnamed.words_at_fault
-      ∙ sym (as_unnamed words seed input input' before after other unnamed.no_replay unnamed.no_decode unnamed.no_load unnamed.no_live ends'))
+  one_end : (found : Option CommandName) → EndsNamed found words seed input input' before after one
+      → EndsNamed found words seed input input' before after other → end_of one ≡ end_of other
+  one_end (Some name.Replay) (ends, aside) (ends', aside') =
+      one_of name.Replay replay_command replay_exclusive (one_script_fault law) words input input' before.out after.out one other tells
+      can.out_counts not_one not_other ends ends'
+  one_end (Some name.Decode) (ends, aside) (ends', aside') =
+      one_of name.Decode decode_command decode_exclusive one_bad_line words input input' before.out after.out one other tells
+      can.out_counts not_one not_other ends ends'
+  one_end (Some name.Load) (ends, unread, aside) (ends', unread', aside') =
+      one_load words before.out after.out one other can.out_counts not_one not_other ends ends'
+  one_end (Some name.Live) ends ends' = one_live live_law words seed input input' before after one other tells can not_one not_other ends ends'
+  one_end None ends ends' = ap end_of (ends.words_at_fault ∙ sym ends'.words_at_fault)
 
 pub one_status : IsFaultOnce → HasOneLiveFaultLine → HasOneStatus
-one_status law live_law = one_end law live_law
+one_status law live_law words seed input input' before after one other tells can not_one not_other =
+    one_end law live_law words seed input input' before after one other tells can not_one not_other (named_by words)

@@ -16,11 +16,11 @@ use Rattle.link_node.specs.Event.{EventValue}
 use Rattle.link_text.specs.GateLines.{destination_line}
 use Rattle.link_text.specs.ReplayScript.{ended, event_line, gate_lines, head_lines, written_script_of}
 use Rattle.link_text.specs.ReplayText.{state_line_of}
-use Rattle.link_daemon.specs.Outlet.{HandsOver, HandsPart}
+use Rattle.link_commands.specs.Outlet.{HandsOver, HandsPart}
 use Rattle.link_live.specs.Report.{ReportValue}
 use Rattle.link_daemon.specs.ReportText.{last_state_text_of, live_line_of, live_text_of}
-use Rattle.link_daemon.proofs.OutletLemmas.{hands_both, part_after, part_of_more}
-use Rattle.link_daemon.proofs.ReplayLemmas.{HasHandedEach, each_next, each_part}
+use Rattle.link_commands.proofs.OutletLemmas.{hands_both, part_after, part_of_more}
+use Rattle.link_commands.proofs.ReplayLemmas.{HasHandedEach, each_next, each_part}
 
 -- ---- how many there are in all
 

@@ -1,5 +1,5 @@
 -- A valid input is answered by its output, unless there is no memory.
-use Rattle.std.proofs.Common.{◌≡◌, ◌⊎◌, inl, inr, ◌++◌, ◌<◌, ◌≤◌, length, List, ℕ, Option, Some, None, refl, subst, ap, arith, length-append}
+use Rattle.std.proofs.Common.{◌≡◌, ◌⊎◌, inl, inr, ◌++◌, ◌<◌, ◌≤◌, length, List, [], ℕ, Option, Some, None, refl, subst, ap, arith, length-append}
 use Rattle.std.specs.declared.alloc.Global.{Global}
 use Rattle.std.specs.declared.string.String.{String}
 use Rattle.lk_outside.specs.Faults.{Rose}
@@ -8,15 +8,18 @@ use Rattle.lk_outside.specs.Transfer.{TakesOver}
 use Rattle.link_text.specs.Lines.{lines_of}
 use Rattle.link_text.specs.LiveScript.{IsSomeLiveScript, commands_told}
 use Rattle.link_daemon.specs.LiveEnds.{EndsLive, ReadsLiveFault, ReadsTooMany}
-use Rattle.link_daemon.specs.LiveWords.{IsLive}
-use Rattle.link_daemon.specs.LoadWords.{IsLoad}
+use Rattle.link_words.specs.LiveWords.{IsLive}
+use Rattle.link_words.specs.LoadWords.{IsLoad}
 use Rattle.link_daemon.specs.Outside.{Outside}
-use Rattle.link_daemon.specs.declared.status.Status.{Status}
-use Rattle.link_daemon.specs.declared.status.Status.TheVariants as status
-use Rattle.link_daemon.specs.Statuses.{Command, Stream, Names, EndsBy, EndsLoad, ReadsFault, replay_command, decode_command}
+use Rattle.link_commands.specs.declared.status.Status.{Status}
+use Rattle.link_commands.specs.declared.status.Status.TheVariants as status
+use Rattle.link_commands.specs.Statuses.{Command, Stream, EndsBy, EndsInput, EndsLoad, ReadsFault, replay_command, decode_command}
+use Rattle.link_words.specs.CommandNames.{Names}
+use Rattle.link_words.specs.declared.command_name.CommandName.{CommandName}
+use Rattle.link_words.specs.declared.command_name.CommandName.TheVariants as name
 use Rattle.link_daemon.specs.ValidInput.{IsValidFor, IsValidLive, CompletesLive, CompletesLoad, CompletesValid, CompleteValid}
 use Rattle.link_daemon.proofs.CauseLemmas.{told_is_read}
-use Rattle.link_daemon.proofs.NamedLemmas.{as_replay, as_decode, as_load, as_live}
+use Rattle.link_daemon.proofs.StatusLemmas.{as_named}
 use Rattle.link_daemon.proofs.OneStatusLemmas.{AreExclusive, replay_exclusive, decode_exclusive}
 
 -- what is taken is no more than what was told
@@ -44,33 +47,34 @@ valid_and_fault command exclusive input input' line valid faulty =
     exclusive faulty.bytes valid.output line faulty.fault
     (let P : List ℕ → Type 0 = λ bytes. command.Gives bytes valid.output in subst P same valid.gives)
 
-module _ (command : Command) (exclusive : AreExclusive command) (words : List (String Global)) (input input' out out' : Stream)
-    (named : Names command words) (valid : IsValidFor command input) (reads : Rose input.faults input'.faults → ⊥)
+module _ (command : Command) (exclusive : AreExclusive command) (input input' out out' : Stream)
+    (valid : IsValidFor command input) (reads : Rose input.faults input'.faults → ⊥)
     (writes : Rose out.faults out'.faults → ⊥) where
-  completes_by : (end : Status) → EndsBy command words input input' out out' end → (end ≡ status.Done) ⊎ (end ≡ status.Memory)
-  completes_by status.Done ends = inl refl
-  completes_by status.Memory ends = inr refl
-  completes_by status.Words (unnamed, same_in, same_out) = absurd (unnamed named)
-  completes_by status.Input (named', rose, few, same_out) = absurd (reads rose)
-  completes_by status.Sink (named', (output, read, wrote)) = absurd (writes wrote.rose)
-  completes_by (status.Script g line reason) (named', same_grammar, faulty, same_out) =
+  completes_input : (end : Status) → EndsInput command input input' out out' end → (end ≡ status.Done) ⊎ (end ≡ status.Memory)
+  completes_input status.Done ends = inl refl
+  completes_input status.Memory ends = inr refl
+  completes_input status.Input (rose, few, same_out) = absurd (reads rose)
+  completes_input status.Sink (output, read, wrote) = absurd (writes wrote.rose)
+  completes_input (status.Script g line reason) (same_grammar, faulty, same_out) =
       absurd (valid_and_fault command exclusive input input' line valid faulty)
-  completes_by (status.TooLong limit) (named', same_limit, over, quiet, same_out) =
+  completes_input (status.TooLong limit) (same_limit, over, quiet, same_out) =
       absurd (within_and_over command.limit valid.bytes input input'.told valid.told valid.within over)
-  completes_by status.Port never = absurd never
-  completes_by status.Audio never = absurd never
-  completes_by status.Events never = absurd never
-  completes_by (status.TooMany limit) never = absurd never
+  completes_input other never = absurd never
 
-completes_replay : CompletesValid replay_command
+  completes_by : (named : CommandName) (words : List (String Global)) (end : Status) → Names named words
+      → EndsBy named command words input input' out out' end → (end ≡ status.Done) ⊎ (end ≡ status.Memory)
+  completes_by named words end taken (inl (taken', ends)) = completes_input end ends
+  completes_by named words end taken (inr untaken) = absurd (untaken.other_words taken)
+
+completes_replay : CompletesValid name.Replay replay_command
 completes_replay words seed input input' before after end named valid reads writes ends =
-    completes_by replay_command replay_exclusive words input input' before.out after.out named valid reads writes end
-    (as_replay words seed input input' before after end named ends)
+    completes_by replay_command replay_exclusive input input' before.out after.out valid reads writes name.Replay words end named
+    (as_named words name.Replay seed input input' before after end ([], named) ends).0
 
-completes_decode : CompletesValid decode_command
+completes_decode : CompletesValid name.Decode decode_command
 completes_decode words seed input input' before after end named valid reads writes ends =
-    completes_by decode_command decode_exclusive words input input' before.out after.out named valid reads writes end
-    (as_decode words seed input input' before after end named ends)
+    completes_by decode_command decode_exclusive input input' before.out after.out valid reads writes name.Decode words end named
+    (as_named words name.Decode seed input input' before after end ([], named) ends).0
 
 -- ---- a load
 
@@ -80,17 +84,11 @@ load_ends words out out' status.Done load writes ends = inl refl
 load_ends words out out' status.Memory load writes ends = inr refl
 load_ends words out out' status.Words load writes (unnamed, same_out) = absurd (unnamed load)
 load_ends words out out' status.Sink load writes (seed, count, named, (output, text, wrote)) = absurd (writes wrote.rose)
-load_ends words out out' status.Input load writes never = absurd never
-load_ends words out out' (status.Script g line reason) load writes never = absurd never
-load_ends words out out' status.Port load writes never = absurd never
-load_ends words out out' status.Audio load writes never = absurd never
-load_ends words out out' status.Events load writes never = absurd never
-load_ends words out out' (status.TooLong limit) load writes never = absurd never
-load_ends words out out' (status.TooMany limit) load writes never = absurd never
+load_ends words out out' other load writes never = absurd never
 
 completes_load : CompletesLoad
 completes_load words seed input input' before after end load writes ends =
-    load_ends words before.out after.out end load writes (as_load words seed input input' before after end load.0 ends)
+    load_ends words before.out after.out end load writes (as_named words name.Load seed input input' before after end load.0 ends).0
 
 -- ---- a live run
 
@@ -127,7 +125,7 @@ module _ (words : List (String Global)) (seed : ℕ) (input input' : Stream) (be
 completes_live : CompletesLive
 completes_live words seed input input' before after end live valid reads posts plays writes ends =
     live_ends words seed input input' before after live valid reads posts plays writes end
-    (as_live words seed input input' before after end live.0 ends)
+    (as_named words name.Live seed input input' before after end live.0 ends)
 
 pub complete_valid : CompleteValid
 complete_valid = (completes_replay, (completes_decode, (completes_load, completes_live)))

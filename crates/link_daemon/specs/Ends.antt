@@ -1,21 +1,18 @@
 -- How a call of the program may end: as the command that its words name does.
-use Rattle.std.specs.Prelude.{◌≡◌, ◌⊎◌, ℕ, List}
+use Rattle.std.specs.Prelude.{◌≡◌, ℕ, List, Option, Some, None}
 use Rattle.std.specs.declared.alloc.Global.{Global}
 use Rattle.std.specs.declared.string.String.{String}
+use Rattle.link_words.specs.CommandNames.{named_by}
+use Rattle.link_words.specs.declared.command_name.CommandName.{CommandName}
+use Rattle.link_words.specs.declared.command_name.CommandName.TheVariants as name
+use Rattle.link_commands.specs.Statuses.{Stream, EndsDecode, EndsLoad, EndsReplay}
+use Rattle.link_commands.specs.declared.status.Status.{Status}
+use Rattle.link_commands.specs.declared.status.Status.TheVariants as status
 use Rattle.link_daemon.specs.LiveEnds.{EndsLive}
-use Rattle.link_daemon.specs.LiveWords.{BeginsLive}
-use Rattle.link_daemon.specs.LoadWords.{BeginsLoad}
 use Rattle.link_daemon.specs.Outside.{Outside}
-use Rattle.link_daemon.specs.Statuses.{Stream, Names, EndsDecode, EndsLoad, EndsReplay, decode_command, replay_command}
-use Rattle.link_daemon.specs.declared.status.Status.{Status}
-use Rattle.link_daemon.specs.declared.status.Status.TheVariants as status
 
 -- the words name no command, and no object was called
-pub record EndsUnnamed (words : List (String Global)) (input input' : Stream) (before after : Outside) (end : Status) : Type 0 where
-  pub no_replay : Names replay_command words → ⊥
-  pub no_decode : Names decode_command words → ⊥
-  pub no_load : BeginsLoad words → ⊥
-  pub no_live : BeginsLive words → ⊥
+pub record EndsUnnamed (input input' : Stream) (before after : Outside) (end : Status) : Type 0 where
   pub words_at_fault : end ≡ status.Words
   pub unread : input' ≡ input
   pub untouched : after ≡ before
@@ -27,11 +24,16 @@ pub record IsAside (before after : Outside) : Type 0 where
   pub late_stays : after.late ≡ before.late
   pub report_stays : after.report ≡ before.report
 
--- a run is that of the command that its words name, and of none where they name none
+-- a run is that of the command that the first of its words names, and of none where it names none
+abbrev pub EndsNamed : Option CommandName → List (String Global) → ℕ → Stream → Stream → Outside → Outside → Status → Type 0
+EndsNamed (Some name.Replay) words seed input input' before after end =
+    EndsReplay words input input' before.out after.out end × IsAside before after
+EndsNamed (Some name.Decode) words seed input input' before after end =
+    EndsDecode words input input' before.out after.out end × IsAside before after
+EndsNamed (Some name.Load) words seed input input' before after end =
+    EndsLoad words before.out after.out end × (input' ≡ input) × IsAside before after
+EndsNamed (Some name.Live) words seed input input' before after end = EndsLive words seed input input' before after end
+EndsNamed None words seed input input' before after end = EndsUnnamed input input' before after end
+
 abbrev pub Ends : List (String Global) → ℕ → Stream → Stream → Outside → Outside → Status → Type 0
-Ends words seed input input' before after end =
-    (Names replay_command words × (EndsReplay words input input' before.out after.out end × IsAside before after))
-    ⊎ ((Names decode_command words × (EndsDecode words input input' before.out after.out end × IsAside before after))
-    ⊎ ((BeginsLoad words × (EndsLoad words before.out after.out end × (input' ≡ input) × IsAside before after))
-    ⊎ ((BeginsLive words × EndsLive words seed input input' before after end)
-    ⊎ EndsUnnamed words input input' before after end)))
+Ends words = EndsNamed (named_by words) words

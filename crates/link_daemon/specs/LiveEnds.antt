@@ -13,17 +13,17 @@ use Rattle.link_text.specs.LiveScript.{IsLiveLineFault, IsLiveText, commands_tol
 use Rattle.link_text.specs.ReplayScript.{IsScriptOf}
 use Rattle.link_live.specs.Headline.{LiveSetup}
 use Rattle.link_live.specs.LiveRun.{EndsLiveRun}
-use Rattle.link_daemon.specs.LiveWords.{BeginsLive, IsLive, NamesLive}
+use Rattle.link_words.specs.LiveWords.{BeginsLive, IsLive, NamesLive}
 use Rattle.link_daemon.specs.Outside.{Outside}
 use Rattle.link_live.specs.Report.{IsCleared, ReportValue}
 use Rattle.link_daemon.specs.ReportText.{live_text_of}
-use Rattle.link_daemon.specs.Statuses.{Stream, WasRead, WritesPart, WritesSome, WritesWhole}
+use Rattle.link_commands.specs.Statuses.{Stream, WasRead, WritesPart, WritesSome, WritesWhole}
 use Rattle.link_live.specs.declared.run.LiveEnd.{LiveEnd}
 use Rattle.link_live.specs.declared.run.LiveEnd.TheVariants as end
-use Rattle.link_daemon.specs.declared.live_words.LiveOptions.{LiveOptions}
-use Rattle.link_daemon.specs.declared.status.Grammar.TheVariants as grammar
-use Rattle.link_daemon.specs.declared.status.Status.{Status}
-use Rattle.link_daemon.specs.declared.status.Status.TheVariants as status
+use Rattle.link_words.specs.declared.live_words.LiveOptions.{LiveOptions}
+use Rattle.link_commands.specs.declared.status.Grammar.TheVariants as grammar
+use Rattle.link_commands.specs.declared.status.Status.{Status}
+use Rattle.link_commands.specs.declared.status.Status.TheVariants as status
 
 -- ---- a run that was begun
 
@@ -65,11 +65,7 @@ EndsRun setup recorded before after status.Port = HasEndedRun setup recorded bef
 EndsRun setup recorded before after status.Audio = HasEndedRun setup recorded before after end.Audio WritesSome
 EndsRun setup recorded before after status.Events = HasEndedRun setup recorded before after end.Events WritesSome
 EndsRun setup recorded before after status.Memory = Stays before after ⊎ HasEndedRun setup recorded before after end.Memory WritesSome
-EndsRun setup recorded before after status.Words = ⊥
-EndsRun setup recorded before after status.Input = ⊥
-EndsRun setup recorded before after (status.Script g line reason) = ⊥
-EndsRun setup recorded before after (status.TooLong limit) = ⊥
-EndsRun setup recorded before after (status.TooMany limit) = ⊥
+EndsRun setup recorded before after other = ⊥
 
 -- ---- a script that was read, or not
 
@@ -95,12 +91,7 @@ EndsRead input input' (status.TooMany limit) = (limit ≡ 4_096) × ReadsTooMany
 EndsRead input input' (status.Script g line reason) = (g ≡ grammar.LiveScript) × ReadsLiveFault input input' line
 -- want of memory may come of any text
 EndsRead input input' status.Memory = TakesWithin (16_777_216 + 65_536) input.told input'.told × (input'.faults ≡ input.faults)
-EndsRead input input' status.Done = ⊥
-EndsRead input input' status.Sink = ⊥
-EndsRead input input' status.Port = ⊥
-EndsRead input input' status.Audio = ⊥
-EndsRead input input' status.Events = ⊥
-EndsRead input input' status.Words = ⊥
+EndsRead input input' other = ⊥
 
 -- ---- the command
 
@@ -120,11 +111,6 @@ pub record Runs (words : List (String Global)) (seed : ℕ) (input input' : Stre
 
 -- What `live` did with these words and this seed between `input`, `before` and `input'`, `after`.
 abbrev pub EndsLive : List (String Global) → ℕ → Stream → Stream → Outside → Outside → Status → Type 0
-EndsLive words seed input input' before after status.Done = Runs words seed input input' before after status.Done
-EndsLive words seed input input' before after status.Sink = Runs words seed input input' before after status.Sink
-EndsLive words seed input input' before after status.Port = Runs words seed input input' before after status.Port
-EndsLive words seed input input' before after status.Audio = Runs words seed input input' before after status.Audio
-EndsLive words seed input input' before after status.Events = Runs words seed input input' before after status.Events
 EndsLive words seed input input' before after status.Words = (IsLive words → ⊥) × (input' ≡ input) × IsNotBegun before after
 EndsLive words seed input input' before after status.Input = IsLive words × EndsRead input input' status.Input × IsNotBegun before after
 EndsLive words seed input input' before after (status.TooLong limit) =
@@ -139,17 +125,13 @@ EndsLive words seed input input' before after status.Memory =
     × (IsNotBegun before after
     ⊎ ((options : LiveOptions) × (setup : LiveSetup) × IsSetUp words seed input input' options setup
     × HasEndedRun setup options.«record» before after end.Memory WritesSome))
+EndsLive words seed input input' before after other = Runs words seed input input' before after other
 
 -- what holds where no run was begun, whatever the memory
 abbrev pub IfNotBegun : Status → Type 0 → Type 0
-IfNotBegun status.Done P = Unit {0}
-IfNotBegun status.Sink P = Unit {0}
-IfNotBegun status.Port P = Unit {0}
-IfNotBegun status.Audio P = Unit {0}
-IfNotBegun status.Events P = Unit {0}
-IfNotBegun status.Memory P = Unit {0}
 IfNotBegun status.Words P = P
 IfNotBegun status.Input P = P
 IfNotBegun (status.Script g line reason) P = P
 IfNotBegun (status.TooLong limit) P = P
 IfNotBegun (status.TooMany limit) P = P
+IfNotBegun other P = Unit {0}

@@ -8,12 +8,12 @@ use Rattle.link_text.specs.LiveScript.{IsLiveText, commands_told}
 use Rattle.link_text.specs.declared.live_script.LiveScript.{LiveScript}
 use Rattle.link_live.specs.Headline.{LiveSetup}
 use Rattle.link_live.specs.LiveRun.{setup_of}
-use Rattle.link_daemon.specs.Statuses.{Stream, WasRead}
+use Rattle.link_commands.specs.Statuses.{Stream, WasRead}
 use Rattle.link_live.specs.declared.run.LiveEnd.{LiveEnd}
 use Rattle.link_live.specs.declared.run.LiveEnd.TheVariants as end
-use Rattle.link_daemon.specs.declared.live_words.LiveOptions.{LiveOptions}
-use Rattle.link_daemon.specs.declared.status.Status.{Status}
-use Rattle.link_daemon.specs.declared.status.Status.TheVariants as status
+use Rattle.link_words.specs.declared.live_words.LiveOptions.{LiveOptions}
+use Rattle.link_commands.specs.declared.status.Status.{Status}
+use Rattle.link_commands.specs.declared.status.Status.TheVariants as status
 
 -- the node's config: its id is the first that the seed gives
 abbrev pub config_from : ℕ → LiveScript → ConfigValue

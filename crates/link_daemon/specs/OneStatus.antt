@@ -3,12 +3,12 @@ use Rattle.std.specs.Prelude.{◌≡◌, ◌≢◌, ◌<◌, ◌^◌, ◌-◌, �
 use Rattle.std.specs.declared.alloc.Global.{Global}
 use Rattle.std.specs.declared.string.String.{String}
 use Rattle.link_text.specs.LiveScript.{IsLiveLineFault}
-use Rattle.link_daemon.specs.declared.status.Grammar.{Grammar}
-use Rattle.link_daemon.specs.declared.status.Status.{Status}
-use Rattle.link_daemon.specs.declared.status.Status.TheVariants as status
+use Rattle.link_commands.specs.declared.status.Grammar.{Grammar}
+use Rattle.link_commands.specs.declared.status.Status.{Status}
+use Rattle.link_commands.specs.declared.status.Status.TheVariants as status
 use Rattle.link_daemon.specs.Ends.{Ends}
 use Rattle.link_daemon.specs.Outside.{Outside}
-use Rattle.link_daemon.specs.Statuses.{Command, Stream, replay_command, decode_command}
+use Rattle.link_commands.specs.Statuses.{Command, Stream, status_number_of, replay_command, decode_command}
 
 -- a stream that tells what it holds, and whose count of failures can still rise
 pub record IsTold (s : Stream) : Type 0 where
@@ -24,15 +24,8 @@ pub record End : Type 0 where
 abbrev pub end_of : Status → End
 end_of (status.Script g line reason) = record { number = 8; fault = Some (g, line); limit = None }
 end_of (status.TooLong limit) = record { number = 10; fault = None; limit = Some limit }
-end_of status.Done = record { number = 0; fault = None; limit = None }
-end_of status.Words = record { number = 2; fault = None; limit = None }
-end_of status.Input = record { number = 5; fault = None; limit = None }
-end_of status.Sink = record { number = 7; fault = None; limit = None }
 end_of (status.TooMany limit) = record { number = 10; fault = None; limit = Some limit }
-end_of status.Port = record { number = 3; fault = None; limit = None }
-end_of status.Audio = record { number = 4; fault = None; limit = None }
-end_of status.Events = record { number = 6; fault = None; limit = None }
-end_of status.Memory = record { number = 9; fault = None; limit = None }
+end_of other = record { number = status_number_of other; fault = None; limit = None }
 
 -- the counts of failures can still rise
 pub record CanFail (outside : Outside) : Type 0 where

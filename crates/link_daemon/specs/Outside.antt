@@ -4,7 +4,7 @@ use Rattle.lk_base.specs.declared.endpoint.Endpoint.{Endpoint}
 use Rattle.lk_outside.specs.Audio.{AudioContents}
 use Rattle.lk_outside.specs.Port.{PortContents}
 use Rattle.link_live.specs.Report.{ReportValue}
-use Rattle.link_daemon.specs.Statuses.{Stream}
+use Rattle.link_commands.specs.Statuses.{Stream, seen}
 
 -- a port's contents where it tells them, the local endpoints of its gates, and its count of failures
 pub record PortSeen : Type 0 where
@@ -30,3 +30,15 @@ pub record Outside : Type 0 where
   pub late : Option ℤ
   pub out : Stream
   pub report : ReportValue
+
+-- what is seen of a port, a device, a pace and an output, by what their traits tell, beside the report
+abbrev pub outside_of : {P A T K : Type 0}
+    → (P → Option PortContents) → (P → List Endpoint) → (P → ℕ) → (A → Option AudioContents) → (A → ℕ) → (T → Option ℤ)
+    → (K → Option (List ℕ)) → (K → ℕ) → P → A → T → K → ReportValue → Outside
+outside_of port_told gates port_faults audio_told audio_faults late out_told out_faults p a t k report = record {
+  port = seen_port port_told gates port_faults p;
+  audio = seen_audio audio_told audio_faults a;
+  late = late t;
+  out = seen out_told out_faults k;
+  report = report;
+}

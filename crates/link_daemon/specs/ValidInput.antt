@@ -5,13 +5,16 @@ use Rattle.std.specs.declared.string.String.{String}
 use Rattle.lk_outside.specs.Faults.{Rose}
 use Rattle.link_text.specs.Lines.{lines_of}
 use Rattle.link_text.specs.LiveScript.{IsSomeLiveScript, commands_told}
-use Rattle.link_daemon.specs.LoadWords.{IsLoad}
-use Rattle.link_daemon.specs.declared.status.Status.{Status}
-use Rattle.link_daemon.specs.declared.status.Status.TheVariants as status
+use Rattle.link_words.specs.LoadWords.{IsLoad}
+use Rattle.link_commands.specs.declared.status.Status.{Status}
+use Rattle.link_commands.specs.declared.status.Status.TheVariants as status
 use Rattle.link_daemon.specs.Ends.{Ends}
-use Rattle.link_daemon.specs.LiveWords.{IsLive}
+use Rattle.link_words.specs.LiveWords.{IsLive}
 use Rattle.link_daemon.specs.Outside.{Outside}
-use Rattle.link_daemon.specs.Statuses.{Command, Stream, Names, replay_command, decode_command}
+use Rattle.link_commands.specs.Statuses.{Command, Stream, replay_command, decode_command}
+use Rattle.link_words.specs.CommandNames.{Names}
+use Rattle.link_words.specs.declared.command_name.CommandName.{CommandName}
+use Rattle.link_words.specs.declared.command_name.CommandName.TheVariants as name
 
 -- the input tells a text within the limit, for which the command gives an output
 pub record IsValidFor (command : Command) (input : Stream) : Type 0 where
@@ -22,10 +25,10 @@ pub record IsValidFor (command : Command) (input : Stream) : Type 0 where
   pub gives : command.Gives bytes output
 
 -- Where the words name the command, the input is valid and no count rose, all is done, or there was no memory.
-abbrev pub CompletesValid : Command → Type 0
-CompletesValid command =
+abbrev pub CompletesValid : CommandName → Command → Type 0
+CompletesValid named command =
     (words : List (String Global)) (seed : ℕ) (input input' : Stream) (before after : Outside) (end : Status)
-    → Names command words → IsValidFor command input
+    → Names named words → IsValidFor command input
     → (Rose input.faults input'.faults → ⊥) → (Rose before.out.faults after.out.faults → ⊥)
     → Ends words seed input input' before after end
     → (end ≡ status.Done) ⊎ (end ≡ status.Memory)
@@ -58,4 +61,4 @@ CompletesLive =
     → (end ≡ status.Done) ⊎ ((end ≡ status.Memory) ⊎ (end ≡ status.Events))
 
 abbrev pub CompleteValid : Type 0
-CompleteValid = CompletesValid replay_command × (CompletesValid decode_command × (CompletesLoad × CompletesLive))
+CompleteValid = CompletesValid name.Replay replay_command × (CompletesValid name.Decode decode_command × (CompletesLoad × CompletesLive))

@@ -1,10 +1,8 @@
 //! Laws of the program, each the contract of a function that does nothing.
 
-ghost use Rattle.link_daemon.specs.DecodeText.{HasOneOutput};
 ghost use Rattle.link_daemon.specs.OneStatus.{HasOneStatus, HaveOneFaultLine};
 ghost use Rattle.link_daemon.specs.ValidInput.{CompleteValid};
 
-use asdp_messages::one_reading;
 use link_text::{one_live_script, one_script};
 
 /// The causes of two statuses never hold together: what a run did names its status, with the line at fault. Want of memory is the
@@ -31,11 +29,3 @@ pub fn one_fault_line()
 pub fn valid_is_done()
     ensures { CompleteValid }
 {}
-
-/// A text of datagrams has one output at most, since a datagram is read in one way only.
-pub fn one_output()
-    ensures { HasOneOutput }
-{
-    // A law, for the proof: bytes are read in one way only.
-    one_reading();
-}

@@ -10,22 +10,19 @@ ghost use Rattle.link_text.specs.LiveScript.{IsLiveText};
 ghost use Rattle.link_text.specs.ReplayScript.{IsVisibleId};
 ghost use Rattle.link_daemon.specs.LiveEnds.{EndsLive, EndsRead, EndsRun, IfNotBegun};
 ghost use Rattle.link_daemon.specs.LiveSetup.{IsRead, config_from, setup_from, status_from};
-ghost use Rattle.link_daemon.specs.Outside.{seen_audio, seen_port};
+ghost use Rattle.link_daemon.specs.Outside.{outside_of};
 ghost use Rattle.link_live.specs.Report.{report_value};
 ghost use Rattle.link_daemon.specs.ReportText.{live_text_of};
-ghost use Rattle.link_daemon.specs.Statuses.{seen};
+ghost use Rattle.link_commands.specs.Statuses.{seen};
 
-use crate::command_words::WordsFault;
-use crate::live_words::{LiveOptions, live_options};
-use crate::outlet::{Outlet, SinkFailed};
-use crate::reason::Reason;
 use crate::report_text::hand_report;
 use crate::sayable::are_sayable;
-use crate::status::{Grammar, Status};
+use link_commands::{Grammar, Outlet, Reason, SinkFailed, Status};
 use link_live::{LiveEnd, LiveRun, Report, Room, live_run, scripts_have_commands};
 use link_node::Config;
 use link_shared::Parts;
 use link_text::{LiveFault, LiveScript, explain_live, read_live, written_scripts_are_read};
+use link_words::{LiveOptions, WordsFault, live_options};
 use lk_base::IdSource;
 use lk_outside::{Audio, InputFault, Pace, Port, Sink, Source, read_all};
 use std::alloc::Global;
@@ -67,20 +64,8 @@ pub fn live_main<
     report: &mut Report,
 ) -> Status
     ensures ends { EndsLive words.now seed (seen S.left S.faults input.old) (seen S.left S.faults input.new)
-        (record {
-          port = seen_port P.contents P.bound P.faults port.old;
-          audio = seen_audio A.contents A.faults audio.old;
-          late = T.late pace.old;
-          out = seen K.written K.faults out.old;
-          report = report_value report.old;
-        })
-        (record {
-          port = seen_port P.contents P.bound P.faults port.new;
-          audio = seen_audio A.contents A.faults audio.new;
-          late = T.late pace.new;
-          out = seen K.written K.faults out.new;
-          report = report_value report.new;
-        })
+        (outside_of P.contents P.bound P.faults A.contents A.faults T.late K.written K.faults port.old audio.old pace.old out.old (report_value report.old))
+        (outside_of P.contents P.bound P.faults A.contents A.faults T.late K.written K.faults port.new audio.new pace.new out.new (report_value report.new))
         result }
 
     // No object is called, or the input alone.
@@ -147,20 +132,8 @@ fn run_script<P: Port + Send, A: Audio + Send, T: Pace + Send, K: Sink, R: Threa
     requires script { (bytes : List ℕ) × (length bytes ≤ 16_777_216) × IsLiveText bytes script.mpb script.sync
         (map gate_value script.gates.items) script.apps.items script.blocks.items }
     ensures ends { EndsRun (setup_from seed options.now script) options.now.«record»
-        (record {
-          port = seen_port P.contents P.bound P.faults port.old;
-          audio = seen_audio A.contents A.faults audio.old;
-          late = T.late pace.old;
-          out = seen K.written K.faults out.old;
-          report = report_value report.old;
-        })
-        (record {
-          port = seen_port P.contents P.bound P.faults port.new;
-          audio = seen_audio A.contents A.faults audio.new;
-          late = T.late pace.new;
-          out = seen K.written K.faults out.new;
-          report = report_value report.new;
-        })
+        (outside_of P.contents P.bound P.faults A.contents A.faults T.late K.written K.faults port.old audio.old pace.old out.old (report_value report.old))
+        (outside_of P.contents P.bound P.faults A.contents A.faults T.late K.written K.faults port.new audio.new pace.new out.new (report_value report.new))
         result }
 {
     let now = pace.until(0);

@@ -8,13 +8,12 @@ ghost use Rattle.lk_outside.specs.Faults.{Rose};
 ghost use Rattle.link_node.specs.Config.{config_value};
 ghost use Rattle.link_node.specs.Event.{event_value};
 ghost use Rattle.link_text.specs.ReplayScript.{ended, event_line, head_lines, written_script_of};
-ghost use Rattle.link_daemon.specs.Outlet.{HandsOver, HandsPart};
+ghost use Rattle.link_commands.specs.Outlet.{HandsOver, HandsPart};
 ghost use Rattle.link_live.specs.Report.{report_value};
 ghost use Rattle.link_daemon.specs.ReportText.{last_state_text_of, live_line_of, live_text_of};
 
-use crate::outlet::{Outlet, SinkFailed};
-use crate::replay_lines::hand_state;
 use client_state::State;
+use link_commands::{Outlet, SinkFailed, hand_state};
 use link_live::Report;
 use link_node::{Config, Event};
 use link_text::{LineBuf, put, put_decimal, write_event, write_head};

@@ -3,19 +3,16 @@
 ghost use Rattle.std.specs.Prelude.{◌≡◌};
 ghost use Rattle.link_daemon.specs.Ends.{Ends};
 ghost use Rattle.link_daemon.specs.LiveEnds.{IfNotBegun};
-ghost use Rattle.link_daemon.specs.LiveWords.{BeginsLive};
-ghost use Rattle.link_daemon.specs.LoadWords.{BeginsLoad};
-ghost use Rattle.link_daemon.specs.Outside.{seen_audio, seen_port};
+ghost use Rattle.link_words.specs.LiveWords.{BeginsLive};
+ghost use Rattle.link_words.specs.LoadWords.{BeginsLoad};
+ghost use Rattle.link_daemon.specs.Outside.{outside_of};
 ghost use Rattle.link_live.specs.Report.{report_value};
-ghost use Rattle.link_daemon.specs.Statuses.{IfNothingWritten, seen};
+ghost use Rattle.link_commands.specs.Statuses.{IfNothingWritten, seen};
 
-use crate::command_line::begins_with;
-use crate::decode::decode_main;
 use crate::live::live_main;
-use crate::load::load_main;
-use crate::replay::replay_main;
-use crate::status::Status;
+use link_commands::{Status, decode_main, load_main, replay_main};
 use link_live::Report;
+use link_words::{CommandName, command_named};
 use lk_outside::{Audio, Pace, Port, Sink, Source};
 use std::alloc::Global;
 use std::sync::Wait;
@@ -45,20 +42,8 @@ pub fn link_main<
     report: &mut Report,
 ) -> Status
     ensures ends { Ends words.now seed (seen S.left S.faults input.old) (seen S.left S.faults input.new)
-        (record {
-          port = seen_port P.contents P.bound P.faults port.old;
-          audio = seen_audio A.contents A.faults audio.old;
-          late = T.late pace.old;
-          out = seen K.written K.faults out.old;
-          report = report_value report.old;
-        })
-        (record {
-          port = seen_port P.contents P.bound P.faults port.new;
-          audio = seen_audio A.contents A.faults audio.new;
-          late = T.late pace.new;
-          out = seen K.written K.faults out.new;
-          report = report_value report.new;
-        })
+        (outside_of P.contents P.bound P.faults A.contents A.faults T.late K.written K.faults port.old audio.old pace.old out.old (report_value report.old))
+        (outside_of P.contents P.bound P.faults A.contents A.faults T.late K.written K.faults port.new audio.new pace.new out.new (report_value report.new))
         result }
 
     // No object is called, or just those of the command.
@@ -69,19 +54,13 @@ pub fn link_main<
     ensures aside { (BeginsLive words.now → ⊥)
         → (port.new ≡ port.old) × (audio.new ≡ audio.old) × (pace.new ≡ pace.old) × (report.new ≡ report.old) }
 {
-    if begins_with(words, "replay") {
-        return replay_main(alloc, words, input, out);
-    }
-    if begins_with(words, "decode") {
-        return decode_main(alloc, words, input, out);
-    }
-    if begins_with(words, "load") {
-        return load_main(alloc, words, out);
-    }
-    if begins_with(words, "live") {
-        return live_main(
+    match command_named(words) {
+        Some(CommandName::Replay) => replay_main(alloc, words, input, out),
+        Some(CommandName::Decode) => decode_main(alloc, words, input, out),
+        Some(CommandName::Load) => load_main(alloc, words, out),
+        Some(CommandName::Live) => live_main(
             rt, alloc, words, seed, input, port, audio, pace, out, report,
-        );
+        ),
+        None => Status::Words,
     }
-    Status::Words
 }

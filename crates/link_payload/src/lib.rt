@@ -12,8 +12,6 @@ mod last;
 mod laws;
 mod range;
 mod read;
-#[cfg(test)]
-mod tests;
 mod write;
 
 pub use entry::{Entry, EntryIter, entries};

@@ -123,10 +123,20 @@ impl<C: StateCell<9>> Parts<C> {
         let node = Node::new(alloc, config, now)?;
         let state = node.state();
         let row = state.row();
-        let (app_states, note) = noted_cell::<C>(alloc, way, &row)?;
-        let audio_states = new_cell::<C>(alloc, way, &row)?;
-        let audio_commits = new_cell::<C>(alloc, way, &NO_COMMIT.row())?;
+        let cells = NewCells::<C>::new(alloc, way, &row)?;
         let (queue, pushing, popping) = open(alloc)?;
+        let lists = NewLists::<C>::new(alloc, events, state)?;
+        let NewCells {
+            app_states,
+            audio_states,
+            audio_commits,
+            note,
+        } = cells;
+        let NewLists {
+            journal,
+            published,
+            handed,
+        } = lists;
         Ok(Parts {
             app_states,
             audio_states,
@@ -139,6 +149,58 @@ impl<C: StateCell<9>> Parts<C> {
             opened_at: now,
             most: events,
             node,
+            journal,
+            published,
+            handed,
+        })
+    }
+}
+
+// The three cells, and a note of the reader of the first one, which has read nothing.
+#[derive(Drop)]
+struct NewCells<C: StateCell<9>> {
+    app_states: NewCell<C>,
+    audio_states: NewCell<C>,
+    audio_commits: NewCell<C>,
+    note: C::Note,
+    ghost note_is: { ((C.noting note).cell ≡ C.cell app_states.cell) × ((C.noting note).seen ≡ []) },
+}
+
+impl<C: StateCell<9>> NewCells<C> {
+    // The cells of states with that opening row, and the cell of commits with none.
+    fn new(alloc: Global, way: &C::Way, row: &[u64; 9]) -> Result<NewCells<C>, AllocError>
+        ensures app_row { IfOk result (λ new. (C.writing new.app_states.writer).made ≡ row.now ∷ []) }
+        ensures audio_row { IfOk result (λ new. (C.writing new.audio_states.writer).made ≡ row.now ∷ []) }
+    {
+        let (app_states, note) = noted_cell::<C>(alloc, way, row)?;
+        let audio_states = new_cell::<C>(alloc, way, row)?;
+        let audio_commits = new_cell::<C>(alloc, way, &NO_COMMIT.row())?;
+        Ok(NewCells {
+            app_states,
+            audio_states,
+            audio_commits,
+            note,
+        })
+    }
+}
+
+// The journal, the list of published states and the list of passes handed in.
+#[derive(Drop)]
+struct NewLists<C: StateCell<9>> {
+    journal: Vec<Event>,
+    published: Vec<State>,
+    handed: Vec<HandedPass<C>>,
+    ghost empty: { (journal.items ≡ []) × (handed.items ≡ []) × (16 ≤ vec_capacity handed) },
+}
+
+impl<C: StateCell<9>> NewLists<C> {
+    // Lists with room for so many events, of which only the opening state stands in one.
+    fn new(alloc: Global, events: u64, state: State) -> Result<NewLists<C>, AllocError>
+        requires { events ≤ 524_288 }
+        ensures published { IfOk result (λ new. new.published.items ≡ state ∷ []) }
+        ensures room { IfOk result (λ new. (events ≤ vec_capacity new.journal) × (events + 1 ≤ vec_capacity new.published)) }
+    {
+        Ok(NewLists {
             journal: Vec::with_capacity(alloc, events as usize)?,
             published: first_of(alloc, events as usize + 1, state)?,
             handed: Vec::with_capacity(alloc, HANDED)?,

@@ -6,8 +6,6 @@
 mod laws;
 mod peer;
 mod stored;
-#[cfg(test)]
-mod tests;
 mod turn;
 mod world;
 

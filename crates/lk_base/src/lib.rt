@@ -10,8 +10,6 @@ mod ids;
 mod limits;
 mod rounding;
 mod start;
-#[cfg(test)]
-mod tests;
 mod timeline;
 mod wire;
 

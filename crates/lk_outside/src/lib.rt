@@ -2,8 +2,7 @@
 //! faults, objects in memory that tell all of it, and the two calls that move a whole text.
 //!
 //! In reading order: the traits `source`, `sink`, `port`, `audio`, `pace`; `failing`, `copies`; the
-//! objects in memory `bytes_source`, `bytes_sink`, `list_port`, `list_audio`, `list_pace`; `transfer`,
-//! `tests`.
+//! objects in memory `bytes_source`, `bytes_sink`, `list_port`, `list_audio`, `list_pace`; `transfer`.
 #![tactic(auto)]
 
 mod audio;

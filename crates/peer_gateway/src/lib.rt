@@ -7,8 +7,6 @@ mod expiry;
 mod laws;
 mod peers;
 mod row;
-#[cfg(test)]
-mod tests;
 
 pub use expiry::Expiry;
 pub use laws::{no_row_twice, rows_are_what_nothing_ended};

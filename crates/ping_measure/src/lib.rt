@@ -9,8 +9,6 @@ mod laws;
 mod measure;
 mod outcome;
 mod points;
-#[cfg(test)]
-mod tests;
 
 pub use answer::answer_ping;
 pub use laws::honest_pongs_bound_the_error;

@@ -8,8 +8,6 @@ mod known;
 mod laws;
 mod others;
 mod sessions;
-#[cfg(test)]
-mod tests;
 mod verdict;
 mod winning;
 

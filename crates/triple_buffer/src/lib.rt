@@ -6,8 +6,6 @@
 #![tactic(auto)]
 
 mod plays;
-#[cfg(test)]
-mod tests;
 mod tokens;
 mod triple;
 mod views;

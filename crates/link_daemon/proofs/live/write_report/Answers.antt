@@ -1,4 +1,4 @@
-use Rattle.link_daemon.proofs.OutletLemmas.{hands_whole_part}
+use Rattle.link_commands.proofs.OutletLemmas.{hands_whole_part}
 use Rattle.link_daemon.proofs.ReportLemmas.{where_err}
 use Rattle.link_daemon.proofs.live.write_report.Goals as goal
 

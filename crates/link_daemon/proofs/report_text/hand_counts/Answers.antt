@@ -1,6 +1,6 @@
 use Rattle.std.proofs.Common.{◌∙◌, subst, List, ℕ}
 use Rattle.std.specs.Result.{OnErr}
-use Rattle.link_daemon.specs.Outlet.{HandsPart}
+use Rattle.link_commands.specs.Outlet.{HandsPart}
 use Rattle.link_daemon.proofs.report_text.hand_counts.Goals as goal
 
 pub returns-clause-part : goal.returns-clause-part

@@ -2,7 +2,7 @@
 use Rattle.std.proofs.Common.{◌≡◌}
 use Rattle.link_node.specs.Event.{event_value}
 use Rattle.link_text.specs.ReplayScript.{ended, event_line}
-use Rattle.link_daemon.proofs.ReplayLemmas.{HasHandedEach}
+use Rattle.link_commands.proofs.ReplayLemmas.{HasHandedEach}
 use Rattle.link_daemon.proofs.report_text.hand_events.Given as goal
 
 abbrev pub invariant-loop-event : goal.invariant-loop-event

@@ -3,8 +3,8 @@ use Rattle.std.specs.List.{flat_map}
 use Rattle.std.proofs.lemmas.Int.{to_z-of_z}
 use Rattle.link_node.specs.Config.{config_value}
 use Rattle.link_text.specs.ReplayScript.{ended, head_lines}
-use Rattle.link_daemon.specs.Outlet.{HandsPart}
-use Rattle.link_daemon.proofs.OutletLemmas.{on_failure}
+use Rattle.link_commands.specs.Outlet.{HandsPart}
+use Rattle.link_commands.proofs.OutletLemmas.{on_failure}
 use Rattle.link_daemon.proofs.ReportLemmas.{head_next, head_part}
 use Rattle.link_daemon.proofs.report_text.hand_head.Goals as goal
 

@@ -2,7 +2,7 @@
 use Rattle.std.proofs.Common.{◌≡◌}
 use Rattle.link_node.specs.Config.{config_value}
 use Rattle.link_text.specs.ReplayScript.{ended, head_lines}
-use Rattle.link_daemon.proofs.ReplayLemmas.{HasHandedEach}
+use Rattle.link_commands.proofs.ReplayLemmas.{HasHandedEach}
 use Rattle.link_daemon.proofs.report_text.hand_head.Given as goal
 
 abbrev pub invariant-loop-k : goal.invariant-loop-k

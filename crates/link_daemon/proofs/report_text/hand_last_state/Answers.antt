@@ -1,5 +1,5 @@
 use Rattle.std.proofs.Common.{refl}
-use Rattle.link_daemon.proofs.OutletLemmas.{on_failure}
+use Rattle.link_commands.proofs.OutletLemmas.{on_failure}
 use Rattle.link_daemon.proofs.ReportLemmas.{last_over, last_part_mark, last_part_state, where_ok, where_err}
 use Rattle.link_daemon.proofs.report_text.hand_last_state.Goals as goal
 

@@ -2,7 +2,7 @@ use Rattle.std.proofs.Common.{rules, map, FitsSigned, w64}
 use Rattle.std.proofs.lemmas.Int.{to_z-of_z}
 use Rattle.link_node.specs.Config.{config_value}
 use Rattle.link_node.specs.Event.{event_value}
-use Rattle.link_daemon.proofs.OutletLemmas.{on_failure}
+use Rattle.link_commands.proofs.OutletLemmas.{on_failure}
 use Rattle.link_daemon.proofs.ReportLemmas.{record_over, record_part_head, record_part_events, where_ok, where_err}
 use Rattle.link_daemon.proofs.report_text.hand_record.Goals as goal
 

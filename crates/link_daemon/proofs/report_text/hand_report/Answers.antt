@@ -1,8 +1,8 @@
 use Rattle.std.proofs.Common.{subst, sym, Bool}
-use Rattle.link_daemon.specs.Outlet.{HandsOver, HandsPart}
+use Rattle.link_commands.specs.Outlet.{HandsOver, HandsPart}
 use Rattle.link_live.specs.Report.{report_value}
 use Rattle.link_daemon.specs.ReportText.{live_text_of}
-use Rattle.link_daemon.proofs.OutletLemmas.{on_failure}
+use Rattle.link_commands.proofs.OutletLemmas.{on_failure}
 use Rattle.link_daemon.proofs.ReportLemmas.{live_over, recorded_over, live_part_counts, live_part_state, live_part_record, where_ok, where_err}
 use Rattle.link_daemon.proofs.report_text.hand_report.Goals as goal
 

@@ -1,0 +1,244 @@
+//! Edits of a state, and its clicks, by exact fractions.
+
+ghost use Rattle.std.specs.Prelude.{◌≡◌};
+
+use super::clicks::{a_block, expect_found};
+use super::{a_place, a_quantum, a_timeline, expect, start, timeline};
+use client_state::State;
+use lk_base::{LIMIT, Timeline};
+use std::process::Abort;
+
+// A timeline, the tempo that is set and when, and the timeline afterwards.
+const TEMPI: &[[i64; 8]] = &[
+    [500_000, 0, 0, 250_000, 1_000_000, 250_000, 0, 500_000],
+    [500_000, 0, 0, 60_060, 1_000_000, 60_060, 0, 879_880],
+    [500_000, 0, 0, 60_059, 1_000_000, 60_060, 0, 879_880],
+    [500_000, 0, 0, i64::MIN, 1_000_000, 60_060, 0, 879_880],
+    [
+        500_000, 0, 0, 3_000_000, 1_000_000, 3_000_000, 0, -5_000_000,
+    ],
+    [
+        500_000, 0, 0, 3_000_001, 1_000_000, 3_000_000, 0, -5_000_000,
+    ],
+    [500_000, 0, 0, i64::MAX, -1_000_000, 3_000_000, 0, 5_000_000],
+    [
+        500_000, 7_000_001, -3, 333_333, -2_500_000, 333_333, 7_000_001, -833_337,
+    ],
+    [60_060, 0, 0, 3_000_000, -1, 3_000_000, 0, 50],
+    [500_000, LIMIT, LIMIT, 250_000, LIMIT, 250_000, LIMIT, LIMIT],
+    [
+        500_000, -LIMIT, -LIMIT, 3_000_000, LIMIT, 3_000_000, -LIMIT, -LIMIT,
+    ],
+    [
+        500_000, -LIMIT, LIMIT, 60_060, -LIMIT, 60_060, -LIMIT, -LIMIT,
+    ],
+    [3_000_000, LIMIT, 0, 60_060, LIMIT, 60_060, LIMIT, LIMIT],
+    [3_000_000, 5, 1, 3_000_000, 2, 3_000_000, 5, 2],
+    [500_000, 0, 0, 500_000, 123_457, 500_000, 0, 0],
+    [
+        60_060,
+        1,
+        0,
+        60_061,
+        1_000_000_000_000_000,
+        60_061,
+        1,
+        -16_650_016_650,
+    ],
+];
+
+// A timeline; the beat, the time and the quantum that are forced or requested; the origins afterwards, and those after a request with
+// peers.
+const FORCED: &[[i64; 10]] = &[
+    [
+        500_000, 0, 0, 4_000_000, 0, 4_000_000, 4_000_000, 0, 4_000_000, 0,
+    ],
+    [500_000, 0, 0, 1_000_000, 0, 4_000_000, 0, -500_000, 0, 0],
+    [
+        500_000, 0, 0, 2_000_000, 0, 4_000_000, 4_000_000, 1_000_000, 0, 0,
+    ],
+    [
+        500_000, 0, 0, 3_000_000, 0, 4_000_000, 4_000_000, 500_000, 0, 0,
+    ],
+    [
+        500_000, 3_000_000, 250, 1_000_000, -777_777, 4_000_000, 3_000_000, 722_223, -1_000_000,
+        250,
+    ],
+    [500_000, 0, 0, 1_000_000, 0, 0, 1_000_000, 0, 1_000_000, 0],
+    [
+        500_000, 7, 9, -5, 1_000_001, 0, -1_999_989, 9, -1_999_989, 9,
+    ],
+    [500_000, 0, 0, 1, 3, 1, -3, 1, -3, 1],
+    [
+        60_060,
+        123_456_789,
+        -77,
+        5_000_001,
+        1_000_000,
+        3_000_001,
+        -11_543_256,
+        -21_021,
+        -11_543_256,
+        -78,
+    ],
+    [
+        60_060,
+        0,
+        0,
+        LIMIT,
+        0,
+        1_099_511_627_776,
+        LIMIT,
+        0,
+        LIMIT,
+        0,
+    ],
+    [
+        3_000_000,
+        -LIMIT,
+        LIMIT,
+        -LIMIT,
+        -LIMIT,
+        1_099_511_627_776,
+        -LIMIT,
+        LIMIT,
+        -LIMIT,
+        LIMIT,
+    ],
+    [500_000, LIMIT, 0, 1, 0, 1_099_511_627_776, 0, 0, 0, 0],
+    [
+        500_000,
+        LIMIT,
+        LIMIT,
+        -LIMIT,
+        LIMIT,
+        4_000_000,
+        -LIMIT,
+        LIMIT - 576_512,
+        -LIMIT + 1_693_952,
+        LIMIT,
+    ],
+    [
+        500_000, -LIMIT, -LIMIT, LIMIT, -LIMIT, 0, LIMIT, -LIMIT, LIMIT, -LIMIT,
+    ],
+    [
+        3_000_000,
+        -7,
+        5,
+        1_500_000,
+        -1_000_000_000_000,
+        4_000_000,
+        333_335_999_993,
+        3_500_000,
+        333_331_999_993,
+        5,
+    ],
+    [
+        2_000_000, 2_500_000, 3, 0, -2, 4_000_000, -1_500_000, -3, -1_500_000, 3,
+    ],
+    [60_060, 0, 0, 2_000_000, 30_030, 4_000_000, 0, -90_090, 0, 0],
+];
+
+// Whether a state plays, since when, and its clicks in its first second.
+const CLICKED: &[(bool, i64, &[(i64, bool)])] = &[
+    (false, 0, &[]),
+    (true, i64::MIN, &[(0, true), (500_000, false)]),
+    (true, 0, &[(0, true), (500_000, false)]),
+    (true, 1, &[(500_000, false)]),
+    (true, 500_000, &[(500_000, false)]),
+    (true, 500_001, &[]),
+    (true, 1_000_000, &[]),
+    (true, i64::MAX, &[]),
+];
+
+// A state of this timeline, with numbers of its own everywhere else.
+pub(super) fn state(tl: Timeline, peers: u32) -> State
+    ensures { result.timeline ≡ tl }
+{
+    State {
+        timeline: tl,
+        start: start(true, -5, 6),
+        sync: false,
+        peers,
+        moment: 7,
+        app: 8,
+        audio: 9,
+    }
+}
+
+// Sets the tempo, and expects this timeline and all else as it was.
+fn expect_tempo(rt: &impl Abort, row: &[i64; 8]) {
+    let [mpb, beat, time, set, at, want_mpb, want_beat, want_time] = *row;
+    let mut now = state(a_timeline(rt, mpb, beat, time), 2);
+    now.set_tempo(set, a_place(rt, at));
+    let wanted = timeline(want_mpb, want_beat, want_time);
+    expect(rt, row, &now, &state(wanted, 2));
+}
+
+// Forces the beat, with a peer, and expects all but the timeline as it was.
+fn expect_forced(rt: &impl Abort, row: &[i64; 10]) {
+    let [
+        mpb,
+        beat,
+        time,
+        forced,
+        at,
+        quantum,
+        want_beat,
+        want_time,
+        _,
+        _,
+    ] = *row;
+    let mut now = state(a_timeline(rt, mpb, beat, time), 1);
+    now.force_beat(a_place(rt, forced), a_place(rt, at), a_quantum(rt, quantum));
+    expect(
+        rt,
+        row,
+        &now,
+        &state(timeline(mpb, want_beat, want_time), 1),
+    );
+}
+
+// Requests the beat with so many peers, and expects these origins and all else as it was.
+fn expect_requested(rt: &impl Abort, row: &[i64; 10], peers: u32, want_beat: i64, want_time: i64) {
+    let [mpb, beat, time, asked, at, quantum, ..] = *row;
+    let mut now = state(a_timeline(rt, mpb, beat, time), peers);
+    now.request_beat(a_place(rt, asked), a_place(rt, at), a_quantum(rt, quantum));
+    expect(
+        rt,
+        row,
+        &now,
+        &state(timeline(mpb, want_beat, want_time), peers),
+    );
+}
+
+// The clicks of the first second of a state that plays from that time on, or doesn't play.
+fn expect_clicks(rt: &impl Abort, playing: bool, from: i64, wanted: &[(i64, bool)]) {
+    let mut state = state(a_timeline(rt, 500_000, 0, 0), 0);
+    state.set_playing(playing, from);
+    let block = a_block(rt, 0, 1_000_000);
+    expect_found(rt, from, &state.clicks(block, 4_000_000), wanted);
+}
+
+#[test]
+fn a_tempo_is_clamped_and_keeps_the_beat_at_its_time(rt: HostRuntime) {
+    for row in TEMPI {
+        expect_tempo(&rt, row);
+    }
+}
+
+#[test]
+fn a_beat_is_forced_at_its_time_and_requested_with_peers_at_the_next_match(rt: HostRuntime) {
+    for row in FORCED {
+        expect_forced(&rt, row);
+        expect_requested(&rt, row, 0, row[6], row[7]);
+        expect_requested(&rt, row, 1, row[8], row[9]);
+    }
+}
+
+#[test]
+fn a_state_clicks_while_it_plays_from_its_start_on(rt: HostRuntime) {
+    for &(playing, from, wanted) in CLICKED {
+        expect_clicks(&rt, playing, from, wanted);
+    }
+}

@@ -1,0 +1,8 @@
+//! Whole runs through the top call over objects in memory, and the real things.
+
+mod adapters;
+mod faults;
+mod live;
+mod live_words;
+mod rows;
+mod runs;

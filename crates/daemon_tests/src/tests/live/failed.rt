@@ -1,0 +1,569 @@
+//! Runs in which calls fail, and which status tells it where several do.
+//!
+//! The script has one commit and the node three destinations, so a run has one bind, three sends and more at its first tick, and an event
+//! each for that tick, for the commit and for the end. Three idle arrivals come, and the device has three blocks.
+
+ghost use Rattle.std.specs.Prelude.{All, IfOk};
+ghost use Rattle.lk_outside.specs.Coming.{IsToCome};
+
+use super::blocks::blocks_of;
+use super::events::count_of;
+use super::sides::Sides;
+use link_live::Report;
+use lk_outside::{
+    Arrival, BIND, BytesSink, BytesSource, ListAudio, ListPort, NEXT, PLAY, READ, RECEIVE, SEND,
+    WRITE,
+};
+use std::alloc::{AllocError, Global};
+use std::process::Abort;
+use std::sync::Wait;
+use std::test::Fail;
+use std::thread::Threads;
+
+/// Calls that fail: the kind of each, and its number among those of its kind, from 1.
+type Calls = &'static [(u8, u64)];
+
+/// What is wrong in a run, and the number of the status that comes of it.
+struct Cause {
+    of_port: Calls,
+    of_device: Calls,
+    of_source: Calls,
+    of_sink: Calls,
+    /// How many events the journal takes, as the command line says it; empty where nothing is wrong with it.
+    events: &'static str,
+    /// A line outside the grammar, or nothing.
+    line: &'static str,
+    /// How many commands more the script has.
+    looks: u32,
+    status: u8,
+}
+
+const CAUSES: &[Cause] = &[
+    Cause {
+        of_port: &[],
+        of_device: &[],
+        of_source: &[],
+        of_sink: &[],
+        events: "",
+        line: "",
+        looks: 0,
+        status: 0,
+    },
+    Cause {
+        of_port: &[(BIND, 1)],
+        of_device: &[],
+        of_source: &[],
+        of_sink: &[],
+        events: "",
+        line: "",
+        looks: 0,
+        status: 3,
+    },
+    Cause {
+        of_port: &[(BIND, 2)],
+        of_device: &[],
+        of_source: &[],
+        of_sink: &[],
+        events: "",
+        line: "",
+        looks: 0,
+        status: 0,
+    },
+    Cause {
+        of_port: &[(BIND, 3)],
+        of_device: &[],
+        of_source: &[],
+        of_sink: &[],
+        events: "",
+        line: "",
+        looks: 0,
+        status: 0,
+    },
+    Cause {
+        of_port: &[(RECEIVE, 1)],
+        of_device: &[],
+        of_source: &[],
+        of_sink: &[],
+        events: "",
+        line: "",
+        looks: 0,
+        status: 3,
+    },
+    Cause {
+        of_port: &[(RECEIVE, 2)],
+        of_device: &[],
+        of_source: &[],
+        of_sink: &[],
+        events: "",
+        line: "",
+        looks: 0,
+        status: 3,
+    },
+    Cause {
+        of_port: &[(RECEIVE, 3)],
+        of_device: &[],
+        of_source: &[],
+        of_sink: &[],
+        events: "",
+        line: "",
+        looks: 0,
+        status: 3,
+    },
+    Cause {
+        of_port: &[(SEND, 1)],
+        of_device: &[],
+        of_source: &[],
+        of_sink: &[],
+        events: "",
+        line: "",
+        looks: 0,
+        status: 3,
+    },
+    Cause {
+        of_port: &[(SEND, 2)],
+        of_device: &[],
+        of_source: &[],
+        of_sink: &[],
+        events: "",
+        line: "",
+        looks: 0,
+        status: 3,
+    },
+    Cause {
+        of_port: &[(SEND, 3)],
+        of_device: &[],
+        of_source: &[],
+        of_sink: &[],
+        events: "",
+        line: "",
+        looks: 0,
+        status: 3,
+    },
+    Cause {
+        of_port: &[],
+        of_device: &[(NEXT, 1)],
+        of_source: &[],
+        of_sink: &[],
+        events: "",
+        line: "",
+        looks: 0,
+        status: 4,
+    },
+    Cause {
+        of_port: &[],
+        of_device: &[(NEXT, 2)],
+        of_source: &[],
+        of_sink: &[],
+        events: "",
+        line: "",
+        looks: 0,
+        status: 4,
+    },
+    Cause {
+        of_port: &[],
+        of_device: &[(NEXT, 3)],
+        of_source: &[],
+        of_sink: &[],
+        events: "",
+        line: "",
+        looks: 0,
+        status: 4,
+    },
+    Cause {
+        of_port: &[],
+        of_device: &[(PLAY, 1)],
+        of_source: &[],
+        of_sink: &[],
+        events: "",
+        line: "",
+        looks: 0,
+        status: 4,
+    },
+    Cause {
+        of_port: &[],
+        of_device: &[(PLAY, 2)],
+        of_source: &[],
+        of_sink: &[],
+        events: "",
+        line: "",
+        looks: 0,
+        status: 4,
+    },
+    Cause {
+        of_port: &[],
+        of_device: &[(PLAY, 3)],
+        of_source: &[],
+        of_sink: &[],
+        events: "",
+        line: "",
+        looks: 0,
+        status: 4,
+    },
+    Cause {
+        of_port: &[],
+        of_device: &[],
+        of_source: &[(READ, 1)],
+        of_sink: &[],
+        events: "",
+        line: "",
+        looks: 0,
+        status: 5,
+    },
+    Cause {
+        of_port: &[],
+        of_device: &[],
+        of_source: &[(READ, 2)],
+        of_sink: &[],
+        events: "",
+        line: "",
+        looks: 0,
+        status: 5,
+    },
+    Cause {
+        of_port: &[],
+        of_device: &[],
+        of_source: &[(READ, 3)],
+        of_sink: &[],
+        events: "",
+        line: "",
+        looks: 0,
+        status: 5,
+    },
+    Cause {
+        of_port: &[],
+        of_device: &[],
+        of_source: &[],
+        of_sink: &[(WRITE, 1)],
+        events: "",
+        line: "",
+        looks: 0,
+        status: 7,
+    },
+    Cause {
+        of_port: &[],
+        of_device: &[],
+        of_source: &[],
+        of_sink: &[(WRITE, 2)],
+        events: "",
+        line: "",
+        looks: 0,
+        status: 7,
+    },
+    Cause {
+        of_port: &[],
+        of_device: &[],
+        of_source: &[],
+        of_sink: &[(WRITE, 3)],
+        events: "",
+        line: "",
+        looks: 0,
+        status: 7,
+    },
+    Cause {
+        of_port: &[],
+        of_device: &[],
+        of_source: &[],
+        of_sink: &[],
+        events: "1",
+        line: "",
+        looks: 0,
+        status: 6,
+    },
+    Cause {
+        of_port: &[],
+        of_device: &[],
+        of_source: &[],
+        of_sink: &[],
+        events: "2",
+        line: "",
+        looks: 0,
+        status: 6,
+    },
+    Cause {
+        of_port: &[],
+        of_device: &[],
+        of_source: &[],
+        of_sink: &[],
+        events: "3",
+        line: "",
+        looks: 0,
+        status: 0,
+    },
+    Cause {
+        of_port: &[],
+        of_device: &[],
+        of_source: &[],
+        of_sink: &[],
+        events: "x",
+        line: "",
+        looks: 0,
+        status: 2,
+    },
+    Cause {
+        of_port: &[],
+        of_device: &[],
+        of_source: &[],
+        of_sink: &[],
+        events: "",
+        line: "",
+        looks: 4096,
+        status: 10,
+    },
+    Cause {
+        of_port: &[],
+        of_device: &[],
+        of_source: &[],
+        of_sink: &[],
+        events: "",
+        line: "at x tempo\n",
+        looks: 0,
+        status: 8,
+    },
+];
+
+/// In which order statuses come where several hold.
+const ORDER: &[Cause] = &[
+    Cause {
+        of_port: &[],
+        of_device: &[],
+        of_source: &[],
+        of_sink: &[],
+        events: "x",
+        line: "",
+        looks: 0,
+        status: 2,
+    },
+    Cause {
+        of_port: &[],
+        of_device: &[],
+        of_source: &[(READ, 2)],
+        of_sink: &[],
+        events: "",
+        line: "",
+        looks: 0,
+        status: 5,
+    },
+    Cause {
+        of_port: &[],
+        of_device: &[],
+        of_source: &[],
+        of_sink: &[],
+        events: "",
+        line: "",
+        looks: 4096,
+        status: 10,
+    },
+    Cause {
+        of_port: &[],
+        of_device: &[],
+        of_source: &[],
+        of_sink: &[],
+        events: "",
+        line: "at x tempo\n",
+        looks: 0,
+        status: 8,
+    },
+    Cause {
+        of_port: &[(RECEIVE, 3)],
+        of_device: &[],
+        of_source: &[],
+        of_sink: &[],
+        events: "",
+        line: "",
+        looks: 0,
+        status: 3,
+    },
+    Cause {
+        of_port: &[],
+        of_device: &[(NEXT, 2)],
+        of_source: &[],
+        of_sink: &[],
+        events: "",
+        line: "",
+        looks: 0,
+        status: 4,
+    },
+    Cause {
+        of_port: &[],
+        of_device: &[],
+        of_source: &[],
+        of_sink: &[],
+        events: "1",
+        line: "",
+        looks: 0,
+        status: 6,
+    },
+    Cause {
+        of_port: &[],
+        of_device: &[],
+        of_source: &[],
+        of_sink: &[(WRITE, 2)],
+        events: "",
+        line: "",
+        looks: 0,
+        status: 7,
+    },
+];
+
+/// Nothing is wrong.
+const NOTHING: Cause = Cause {
+    of_port: &[],
+    of_device: &[],
+    of_source: &[],
+    of_sink: &[],
+    events: "",
+    line: "",
+    looks: 0,
+    status: 0,
+};
+
+#[test]
+fn a_call_that_fails_is_told_by_its_status(rt: HostRuntime) -> Result<(), Fail> {
+    for cause in CAUSES {
+        expect(&rt, rt.alloc(), cause, &NOTHING)?;
+    }
+    Ok(())
+}
+
+#[test]
+fn of_two_failures_the_first_in_the_order_is_told(rt: HostRuntime) -> Result<(), Fail> {
+    let mut later = ORDER;
+    for first in ORDER {
+        later = later.get(1..).unwrap_or(&[]);
+        for second in later {
+            expect(&rt, rt.alloc(), first, second)?;
+        }
+    }
+    Ok(())
+}
+
+// What a run came to.
+#[derive(Clone, Copy)]
+struct Outcome {
+    status: u8,
+    /// How many bytes were written.
+    written: u64,
+    /// How many commits were taken.
+    commits: usize,
+}
+
+// Makes a run in which both are wrong, of which the first is told, and whose commit is held until the port is over.
+fn expect<R: Threads + Wait + Sync + Abort>(
+    rt: &R,
+    alloc: Global,
+    first: &Cause,
+    second: &Cause,
+) -> Result<(), AllocError> {
+    let port = port_of(alloc, first, second)?;
+    let sides = sides_of(alloc, first, second)?;
+    let found = run_over(rt, alloc, events_of(first, second), port, sides)?;
+    let (status, other) = (first.status, second.status);
+    assert_eq!(rt; found.status, status, "beside {other}");
+    assert!(rt; leaves(first, second, &found), "beside {other}: {status}");
+    Ok(())
+}
+
+fn run_over<R: Threads + Wait + Sync>(
+    rt: &R,
+    alloc: Global,
+    events: &str,
+    port: ListPort,
+    mut sides: Sides,
+) -> Result<Outcome, AllocError> {
+    let words = ["live", "--events", events];
+    let (status, _port) = sides.run_held(rt, alloc, &words, port)?;
+    Ok(Outcome {
+        status: status.number(),
+        written: sides.out.bytes().len() as u64,
+        commits: count_of(&sides.report.events, b'c'),
+    })
+}
+
+// A sink that fails has taken a byte by each write before; and where the port alone fails, a commit is taken all the same.
+fn leaves(first: &Cause, second: &Cause, found: &Outcome) -> bool {
+    match (first.of_sink.first(), first.of_port.first()) {
+        (Some((_, number)), _) => found.written == number.saturating_sub(1),
+        (_, Some(_)) if second.status == 0 => found.commits == 1,
+        _ => true,
+    }
+}
+
+// How many events the journal takes.
+fn events_of(first: &Cause, second: &Cause) -> &'static str {
+    if !first.events.is_empty() {
+        return first.events;
+    }
+    if !second.events.is_empty() {
+        return second.events;
+    }
+    "300"
+}
+
+fn port_of(alloc: Global, first: &Cause, second: &Cause) -> Result<ListPort, AllocError> {
+    let failing = both(alloc, first.of_port, second.of_port)?;
+    ListPort::new(alloc, idle_arrivals(alloc)?, 500, failing)
+}
+
+fn idle_arrivals(alloc: Global) -> Result<Vec<Arrival>, AllocError>
+    ensures { IfOk result (λ arrivals. All IsToCome arrivals.items) }
+{
+    let mut arrivals = Vec::with_capacity(alloc, 3)?;
+    arrivals.push(Arrival::Idle(1))?;
+    arrivals.push(Arrival::Idle(2))?;
+    arrivals.push(Arrival::Idle(3))?;
+    Ok(arrivals)
+}
+
+fn sides_of(alloc: Global, first: &Cause, second: &Cause) -> Result<Sides, AllocError> {
+    let input = source_of(alloc, first, second)?;
+    let audio = audio_of(alloc, first, second)?;
+    let out = sink_of(alloc, first, second)?;
+    Ok(Sides {
+        input,
+        audio,
+        out,
+        report: Report::new(alloc),
+    })
+}
+
+// A source that gives 40 bytes a read.
+fn source_of(alloc: Global, first: &Cause, second: &Cause) -> Result<BytesSource, AllocError> {
+    let failing = both(alloc, first.of_source, second.of_source)?;
+    Ok(BytesSource::new(script_of(alloc, first, second)?, 40, failing))
+}
+
+// A device of three blocks.
+fn audio_of(alloc: Global, first: &Cause, second: &Cause) -> Result<ListAudio, AllocError> {
+    let failing = both(alloc, first.of_device, second.of_device)?;
+    ListAudio::new(alloc, blocks_of(alloc, 3)?, failing)
+}
+
+// A sink that takes a byte a write.
+fn sink_of(alloc: Global, first: &Cause, second: &Cause) -> Result<BytesSink, AllocError> {
+    BytesSink::new(alloc, 1_000, 1, both(alloc, first.of_sink, second.of_sink)?)
+}
+
+// The calls that fail by either.
+fn both(alloc: Global, first: Calls, second: Calls) -> Result<Vec<(u8, u64)>, AllocError> {
+    let mut calls = Vec::from_slice(alloc, first)?;
+    calls.extend_from_slice(second)?;
+    Ok(calls)
+}
+
+const HEAD: &str = "link 1\nsetup 500000 1\ngate 127.0.0.1:20808\n\
+    to 127.0.0.1:20809\nto 127.0.0.1:20810\nto 127.0.0.1:20811\n";
+
+const TEMPO: &str = "at 1000000 tempo 250000\n";
+
+const LOOK: &[u8] = b"at 0 look\n";
+
+fn script_of(alloc: Global, first: &Cause, second: &Cause) -> Result<Vec<u8>, AllocError> {
+    let mut script = Vec::new(alloc);
+    for part in [HEAD, first.line, second.line, TEMPO] {
+        script.extend_from_slice(part.as_bytes())?;
+    }
+    for _ in 0..first.looks.max(second.looks) {
+        script.extend_from_slice(LOOK)?;
+    }
+    Ok(script)
+}

@@ -1,0 +1,236 @@
+//! That the three loops of a run go on beside one another: each waits in its object for what another one does, in each of 100 rounds.
+//!
+//! In round k the port gives a datagram once the block k was played, the device gives the block k + 1 once that datagram was answered, and
+//! the pace lets the command k go once that block was given. Loops that ran one after another would wait in vain, which the objects notice
+//! by the number of their looks.
+
+ghost use Rattle.std.specs.Prelude.{None};
+ghost use Rattle.lk_outside.specs.ListPort.{bound_of, faults_of};
+
+use super::super::runs::spelled;
+use super::blocks::block_after;
+use super::events::count_of;
+use super::flags::{has_come, raise};
+use super::peers::{endpoint_of, fields_of, id_of};
+use super::sides::{OWN, SEED, quiet_port, sides_over};
+use asdp_messages::write_alive;
+use link_daemon::{Status, link_main};
+use link_live::Report;
+use link_shared::Capture;
+use lk_base::{Clicks, Endpoint, Gate, NodeId};
+use lk_outside::{Arrival, Audio, Bound, ListPort, Next, Pace, Played, Port, Posted};
+use std::alloc::{AllocError, Global};
+use std::sync::atomic::AtomicU64;
+use std::test::Fail;
+
+/// How many rounds there are.
+const ROUNDS: u16 = 100;
+
+/// How often an object looks at a count in a call at most.
+const LOOKS: u64 = 1_000_000_000;
+
+/// What the objects of a run have done.
+#[derive(Drop)]
+struct Marks {
+    // How many blocks the device gave.
+    given: AtomicU64,
+    // How many blocks were played.
+    played: AtomicU64,
+    // How many datagrams were answered.
+    answered: AtomicU64,
+    // How often an object waited in vain.
+    vain: AtomicU64,
+}
+
+impl Marks {
+    fn new() -> Marks {
+        Marks {
+            given: AtomicU64::new(0),
+            played: AtomicU64::new(0),
+            answered: AtomicU64::new(0),
+            vain: AtomicU64::new(0),
+        }
+    }
+
+    // Waits until a count has come to a number, unless an object has waited in vain. Answers whether it has.
+    fn wait_for(&self, count: &AtomicU64, number: u16) -> bool {
+        if has_come(&self.vain, 1, 1) {
+            return false;
+        }
+        if has_come(count, u64::from(number), LOOKS) {
+            return true;
+        }
+        raise(&self.vain);
+        false
+    }
+}
+
+/// A port that gives an alive of a new peer for each block played, and tells nothing.
+#[derive(Drop)]
+struct Peers<'a> {
+    marks: &'a Marks,
+    // It binds the gates and takes what is sent.
+    port: ListPort,
+    given: u16,
+}
+
+impl<'a> Peers<'a> {
+    fn new(marks: &'a Marks, port: ListPort) -> Peers<'a> {
+        Peers {
+            marks,
+            port,
+            given: 0,
+        }
+    }
+}
+
+impl<'a> Port for Peers<'a> {
+    ghost contents = { λ _. None };
+
+    ghost bound = { λ peers. bound_of peers.port };
+
+    ghost faults = { λ peers. faults_of peers.port };
+
+    fn bind(&mut self, gates: &[Endpoint]) -> Bound {
+        self.port.bind(gates)
+    }
+
+    fn receive(&mut self, _until: i64) -> Arrival {
+        if self.given >= ROUNDS || !self.marks.wait_for(&self.marks.played, self.given + 1) {
+            return Arrival::Closed;
+        }
+        self.given += 1;
+        Arrival::Datagram {
+            gate: Gate(0),
+            from: endpoint_of(self.given),
+            // It is in the node's own session, and answers no pings.
+            bytes: write_alive(id_of(self.given), 0, &fields_of(NodeId(*OWN), 0, None)),
+            now: 0,
+        }
+    }
+
+    fn send(&mut self, gate: Gate, to: Endpoint, bytes: &[u8]) -> Posted {
+        let posted = self.port.send(gate, to, bytes);
+        raise(&self.marks.answered);
+        posted
+    }
+}
+
+/// A device that gives a block for each datagram answered, after a first one, and tells nothing.
+#[derive(Drop)]
+struct Blocks<'a> {
+    marks: &'a Marks,
+    given: u16,
+}
+
+impl<'a> Blocks<'a> {
+    fn new(marks: &'a Marks) -> Blocks<'a> {
+        Blocks { marks, given: 0 }
+    }
+}
+
+impl<'a> Audio for Blocks<'a> {
+    ghost contents = { λ _. None };
+
+    ghost faults = { λ _. 0 };
+
+    fn next(&mut self) -> Next {
+        if self.given > ROUNDS || !self.marks.wait_for(&self.marks.answered, self.given) {
+            return Next::Closed;
+        }
+        let block = block_after(self.given);
+        self.given += 1;
+        raise(&self.marks.given);
+        Next::Block(block)
+    }
+
+    fn play(&mut self, _clicks: &Clicks) -> Played {
+        raise(&self.marks.played);
+        Played::Done
+    }
+}
+
+/// A pace that answers each moment as asked, once the blocks before it and one more were given. It tells nothing.
+#[derive(Drop)]
+struct Lines<'a> {
+    marks: &'a Marks,
+    asks: u16,
+}
+
+impl<'a> Lines<'a> {
+    fn new(marks: &'a Marks) -> Lines<'a> {
+        Lines { marks, asks: 0 }
+    }
+}
+
+impl<'a> Pace for Lines<'a> {
+    ghost late = { λ _. None };
+
+    fn until(&mut self, moment: i64) -> i64 {
+        // The first ask is for the moment of the opening.
+        if self.asks > 0 {
+            let _came = self
+                .marks
+                .wait_for(&self.marks.given, self.asks.saturating_add(1));
+        }
+        self.asks = self.asks.saturating_add(1);
+        moment
+    }
+}
+
+#[test]
+fn the_loops_overlap(rt: HostRuntime) -> Result<(), Fail> {
+    let alloc = rt.alloc();
+    let words = spelled(alloc, &["live"])?;
+    let script = script_of(alloc)?;
+    let inner = quiet_port(alloc, 200)?;
+    let mut sides = sides_over(alloc, &script, 0)?;
+    let marks = Marks::new();
+    let mut port = Peers::new(&marks, inner);
+    let mut audio = Blocks::new(&marks);
+    let status = link_main(
+        &rt,
+        alloc,
+        &words,
+        SEED,
+        &mut sides.input,
+        &mut port,
+        &mut audio,
+        &mut Lines::new(&marks),
+        &mut sides.out,
+        &mut sides.report,
+    );
+    assert_eq!(rt; status, Status::Done);
+    assert!(rt; audio.given == ROUNDS + 1 && port.given == ROUNDS);
+    assert!(rt; are_rounds(&sides.report));
+    Ok(())
+}
+
+// Whether there was a datagram, a capture and a read in each round, with what was published before.
+fn are_rounds(report: &Report) -> bool {
+    count_of(&report.events, b'r') == 100
+        && report.reads.len() == 101
+        && report.captures.len() == 100
+        && keep_up(&report.reads, 0)
+        && keep_up(&report.captures, 1)
+}
+
+// Whether the first capture has at least this number, the one after it at least the next number, and so on.
+fn keep_up(captures: &[Capture], first: u64) -> bool {
+    let mut least = first;
+    for capture in captures {
+        if capture.number < least {
+            return false;
+        }
+        least = least.saturating_add(1);
+    }
+    true
+}
+
+fn script_of(alloc: Global) -> Result<Vec<u8>, AllocError> {
+    let mut script = Vec::from_slice(alloc, b"link 1\nsetup 500000 1\ngate 127.0.0.1:20808\n")?;
+    for _ in 0..ROUNDS {
+        script.extend_from_slice(b"at 0 look\n")?;
+    }
+    Ok(script)
+}

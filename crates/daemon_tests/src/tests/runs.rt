@@ -1,0 +1,139 @@
+//! Runs of commands that call no device, and what they read from and write to.
+
+ghost use Rattle.std.specs.Prelude.{◌<◌};
+
+use link_daemon::{Status, link_main};
+use link_live::Report;
+use lk_outside::{BytesSink, BytesSource, ListAudio, ListPace, ListPort, Sink, Source};
+use std::alloc::{AllocError, Global};
+use std::slice;
+use std::sync::Wait;
+use std::thread::Threads;
+
+/// The lines of a head, as a node of its own.
+pub const HEAD: &str = "replay 1\nnode QRSTUVWX 1 500000 1 1000000\ngate 127.0.0.1:20809\n";
+
+/// What its opening tells.
+const OPENING: &str = "state 0 500000 0 1000000 0 0 0 1 0 1000000 0 0\n";
+
+/// An alive of the node ABCDEFGH in its own session: 500000 microseconds per beat from beat 0 at time 0, no start, the endpoint
+/// 127.0.0.1:20808.
+const ALIVE: &str =
+    "5f617364705f7601010500004142434445464748746d6c6e00000018000000000007a1200000000000000000000000000000000073657373000000084142434445464748737473740000001100000000000000000000000000000000006d657034000000067f0000015148";
+
+/// What the node of the head answers.
+const RESPONSE: &str =
+    "5f617364705f7601020500005152535455565758746d6c6e00000018000000000007a1200000000000000000000000000000000073657373000000085152535455565758737473740000001100000000000000000000000000000000006d657034000000067f0000015149";
+
+/// 29 bytes of 0.
+const ZEROS: &str = "0000000000000000000000000000000000000000000000000000000000";
+
+/// What a command reads from and writes to.
+#[derive(Drop)]
+pub struct Texts {
+    pub input: BytesSource,
+    pub out: BytesSink,
+}
+
+/// A text, and room for 100,000 bytes of output. A read and a write move so many bytes at most, and of each the one of that number fails,
+/// from 1; 0 for none.
+pub fn texts_over(
+    alloc: Global,
+    text: &[u8],
+    most: usize,
+    bad_read: u64,
+    bad_write: u64,
+) -> Result<Texts, AllocError>
+    requires { 0 < most }
+{
+    let input = source(alloc, text, most, bad_read)?;
+    let out = BytesSink::new(alloc, 100_000, most, failing(alloc, bad_write)?)?;
+    Ok(Texts { input, out })
+}
+
+fn source(alloc: Global, text: &[u8], most: usize, bad: u64) -> Result<BytesSource, AllocError>
+    requires { 0 < most }
+{
+    let text = Vec::from_slice(alloc, text)?;
+    Ok(BytesSource::new(text, most, failing(alloc, bad)?))
+}
+
+// The list of the one call that fails: reads and writes are each the first kind of their object.
+fn failing(alloc: Global, call: u64) -> Result<Vec<(u8, u64)>, AllocError> {
+    if call == 0 {
+        return Ok(Vec::new(alloc));
+    }
+    Vec::from_slice(alloc, &[(0, call)])
+}
+
+/// The devices of a run that calls none.
+#[derive(Drop)]
+struct Devices {
+    port: ListPort,
+    audio: ListAudio,
+    report: Report,
+}
+
+fn no_devices(alloc: Global) -> Result<Devices, AllocError> {
+    let port = ListPort::new(alloc, Vec::new(alloc), 0, Vec::new(alloc))?;
+    let audio = ListAudio::new(alloc, Vec::new(alloc), Vec::new(alloc))?;
+    Ok(Devices {
+        port,
+        audio,
+        report: Report::new(alloc),
+    })
+}
+
+/// Runs the program on these words, over a port and a device without contents.
+pub fn run<R: Threads + Wait + Sync, S: Source, K: Sink>(
+    rt: &R,
+    alloc: Global,
+    words: &[&str],
+    input: &mut S,
+    out: &mut K,
+) -> Result<Status, AllocError> {
+    let words = spelled(alloc, words)?;
+    let mut devices = no_devices(alloc)?;
+    Ok(link_main(
+        rt,
+        alloc,
+        &words,
+        0,
+        input,
+        &mut devices.port,
+        &mut devices.audio,
+        &mut ListPace::new(0),
+        out,
+        &mut devices.report,
+    ))
+}
+
+/// The words of a command line.
+pub fn spelled(alloc: Global, words: &[&str]) -> Result<Vec<String>, AllocError> {
+    let mut spelled = Vec::new(alloc);
+    for word in words {
+        spelled.push(String::from_str(alloc, word)?)?;
+    }
+    Ok(spelled)
+}
+
+/// A case's text. In it `=` stands for the head's lines, `@` for the alive, `&` for the response, and `%` for the line of the opening and
+/// `~` for 29 bytes of 0.
+pub fn text_of(alloc: Global, case: &str) -> Result<Vec<u8>, AllocError> {
+    let mut text = Vec::new(alloc);
+    for byte in case.as_bytes() {
+        text.extend_from_slice(meant(byte))?;
+    }
+    Ok(text)
+}
+
+fn meant(byte: &u8) -> &[u8] {
+    match *byte {
+        b'=' => HEAD.as_bytes(),
+        b'@' => ALIVE.as_bytes(),
+        b'&' => RESPONSE.as_bytes(),
+        b'%' => OPENING.as_bytes(),
+        b'~' => ZEROS.as_bytes(),
+        _ => slice::from_ref(byte),
+    }
+}

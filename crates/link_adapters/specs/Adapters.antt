@@ -1,0 +1,62 @@
+-- What the answers of the adapters say of the clock, the reader and the writer behind them. The standard library tells of a reader's and a
+-- writer's bytes where they are known.
+use Rattle.std.specs.Prelude.{◌≡◌, ℕ, ℤ, pos, ◌+ℤ◌, ◌≤ℤ◌, ◌<ℤ◌, ◌^◌, ◌-◌, ◌/◌, min, List, [], ◌∷◌, ◌++◌, take, codes, if◌then◌else◌, Option}
+use Rattle.std.specs.Fmt.{signed_decimal}
+use Rattle.std.specs.List.{flat_map}
+use Rattle.std.specs.Io.KnownBytes.{Appends, Consumes, IsAtEnd, Keeps}
+use Rattle.std.specs.Time.{instant_nanos}
+use Rattle.std.specs.declared.time.Instant.{Instant}
+use Rattle.lk_base.specs.Ranges.{IsMoment}
+use Rattle.lk_base.specs.declared.block.Click.{Click}
+use Rattle.lk_outside.specs.declared.audio.Next.{Next}
+use Rattle.lk_outside.specs.declared.audio.Next.TheVariants as next
+use Rattle.lk_outside.specs.declared.audio.Played.{Played}
+use Rattle.lk_outside.specs.declared.audio.Played.TheVariants as played
+use Rattle.lk_outside.specs.declared.sink.Put.{Put}
+use Rattle.lk_outside.specs.declared.sink.Put.TheVariants as put
+use Rattle.lk_outside.specs.declared.source.Taken.{Taken}
+use Rattle.lk_outside.specs.declared.source.Taken.TheVariants as taken
+
+-- ---- the streams
+
+-- The bytes got are those that the reader had next, in order. At the end nothing was left. A failure takes nothing.
+abbrev pub IsReadFrom : Option (List ℕ) → Option (List ℕ) → List ℕ → Taken → Type 0
+IsReadFrom before after buf (taken.Got n) = Consumes before after (take n buf)
+IsReadFrom before after buf taken.End = IsAtEnd before × Keeps before after
+IsReadFrom before after buf taken.Failed = Keeps before after
+
+-- The writer grew by exactly the bytes that were taken. A failure appends nothing.
+abbrev pub IsWrittenTo : Option (List ℕ) → Option (List ℕ) → List ℕ → Put → Type 0
+IsWrittenTo before after bytes (put.Took n) = Appends before after (take n bytes)
+IsWrittenTo before after bytes put.Failed = Keeps before after
+
+-- ---- the clock
+
+-- the microseconds since the start, in whole ones, and at most the last moment
+abbrev pub moment_at : Instant → Instant → ℤ
+moment_at start now = pos (min ((instant_nanos now - instant_nanos start) / 1_000) (2 ^ 55))
+
+-- a moment, and not before that one
+abbrev pub IsMomentFrom : ℤ → ℤ → Type 0
+IsMomentFrom moment now = IsMoment now × (moment ≤ℤ now)
+
+-- ---- the click
+
+-- the line that tells of a click
+unfoldable pub click_line_of : Click → List ℕ
+click_line_of click = codes "click " ++ signed_decimal click.at ++ (if click.accent then codes " accent" else codes " plain") ++ 10 ∷ []
+
+-- the lines of some clicks, in order
+abbrev pub click_lines_of : List Click → List ℕ
+click_lines_of clicks = flat_map click_line_of clicks
+
+-- A block begins where the last one ended and has 20 milliseconds. None is left only where the next one would end after the last moment.
+abbrev pub IsInTurn : ℤ → ℤ → Next → Type 0
+IsInTurn before after (next.Block block) = (block.start ≡ before) × (block.length ≡ pos 20_000) × (after ≡ (before +ℤ pos 20_000))
+IsInTurn before after next.Closed = (after ≡ before) × (pos (2 ^ 55) <ℤ (before +ℤ pos 20_000))
+IsInTurn before after next.Failed = after ≡ before
+
+-- The writer grew by exactly the lines of the clicks. Of a failure nothing is told.
+abbrev pub IsPlayedTo : Option (List ℕ) → Option (List ℕ) → List Click → Played → Type 0
+IsPlayedTo before after clicks played.Done = Appends before after (click_lines_of clicks)
+IsPlayedTo before after clicks played.Failed = Unit {0}

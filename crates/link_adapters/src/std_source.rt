@@ -1,0 +1,49 @@
+//! A source over a reader, as standard input.
+
+ghost use Rattle.std.specs.Prelude.{◌≡◌, ◌<◌, length, None};
+ghost use Rattle.lk_outside.specs.Source.{Gives, HasReadCause};
+ghost use Rattle.link_adapters.specs.Adapters.{IsReadFrom};
+
+use lk_outside::{Source, Taken};
+use std::io::Read;
+
+/// A reader as a source, with a count of the reads that failed.
+#[derive(Drop)]
+pub struct StdSource<R: Read + Drop> {
+    inner: R,
+    faults: u64,
+}
+
+impl<R: Read + Drop> StdSource<R> {
+    /// A source that no read of has failed yet.
+    pub fn new(inner: R) -> Self
+        ensures inner { result.inner ≡ inner }
+        ensures faultless { result.faults ≡ 0 }
+    {
+        StdSource { inner, faults: 0 }
+    }
+}
+
+impl<R: Read + Drop> Source for StdSource<R> {
+    ghost left = { λ _. None };
+
+    ghost faults = { λ source. source.faults };
+
+    fn read(&mut self, buf: &mut [u8]) -> Taken
+        requires { 0 < length buf.old }
+        ensures bytes { Gives None None buf.new result }
+        ensures cause { HasReadCause self.old.faults self.new.faults result }
+
+        // Of the reader itself, where its bytes are known.
+        ensures inner { IsReadFrom (R.remaining self.old.inner) (R.remaining self.new.inner) buf.new result }
+    {
+        match self.inner.read(buf) {
+            Ok(0) => Taken::End,
+            Ok(count) => Taken::Got(count),
+            Err(_) => {
+                self.faults = self.faults.saturating_add(1);
+                Taken::Failed
+            }
+        }
+    }
+}

@@ -1,0 +1,215 @@
+//! A port over UDP sockets.
+
+mod address;
+mod gates;
+mod refusal;
+
+ghost use Rattle.std.specs.Prelude.{◌≡◌, ◌<◌, ◌≤◌, [], length, take, vec_len, None, IfOk, IfSome, OnErr, MatchOption};
+ghost use Rattle.lk_base.specs.declared.endpoint.Endpoint.{Endpoint};
+ghost use Rattle.lk_outside.specs.Arrivals.{IsAnswer, PostValue};
+ghost use Rattle.lk_outside.specs.Port.{Binds, HasBindCause, Receives, HasReceiveCause, Posts, HasSendCause};
+ghost use Rattle.link_adapters.specs.Sockets.{IsFromTime, IsInBuffer, IsTurnAfter, locals_of};
+
+use crate::HostClock;
+use crate::host_clock::span;
+pub use address::{address_of, endpoint_of};
+use gates::{Came, GateSocket, look_at, open_gates};
+use lk_base::{Endpoint, Gate, MOMENT_MAX, Wire, append};
+use lk_outside::{Arrival, Bound, Port, Posted};
+use mio::{Events, Poll};
+pub use refusal::{Taken, posted_of, taken_of};
+use std::alloc::Global;
+use std::io;
+use std::net::Net;
+use std::sync::Wait;
+use std::time::Clock;
+
+/// How many events one wait hears of: one a gate.
+const EVENTS: usize = 4;
+
+/// A UDP socket for each gate, which sends and receives without waiting. No option of a socket is set but that one.
+#[derive(Drop)]
+pub struct UdpPort<R: Net + Clock + Wait + Copy + Drop> {
+    rt: R,
+    alloc: Global,
+    clock: HostClock,
+    gates: Vec<GateSocket>,
+    // Hears of the sockets of the gates.
+    poll: Poll,
+    events: Events<Global>,
+    // The gate that is asked first.
+    first: u8,
+    // What a receive wrote last.
+    buffer: [u8; 513],
+    faults: u64,
+    ghost few: { vec_len gates ≤ 4 },
+}
+
+impl<R: Net + Clock + Wait + Copy + Drop> UdpPort<R> {
+    /// A port with no gate, by this clock, which `rt` reads. The error is the system's, or that memory ran out.
+    ///
+    /// Waits: no. Memory: the list of events.
+    pub fn new(rt: R, alloc: Global, clock: HostClock) -> io::Result<Self>
+        ensures gates { IfOk result (λ port. locals_of port.gates.items ≡ []) }
+        ensures faultless { IfOk result (λ port. port.faults ≡ 0) }
+    {
+        let poll = Poll::new(&rt)?;
+        let events = Events::with_capacity(alloc, EVENTS)?;
+        Ok(UdpPort {
+            rt,
+            alloc,
+            clock,
+            gates: Vec::new(alloc),
+            poll,
+            events,
+            first: 0,
+            buffer: [0; 513],
+            faults: 0,
+        })
+    }
+
+    // Sockets in place of those of before. At an error those stay.
+    // Waits: no. Memory: the list of gates.
+    fn rebind(&mut self, locals: &[Endpoint]) -> io::Result<()>
+        requires { length locals.now ≤ 4 }
+        ensures gates { IfOk result (λ _. locals_of self.new.gates.items ≡ locals.now) }
+        ensures kept { OnErr result (self.new.gates ≡ self.old.gates) }
+        ensures faults { self.new.faults ≡ self.old.faults }
+    {
+        let poll = Poll::new(&self.rt)?;
+        self.gates = open_gates(&self.rt, self.alloc, &poll, locals)?;
+        self.poll = poll;
+        Ok(())
+    }
+
+    // What comes until a moment, in microseconds.
+    // Waits: for a datagram, until that moment. Memory: none.
+    fn arrival(&mut self, until: i64) -> io::Result<Arrival>
+        ensures answer { IfOk result (IsAnswer (vec_len self.old.gates)) }
+        ensures cause { IfOk result (HasReceiveCause self.old.faults self.new.faults) }
+        ensures time { IfOk result (IsFromTime until) }
+        ensures turn { IfOk result (IsTurnAfter self.old.first self.new.first) }
+        ensures bytes { IfOk result (IsInBuffer self.new.buffer) }
+        ensures failed { OnErr result (self.new.first ≡ self.old.first) }
+        ensures gates { self.new.gates ≡ self.old.gates }
+        ensures faults { self.new.faults ≡ self.old.faults }
+    {
+        let rt = self.rt;
+        for _ in rt.forever() {
+            if let Some(arrival) = self.attempt(until)? {
+                return Ok(arrival);
+            }
+        }
+        unreachable!()
+    }
+
+    // What has come, or that nothing has until now and it is that late. `None` after a wait, at the end of which something may have come.
+    // Waits: for a datagram, until that moment. Memory: none.
+    fn attempt(&mut self, until: i64) -> io::Result<Option<Arrival>>
+        ensures answer { IfOk result (λ came. IfSome came (IsAnswer (vec_len self.old.gates))) }
+        ensures cause { IfOk result (λ came. IfSome came (HasReceiveCause self.old.faults self.new.faults)) }
+        ensures time { IfOk result (λ came. IfSome came (IsFromTime until)) }
+        ensures turn { IfOk result (λ came. MatchOption came (self.new.first ≡ self.old.first) (IsTurnAfter self.old.first self.new.first)) }
+        ensures bytes { IfOk result (λ came. IfSome came (IsInBuffer self.new.buffer)) }
+        ensures failed { OnErr result (self.new.first ≡ self.old.first) }
+        ensures gates { self.new.gates ≡ self.old.gates }
+        ensures faults { self.new.faults ≡ self.old.faults }
+    {
+        let came = look_at(&self.rt, &self.gates, self.first, &mut self.buffer)?;
+        let now = self.clock.moment(&self.rt)?;
+        if let Some(Came { gate, from, count }) = came {
+            self.first = gate.0 + 1;
+            let bytes = wire_of(&self.buffer, count);
+            return Ok(Some(Arrival::Datagram {
+                gate,
+                from,
+                bytes,
+                now,
+            }));
+        }
+        if until <= now || now == MOMENT_MAX {
+            return Ok(Some(Arrival::Idle(now)));
+        }
+        self.poll.poll(&mut self.events, Some(span(now, until)))?;
+        Ok(None)
+    }
+}
+
+impl<R: Net + Clock + Wait + Copy + Drop> Port for UdpPort<R> {
+    ghost contents = { λ _. None };
+
+    ghost bound = { λ port. locals_of port.gates.items };
+
+    ghost faults = { λ port. port.faults };
+
+    // The new sockets are bound before those of before are closed, so that these stay at a failure: a gate of before is in use.
+    // Waits: no. Memory: the list of gates.
+    fn bind(&mut self, gates: &[Endpoint]) -> Bound
+        requires some { 0 < length gates.now }
+        requires few { length gates.now ≤ 4 }
+        ensures gates { Binds (locals_of self.old.gates.items) (locals_of self.new.gates.items) gates.now result }
+        ensures cause { HasBindCause self.old.faults self.new.faults result }
+    {
+        match self.rebind(gates) {
+            Ok(()) => Bound::Ready,
+            Err(_) => {
+                self.faults = self.faults.saturating_add(1);
+                Bound::Failed
+            }
+        }
+    }
+
+    // Waits: for a datagram, until that moment. Memory: none.
+    fn receive(&mut self, until: i64) -> Arrival
+        requires { 0 < length (locals_of self.old.gates.items) }
+        ensures answer { IsAnswer (length (locals_of self.old.gates.items)) result }
+        ensures contents { Receives None None result }
+        ensures gates { locals_of self.new.gates.items ≡ locals_of self.old.gates.items }
+        ensures cause { HasReceiveCause self.old.faults self.new.faults result }
+
+        // It isn't idle early, and it never closes.
+        ensures time { IsFromTime until result }
+
+        // The gate behind the one that answered is asked first the next time.
+        ensures turn { IsTurnAfter self.old.first self.new.first result }
+
+        // The bytes are those that the last receive wrote.
+        ensures bytes { IsInBuffer self.new.buffer result }
+    {
+        match self.arrival(until) {
+            Ok(arrival) => arrival,
+            Err(_) => {
+                self.faults = self.faults.saturating_add(1);
+                Arrival::Failed
+            }
+        }
+    }
+
+    // Waits: no. Memory: none.
+    fn send(&mut self, gate: Gate, to: Endpoint, bytes: &[u8]) -> Posted
+        requires { gate.0 < length (locals_of self.old.gates.items) }
+        ensures contents { Posts None None (record { gate = gate; to = to; bytes = bytes.now }) result }
+        ensures gates { locals_of self.new.gates.items ≡ locals_of self.old.gates.items }
+        ensures cause { HasSendCause self.old.faults self.new.faults result }
+        ensures turn { self.new.first ≡ self.old.first }
+    {
+        let sent = self.gates[usize::from(gate.0)]
+            .socket
+            .send_to(bytes, address_of(to));
+        let posted = posted_of(&sent);
+        if posted == Posted::Failed {
+            self.faults = self.faults.saturating_add(1);
+        }
+        posted
+    }
+}
+
+// The first bytes of a buffer.
+fn wire_of(buffer: &[u8; 513], count: usize) -> Wire
+    requires { count ≤ 513 }
+    ensures { result.items ≡ take count buffer.now }
+{
+    let mut bytes = Wire::new();
+    append(&mut bytes, &buffer[..count]);
+    bytes
+}

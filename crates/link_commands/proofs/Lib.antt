@@ -1,0 +1,7 @@
+mod LineLemmas
+mod EndLemmas
+pub mod OutletLemmas
+pub mod ReplayLemmas
+pub mod HexLineLemmas
+pub mod DecodeLemmas
+mod LoadLemmas

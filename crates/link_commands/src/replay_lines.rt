@@ -1,0 +1,133 @@
+//! The lines of a replay, handed over.
+
+ghost use Rattle.std.specs.Prelude.{◌≡◌, ◌≤◌, length, map, IfOk, OnOk, OnErr};
+ghost use Rattle.std.specs.List.{flat_map};
+ghost use Rattle.lk_outside.specs.Faults.{Rose};
+ghost use Rattle.link_node.specs.Event.{event_value, moment_of, sending_value};
+ghost use Rattle.link_node.specs.Runs.{shown_by};
+ghost use Rattle.link_text.specs.ReplayText.{done_line_of, sending_line_of, state_line_of, states_text_of};
+ghost use Rattle.link_commands.specs.Outlet.{HandsOver, HandsPart};
+
+use crate::counts::Counts;
+use crate::outlet::{Outlet, SinkFailed};
+use client_state::State;
+use link_node::{Change, Event, Sending};
+use link_text::{LineBuf, write_done_line, write_sending, write_state_line};
+use lk_outside::Sink;
+
+/// Hands over the line of a state by its number.
+pub fn hand_state<K: Sink>(
+    number: u64,
+    state: &State,
+    line: &mut LineBuf,
+    outlet: &mut Outlet,
+    out: &mut K,
+) -> Result<(), SinkFailed>
+    ensures kept { OnOk result (HandsOver (state_line_of number state.now)
+        (K.written out.old) outlet.old.kept.items (K.written out.new) outlet.new.kept.items) }
+    ensures part { OnErr result (HandsPart (state_line_of number state.now)
+        (K.written out.old) outlet.old.kept.items (K.written out.new)) }
+    ensures quiet { OnOk result (K.faults out.new ≡ K.faults out.old) }
+    ensures cause { OnErr result (Rose (K.faults out.old) (K.faults out.new)) }
+{
+    write_state_line(line, number, state);
+    outlet.put_line(out, line.as_slice())
+}
+
+/// Hands over the line of a state by its number, if it was published, and says how many lines that is.
+pub fn hand_published<K: Sink>(
+    change: Change,
+    number: u64,
+    state: &State,
+    line: &mut LineBuf,
+    outlet: &mut Outlet,
+    out: &mut K,
+) -> Result<u64, SinkFailed>
+    ensures count { IfOk result (λ count. count ≡ length (shown_by change state.now)) }
+    ensures few { IfOk result (λ count. count ≤ 1) }
+    ensures kept { OnOk result (HandsOver (states_text_of number (shown_by change state.now))
+        (K.written out.old) outlet.old.kept.items (K.written out.new) outlet.new.kept.items) }
+    ensures part { OnErr result (HandsPart (states_text_of number (shown_by change state.now))
+        (K.written out.old) outlet.old.kept.items (K.written out.new)) }
+    ensures quiet { OnOk result (K.faults out.new ≡ K.faults out.old) }
+    ensures cause { OnErr result (Rose (K.faults out.old) (K.faults out.new)) }
+{
+    match change {
+        Change::Same => Ok(0),
+        Change::Published => {
+            hand_state(number, state, line, outlet, out)?;
+            Ok(1)
+        }
+    }
+}
+
+/// Hands over the lines of the datagrams that follow from an event.
+pub fn hand_sends<K: Sink>(
+    event: &Event,
+    sends: &[Sending],
+    line: &mut LineBuf,
+    outlet: &mut Outlet,
+    out: &mut K,
+) -> Result<(), SinkFailed>
+    ensures kept { OnOk result (HandsOver (flat_map (sending_line_of (moment_of (event_value event.now))) (map sending_value sends.now))
+        (K.written out.old) outlet.old.kept.items (K.written out.new) outlet.new.kept.items) }
+    ensures part { OnErr result (HandsPart (flat_map (sending_line_of (moment_of (event_value event.now))) (map sending_value sends.now))
+        (K.written out.old) outlet.old.kept.items (K.written out.new)) }
+    ensures quiet { OnOk result (K.faults out.new ≡ K.faults out.old) }
+    ensures cause { OnErr result (Rose (K.faults out.old) (K.faults out.new)) }
+{
+    for sending in sends {
+        hand_sending(event, sending, line, outlet, out)?;
+    }
+    Ok(())
+}
+
+// Hands over the line of a datagram that follows from an event.
+fn hand_sending<K: Sink>(
+    event: &Event,
+    sending: &Sending,
+    line: &mut LineBuf,
+    outlet: &mut Outlet,
+    out: &mut K,
+) -> Result<(), SinkFailed>
+    ensures kept { OnOk result (HandsOver (sending_line_of (moment_of (event_value event.now)) (sending_value sending.now))
+        (K.written out.old) outlet.old.kept.items (K.written out.new) outlet.new.kept.items) }
+    ensures part { OnErr result (HandsPart (sending_line_of (moment_of (event_value event.now)) (sending_value sending.now))
+        (K.written out.old) outlet.old.kept.items (K.written out.new)) }
+    ensures quiet { OnOk result (K.faults out.new ≡ K.faults out.old) }
+    ensures cause { OnErr result (Rose (K.faults out.old) (K.faults out.new)) }
+{
+    write_sending(line, moment(event), sending);
+    outlet.put_line(out, line.as_slice())
+}
+
+// The moment of an event, in microseconds.
+fn moment(event: &Event) -> i64
+    ensures { result ≡ moment_of (event_value event.now) }
+{
+    match event {
+        Event::Rx { now, .. }
+        | Event::Tick { now }
+        | Event::App { now, .. }
+        | Event::Audio { now, .. }
+        | Event::End { now } => *now,
+    }
+}
+
+/// Hands over the last line.
+pub fn hand_done<K: Sink>(
+    counts: &Counts,
+    line: &mut LineBuf,
+    outlet: &mut Outlet,
+    out: &mut K,
+) -> Result<(), SinkFailed>
+    ensures kept { OnOk result (HandsOver (done_line_of counts.now.events counts.now.states counts.now.sends)
+        (K.written out.old) outlet.old.kept.items (K.written out.new) outlet.new.kept.items) }
+    ensures part { OnErr result (HandsPart (done_line_of counts.now.events counts.now.states counts.now.sends)
+        (K.written out.old) outlet.old.kept.items (K.written out.new)) }
+    ensures quiet { OnOk result (K.faults out.new ≡ K.faults out.old) }
+    ensures cause { OnErr result (Rose (K.faults out.old) (K.faults out.new)) }
+{
+    write_done_line(line, counts.events, counts.states, counts.sends);
+    outlet.put_line(out, line.as_slice())
+}

@@ -1,5 +1,0 @@
-use Rattle.link_daemon.proofs.DecodeLemmas.{one_output}
-use Rattle.link_daemon.proofs.laws.one_output.Goals as goal
-
-pub returns : goal.returns
-returns c = one_output c.one_reading.ensures

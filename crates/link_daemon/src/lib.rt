@@ -1,0 +1,23 @@
+//! The top call, and the command `live`. What the crates below have for a program it hands on: the other commands, the statuses, and the
+//! real things that a program reads from and writes to.
+//!
+//! In reading order: `top` (the top call), `live` (the command `live`, over the run of `link_live`), `report_text`, `sayable` (what it
+//! tells); `usage_text` (what is told of words that are no command); last `laws`.
+#![tactic(auto)]
+
+mod laws;
+mod live;
+mod report_text;
+mod sayable;
+mod top;
+mod usage_text;
+
+pub use laws::{one_fault_line, one_status, valid_is_done};
+pub use link_adapters::{
+    BehindName, ClickAudio, ClockPace, HostClock, StdSink, StdSource, UdpPort,
+};
+pub use link_commands::{Grammar, Reason, Status, decode_main, load_main, one_output, replay_main};
+pub use link_live::{Report, audio_loop, network_loop};
+pub use live::live_main;
+pub use top::link_main;
+pub use usage_text::{unreadable_usage, usage};

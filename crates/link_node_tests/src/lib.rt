@@ -1,5 +1,0 @@
-//! The tests of `link_node`, over its public calls.
-#![tactic(auto)]
-
-#[cfg(test)]
-mod tests;

@@ -1,0 +1,6 @@
+mod CommandLemmas
+mod CommandWordLemmas
+mod LoadWordLemmas
+mod OptionLemmas
+mod LiveWordLemmas
+pub mod NameLemmas

@@ -1,0 +1,17 @@
+//! The words after the program's name: which command the first one names, and what the others say.
+//!
+//! In reading order: `command_line`, `command_name`; `command_words` (what the commands share whose words clap reads), `load_words`,
+//! `live_words`.
+#![tactic(auto)]
+
+mod command_line;
+mod command_name;
+mod command_words;
+mod live_words;
+mod load_words;
+
+pub use command_line::is_only;
+pub use command_name::{CommandName, command_named};
+pub use command_words::WordsFault;
+pub use live_words::{LiveOptions, live_command, live_matches, live_options};
+pub use load_words::{LoadNumbers, load_command, load_matches, load_numbers};

@@ -1,0 +1,152 @@
+//! The words of `live`.
+
+ghost use Rattle.std.specs.Prelude.{◌≡◌, ◌↔◌, ◌≤◌, ◌^◌, ℕ, List, pos, true, Some, codes, map, IfOk, IsErrOf};
+ghost use Rattle.std.specs.String.{string_bytes};
+ghost use Rattle.clap.specs.Words.{FailsBy, HasMatchesOf, fault_of, found_of, one_text, rule_of};
+ghost use Rattle.clap.specs.declared.builder.value_parser.ValueParser.TheVariants.{Unsigned};
+ghost use Rattle.lk_base.specs.Ranges.{IsQuantum};
+ghost use Rattle.link_words.specs.CommandWords.{HasNumber, IsNumberIn};
+ghost use Rattle.link_words.specs.LiveCommand.{IsLiveCommand, IsLocalArg, IsOptionArg};
+ghost use Rattle.link_words.specs.LiveWords.{BeginsLive, IsLive, NamesLive, flag_rule, live_app, option_rule};
+
+use crate::command_line::begins_with;
+use crate::command_name::CommandName;
+use crate::command_words::{WordsFault, number_in};
+use clap::builder::ValueParser;
+use clap::error::ErrorKind;
+use clap::{Arg, ArgAction, ArgMatches, Command, Error, value_parser};
+use std::alloc::{AllocError, Global};
+
+/// How a live run is set up by its words.
+#[derive(Clone, Copy, Debug, PartialEq, Eq)]
+pub struct LiveOptions {
+    /// How many events the journal takes.
+    pub events: u64,
+    /// How many blocks are played at most.
+    pub blocks: u64,
+    /// The length in microbeats that accents and phases are counted in; 0 is none.
+    pub quantum: i64,
+    /// Whether the run's replay script is written.
+    pub record: bool,
+}
+
+/// How the words set up a live run: `live`, with the options `--events` (1 to 524,288; 262,144 where it is not given), `--blocks` (0 to
+/// 524,288; 262,144) and `--quantum` (0 to 2^40 microbeats; 4,000,000), and the flag `--record`.
+///
+/// Memory: what clap needs to read the words.
+pub fn live_options(alloc: Global, words: &[String]) -> Result<LiveOptions, WordsFault>
+    ensures named { IfOk result (NamesLive words.now) }
+    ensures ranges { IfOk result (λ options.
+        (1 ≤ options.events) × (options.events ≤ 524_288) × (options.blocks ≤ 524_288) × IsQuantum options.quantum) }
+    ensures not_taken { IsErrOf result WordsFault.NotTaken → IsLive words.now → ⊥ }
+    ensures memory { IsErrOf result WordsFault.Memory → BeginsLive words.now }
+{
+    if !begins_with(words, CommandName::Live) {
+        return Err(WordsFault::NotTaken);
+    }
+    match live_matches(alloc, words) {
+        Ok(matches) => Ok(LiveOptions {
+            events: number_in(&matches, "events"),
+            blocks: number_in(&matches, "blocks"),
+            quantum: microbeats_in(&matches, "quantum"),
+            record: flag_in(&matches, "record"),
+        }),
+        Err(error) if error.kind() == ErrorKind::OutOfMemory => Err(WordsFault::Memory),
+        Err(_) => Err(WordsFault::NotTaken),
+    }
+}
+
+// The number of microbeats of this name.
+fn microbeats_in(matches: &ArgMatches<'_>, id: &str) -> i64
+    requires some { HasNumber matches.now id.now 0 (2 ^ 40) }
+    ensures is { (number : ℕ) × IsNumberIn matches.now id.now number × (result ≡ pos number) }
+    ensures range { IsQuantum result }
+{
+    number_in(matches, id) as i64
+}
+
+// Whether the flag of this name was given.
+fn flag_in(matches: &ArgMatches<'_>, id: &str) -> bool
+    ensures { (result ≡ true) ↔ (one_text (found_of matches.now) id.now ≡ Some (codes "true")) }
+{
+    matches.get_one::<bool>(id).unwrap_or(false)
+}
+
+/// What clap makes of the words.
+pub fn live_matches<'a>(alloc: Global, words: &'a [String]) -> Result<ArgMatches<'a>, Error>
+    ensures matches { IfOk result (HasMatchesOf live_app (map string_bytes words.entry.now)) }
+    ensures kinds { FailsBy (fault_of live_app (map string_bytes words.entry.now)) result }
+    ensures events { IfOk result (λ m. HasNumber m (codes "events") 1 524_288) }
+    ensures blocks { IfOk result (λ m. HasNumber m (codes "blocks") 0 524_288) }
+    ensures quantum { IfOk result (λ m. HasNumber m (codes "quantum") 0 (2 ^ 40)) }
+{
+    live_command(alloc)?.try_get_matches_from(words)
+}
+
+/// The command, with what is told of it.
+pub fn live_command<'a>(alloc: Global) -> Result<Command<'a>, AllocError>
+    ensures { IfOk result IsLiveCommand }
+{
+    let events = option(
+        alloc,
+        "events",
+        "262144",
+        "how many events the journal takes, from 1 to 524288",
+        value_parser!(u64).range(1..=524_288),
+    );
+    let blocks = option(
+        alloc,
+        "blocks",
+        "262144",
+        "how many blocks of 20 milliseconds are played at most, from 0 to 524288",
+        value_parser!(u64).range(0..=524_288),
+    );
+    let quantum = option(
+        alloc,
+        "quantum",
+        "4000000",
+        "the length in microbeats that accents and phases are counted in, from 0, which is none, to 1099511627776",
+        value_parser!(u64).range(0..=1_099_511_627_776),
+    );
+    Command::new(alloc, "live")
+        .bin_name("jorazhil live")?
+        .disable_help_flag(true)
+        .disable_version_flag(true)
+        .override_usage("jorazhil live [OPTIONS] < SCRIPT")
+        .arg(events)?
+        .arg(blocks)?
+        .arg(quantum)?
+        .arg(flag(alloc, "record", "also writes the run's replay script"))
+}
+
+// An option with a default, whose value is a whole number in the parser's range.
+fn option<'a>(
+    alloc: Global,
+    id: &'a str,
+    default: &'a str,
+    help: &'a str,
+    parser: ValueParser<'a>,
+) -> Arg<'a>
+    ensures rule { (least most : ℕ) → parser.entry ≡ Unsigned least most
+        → rule_of result ≡ option_rule id.entry.now least most default.entry.now }
+    ensures kept { (least most : ℕ) → parser.entry ≡ Unsigned least most → IsOptionArg result id.entry.now least most }
+{
+    Arg::new(alloc, id)
+        .long(id)
+        .action(ArgAction::Set)
+        .value_name("N")
+        .value_parser(parser)
+        .default_value(default)
+        .help(help)
+}
+
+// A flag.
+fn flag<'a>(alloc: Global, id: &'a str, help: &'a str) -> Arg<'a>
+    ensures rule { rule_of result ≡ flag_rule id.entry.now }
+    ensures kept { IsLocalArg result id.entry.now }
+{
+    Arg::new(alloc, id)
+        .long(id)
+        .action(ArgAction::SetTrue)
+        .help(help)
+}

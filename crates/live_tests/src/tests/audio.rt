@@ -1,0 +1,125 @@
+//! Runs of the audio thread's loop, over a device and a link in memory.
+//!
+//! The link opens at a second with 500,000 microseconds per beat from beat 0 there, and doesn't play. The blocks of the device are a second
+//! long and begin where the link opens, and the quantum is four beats. The link's network thread makes no turn, so no commit is taken.
+
+mod rows;
+mod told;
+
+ghost use Rattle.std.specs.Prelude.{◌≡◌, ◌≤◌, [], All, length};
+ghost use Rattle.link_text.specs.LiveScript.{IsCommand, app as app_command, block as block_command};
+ghost use Rattle.link_live.specs.LiveRun.{IsReady};
+
+use super::devices::{Blocks, device_of};
+use super::lines::Text;
+use super::nodes::config_of;
+use super::scripts::script_of;
+use audio_handoff::StateCell;
+use client_state::Commit;
+use link_live::{Room, audio_loop};
+use link_shared::{AudioPass, Link, LinkName, Opened, Parts};
+use link_text::{LiveFault, LiveScript};
+use lk_base::ClientStart;
+use lk_outside::ListAudio;
+use rows::{ROWS, Row};
+use std::alloc::{AllocError, Global};
+use std::marker::Brand;
+use std::test::Fail;
+use told::tell;
+use triple_buffer::Triple;
+
+#[test]
+fn each_block_is_played_by_one_state_and_its_commits_follow(rt: HostRuntime) -> Result<(), Fail> {
+    for row in &ROWS {
+        let Ok(told) = told_for(rt.alloc(), row) else {
+            panic!(rt; "no run: {}", row.commands);
+        };
+        assert_eq!(rt; told.as_slice(), row.told.as_bytes(), "{}", row.commands);
+    }
+    Ok(())
+}
+
+fn told_for(alloc: Global, row: &Row) -> Result<Text, LiveFault> {
+    let script = script_of(alloc, row.commands)?;
+    told_by(alloc, row, &script).map_err(LiveFault::Memory)
+}
+
+fn told_by(alloc: Global, row: &Row, script: &LiveScript) -> Result<Text, AllocError>
+    requires apps { All (λ command. IsCommand (app_command command)) script.now.apps.items }
+    requires commands { All (λ command. IsCommand (block_command command)) script.now.blocks.items }
+    requires few { length script.now.blocks.items ≤ 99 }
+{
+    let mut room = Room::new(alloc, script, u64::from(row.blocks))?;
+    let mut device = device_of(alloc, Blocks::Long, row.device, row.failing)?;
+    told_on(alloc, row, script, &mut room, &mut device)
+}
+
+// The link comes last, since nothing can fail behind it.
+fn told_on(
+    alloc: Global,
+    row: &Row,
+    script: &LiveScript,
+    room: &mut Room,
+    device: &mut ListAudio,
+) -> Result<Text, AllocError>
+    requires few { length script.now.blocks.items ≤ 99 }
+    requires ready { IsReady script.now row.now.blocks room.old }
+{
+    let parts = Parts::<Triple<9>>::new(alloc, &(), &config_of(&[0]), 1_000_000, 1)?;
+    Ok(told_of::<Triple<9>, Brand>(parts, row, script, room, device))
+}
+
+fn told_of<C: StateCell<9, Way = ()>, N: LinkName>(
+    parts: Parts<C>,
+    row: &Row,
+    script: &LiveScript,
+    room: &mut Room,
+    device: &mut ListAudio,
+) -> Text
+    requires cells { (parts.app_states ≡ N.app_states) × (parts.audio_states ≡ N.audio_states) × (parts.audio_commits ≡ N.audio_commits) }
+    requires queue { parts.queue ≡ N.queue }
+    requires ledger { (parts.ledger ≡ N.name) × (parts.shares ≡ N.parts) × (N.whole ≡ N.parts) }
+    requires few { length script.now.blocks.items ≤ 99 }
+    requires ready { IsReady script.now row.now.blocks room.old }
+{
+    let Opened {
+        link,
+        mut audio,
+        ..
+    } = Link::<C, N>::make(parts);
+    commit_before(&link, &mut audio, row.commits);
+    let ended = audio_loop(
+        &link,
+        &mut audio,
+        device,
+        script,
+        u64::from(row.blocks),
+        4_000_000,
+        &mut room.audio,
+    );
+    tell(&room.audio, device, ended)
+}
+
+// The commit made before, where there is one: it plays from half a second after the opening on.
+fn commit_before<C: StateCell<9, Way = ()>, N: LinkName>(
+    link: &Link<C, N>,
+    pass: &mut AudioPass<C, N>,
+    commits: bool,
+)
+    requires { pass.old.made ≡ [] }
+    ensures { length pass.new.made ≤ 1 }
+{
+    if commits {
+        let start = ClientStart {
+            playing: true,
+            time: 1_500_000,
+            stamp: 1,
+        };
+        let commit = Commit {
+            timeline: None,
+            start: Some(start),
+            at: 1,
+        };
+        let _number = link.commit_audio(&(), pass, &commit);
+    }
+}

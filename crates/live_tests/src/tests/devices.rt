@@ -1,0 +1,54 @@
+//! Audio devices in memory.
+
+ghost use Rattle.std.specs.Prelude.{All, IfOk};
+ghost use Rattle.lk_outside.specs.Audio.{IsBlock};
+
+use lk_base::Block;
+use lk_outside::ListAudio;
+use std::alloc::{AllocError, Global};
+
+/// When the blocks of a device begin.
+#[derive(Clone, Copy)]
+pub enum Blocks {
+    /// A second long each, from a second on.
+    Long,
+    /// 20,000 microseconds long each, from 0 on.
+    Short,
+}
+
+/// A device of so many blocks. The calls fail whose pairs of kind and number stand in `failing`.
+pub fn device_of(
+    alloc: Global,
+    blocks: Blocks,
+    count: u16,
+    failing: &[(u8, u64)],
+) -> Result<ListAudio, AllocError> {
+    let failing = Vec::from_slice(alloc, failing)?;
+    ListAudio::new(alloc, blocks_of(alloc, blocks, count)?, failing)
+}
+
+fn blocks_of(alloc: Global, blocks: Blocks, count: u16) -> Result<Vec<Block>, AllocError>
+    ensures { IfOk result (λ all. All IsBlock all.items) }
+{
+    let mut all = Vec::new(alloc);
+    for k in 0..count {
+        all.push(block_after(blocks, k))?;
+    }
+    Ok(all)
+}
+
+// The block that so many blocks of the device come before.
+fn block_after(blocks: Blocks, k: u16) -> Block
+    ensures { IsBlock result }
+{
+    match blocks {
+        Blocks::Long => Block {
+            start: 1_000_000 + 1_000_000 * i64::from(k),
+            length: 1_000_000,
+        },
+        Blocks::Short => Block {
+            start: 20_000 * i64::from(k),
+            length: 20_000,
+        },
+    }
+}

@@ -1,0 +1,280 @@
+//! Live runs: three real threads over a port, a device and a pace in memory.
+//!
+//! The link opens at 0 with 500,000 microseconds per beat from beat 0 there, and doesn't play. Nothing comes to the port, so no moment is
+//! heard after the opening. The blocks of the device are 20,000 microseconds long and begin at the opening, and the quantum is four beats.
+
+ghost use Rattle.std.specs.Prelude.{◌≡◌, ◌≤◌, pos, All, length};
+ghost use Rattle.lk_outside.specs.ListPace.{late_of};
+ghost use Rattle.lk_outside.specs.Pace.{IsPaced};
+ghost use Rattle.link_node.specs.Config.{config_value, IsConfig};
+ghost use Rattle.link_text.specs.LiveScript.{IsCommand, app as app_command, block as block_command};
+ghost use Rattle.link_live.specs.LiveRun.{IsReady};
+
+use super::devices::{Blocks, device_of};
+use super::events::kind_of;
+use super::lines::{Text, put, put_count};
+use super::nodes::config_of;
+use super::scripts::script_of;
+use client_state::State;
+use link_live::{LiveEnd, LiveRun, Room, live_run};
+use link_node::{Config, Event};
+use link_shared::{LinkName, Parts};
+use link_text::{LineBuf, LiveFault, LiveScript, write_state_line};
+use lk_outside::{BIND, ListAudio, ListPace, ListPort, NEXT, Pace, RECEIVE};
+use std::alloc::{AllocError, Global};
+use std::marker::Brand;
+use std::sync::Wait;
+use std::test::Fail;
+use std::thread::Threads;
+use triple_buffer::Triple;
+
+/// What is given to a run, and what is told of it.
+struct Row {
+    /// How many blocks the device has, and how many events the journal takes.
+    blocks: u16,
+    most: u64,
+    /// The calls of the port and of the device that fail: the k-th of a kind.
+    port: &'static [(u8, u64)],
+    device: &'static [(u8, u64)],
+    commands: &'static str,
+    told: &'static str,
+}
+
+/// Worked out by hand.
+const ROWS: [Row; 8] = [
+    // The first turn ticks, and so does no other.
+    Row {
+        blocks: 0,
+        most: 300,
+        port: &[],
+        device: &[],
+        commands: "",
+        told: "Well t1 c0 u0 e1 end, 0 reads, 0 captures, 0 and 0 commits\n\
+            state 1 500000 0 0 0 0 0 1 0 0 0 0\n",
+    },
+    // Beat 2 is at 1,000,000, and so half a second of four beats a second before it is beat 0.
+    Row {
+        blocks: 2,
+        most: 300,
+        port: &[],
+        device: &[],
+        commands: "at 1000000 tempo 250000\n",
+        told: "Well t1 c1 u0 e1 end, 2 reads, 1 captures, 1 and 0 commits\n\
+            state 2 250000 0 500000 0 0 0 1 0 0 1 0\n\
+            state 0 500000 0 0 0 0 0 1 0 0 0 0\n",
+    },
+    // Whether the commits were taken by then or not, the look is shown both.
+    Row {
+        blocks: 2,
+        most: 300,
+        port: &[],
+        device: &[],
+        commands: "at 1000000 tempo 250000\nat 2000000 play\nat 3000000 look\n",
+        told: "Well t1 c2 u0 e1 end, 2 reads, 3 captures, 2 and 0 commits\n\
+            state 3 250000 0 500000 1 2000000 2000000 1 0 0 2 0\n\
+            state 0 250000 0 500000 1 2000000 2000000 1 0 0 0 0\n",
+    },
+    // The tick stands before the second commit, and for the third there is no room.
+    Row {
+        blocks: 1,
+        most: 3,
+        port: &[],
+        device: &[],
+        commands: "at 1000000 tempo 250000\nat 1000000 tempo 200000\nat 1000000 tempo 125000\n",
+        told: "Events t1 c2 u0 e0, 1 reads, 3 captures, 3 and 0 commits\n\
+            state 3 200000 0 600000 0 0 0 1 0 0 2 0\n\
+            state 0 200000 0 600000 0 0 0 1 0 0 0 0\n",
+    },
+    Row {
+        blocks: 1,
+        most: 300,
+        port: &[(RECEIVE, 1)],
+        device: &[],
+        commands: "at 1000000 tempo 250000\n",
+        told: "Port t1 c1 u0 e1 end, 1 reads, 1 captures, 1 and 0 commits\n\
+            state 2 250000 0 500000 0 0 0 1 0 0 1 0\n\
+            state 0 500000 0 0 0 0 0 1 0 0 0 0\n",
+    },
+    Row {
+        blocks: 1,
+        most: 300,
+        port: &[(BIND, 1)],
+        device: &[],
+        commands: "at 1000000 tempo 250000\n",
+        told: "Port t1 c1 u0 e1 end, 1 reads, 1 captures, 1 and 0 commits\n\
+            state 2 250000 0 500000 0 0 0 1 0 0 1 0\n\
+            state 0 500000 0 0 0 0 0 1 0 0 0 0\n",
+    },
+    Row {
+        blocks: 1,
+        most: 300,
+        port: &[],
+        device: &[(NEXT, 1)],
+        commands: "at 1000000 tempo 250000\n",
+        told: "Audio t1 c1 u0 e1 end, 0 reads, 1 captures, 1 and 0 commits\n\
+            state 2 250000 0 500000 0 0 0 1 0 0 1 0\n\
+            state 0 500000 0 0 0 0 0 1 0 0 0 0\n",
+    },
+    // The last commit of the audio thread is always taken. It is made at the start of the block, which is beat 0.
+    Row {
+        blocks: 2,
+        most: 300,
+        port: &[],
+        device: &[],
+        commands: "block 1 tempo 250000\n",
+        told: "Well t1 c0 u1 e1 end, 2 reads, 0 captures, 0 and 1 commits\n\
+            state 2 250000 0 0 0 0 0 1 0 0 0 1\n",
+    },
+];
+
+#[test]
+fn three_threads_run_over_a_link(rt: HostRuntime) -> Result<(), Fail> {
+    for row in &ROWS {
+        let Ok(told) = told_for(&rt, rt.alloc(), row) else {
+            panic!(&rt; "no run: {}", row.commands);
+        };
+        assert_eq!(&rt; told.as_slice(), row.told.as_bytes(), "{}", row.commands);
+    }
+    Ok(())
+}
+
+// ---- a run
+
+fn told_for<R: Threads + Wait + Sync>(rt: &R, alloc: Global, row: &Row) -> Result<Text, LiveFault> {
+    let script = script_of(alloc, row.commands)?;
+    told_by(rt, alloc, row, &script).map_err(LiveFault::Memory)
+}
+
+fn told_by<R: Threads + Wait + Sync>(
+    rt: &R,
+    alloc: Global,
+    row: &Row,
+    script: &LiveScript,
+) -> Result<Text, AllocError>
+    requires apps { All (λ command. IsCommand (app_command command)) script.now.apps.items }
+    requires commands { All (λ command. IsCommand (block_command command)) script.now.blocks.items }
+    requires few { length script.now.blocks.items ≤ 99 }
+{
+    let failing = Vec::from_slice(alloc, row.port)?;
+    let mut port = ListPort::new(alloc, Vec::new(alloc), 500, failing)?;
+    let mut device = device_of(alloc, Blocks::Short, row.blocks, row.device)?;
+    told_on(rt, alloc, row, script, &mut port, &mut device)
+}
+
+// The link comes last, since nothing can fail behind it.
+fn told_on<R: Threads + Wait + Sync>(
+    rt: &R,
+    alloc: Global,
+    row: &Row,
+    script: &LiveScript,
+    port: &mut ListPort,
+    device: &mut ListAudio,
+) -> Result<Text, AllocError>
+    requires apps { All (λ command. IsCommand (app_command command)) script.now.apps.items }
+    requires commands { All (λ command. IsCommand (block_command command)) script.now.blocks.items }
+    requires few { length script.now.blocks.items ≤ 99 }
+{
+    let room = Room::new(alloc, script, u64::from(row.blocks))?;
+    let config = config_of(&[0]);
+    let mut pace = ListPace::new(0);
+    let now = pace.until(0);
+    let most = row.most.clamp(1, 524_288);
+    let parts = Parts::<Triple<9>>::new(alloc, &(), &config, now, most)?;
+    Ok(tell(&run_of::<Brand, R>(
+        rt, alloc, parts, &config, script, row.blocks, room, port, device, &mut pace,
+    )))
+}
+
+fn run_of<N: LinkName + Send + Sync, R: Threads + Wait + Sync>(
+    rt: &R,
+    alloc: Global,
+    parts: Parts<Triple<9>>,
+    config: &Config,
+    script: &LiveScript,
+    blocks: u16,
+    room: Room,
+    port: &mut ListPort,
+    device: &mut ListAudio,
+    pace: &mut ListPace,
+) -> LiveRun
+    requires cells { (parts.app_states ≡ N.app_states) × (parts.audio_states ≡ N.audio_states) × (parts.audio_commits ≡ N.audio_commits) }
+    requires queue { parts.queue ≡ N.queue }
+    requires ledger { (parts.ledger ≡ N.name) × (parts.shares ≡ N.parts) × (N.whole ≡ N.parts) }
+    requires config { (parts.config ≡ config_value config.now) × IsConfig parts.config }
+    requires opening { IsPaced (late_of pace.old) (pos 0) parts.opened_at }
+    requires ready { IsReady script.now blocks room }
+{
+    live_run::<N, ListPort, ListAudio, ListPace, R>(
+        rt,
+        alloc,
+        parts,
+        config,
+        script,
+        u64::from(blocks),
+        4_000_000,
+        room,
+        port,
+        device,
+        pace,
+    )
+}
+
+// ---- what is told, but for what depends on how the threads step
+
+// A line of counts: of the events of each kind, with `end` where the last of them is that, of the reads and captures, and of the
+// commits of the application and the audio thread. Then the state published last, with the count of all behind `state`, and the one
+// that the last capture shows, without the count of commits taken.
+fn tell(run: &LiveRun) -> Text {
+    let mut text = Text::new();
+    put(&mut text, end_name(run.end));
+    put_events(&mut text, &run.events);
+    put_count(&mut text, b", ", run.audio.reads.len() as u64);
+    put_count(&mut text, b" reads, ", run.script.captures.len() as u64);
+    put_count(&mut text, b" captures, ", run.script.commits.len() as u64);
+    put_count(&mut text, b" and ", run.audio.commits.len() as u64);
+    put(&mut text, b" commits\n");
+    if let Some(state) = run.published.last() {
+        put_state(&mut text, run.published.len() as u64, state);
+    }
+    if let Some(capture) = run.script.captures.last() {
+        let mut shown = capture.shown;
+        shown.app = 0;
+        put_state(&mut text, 0, &shown);
+    }
+    text
+}
+
+fn put_state(text: &mut Text, number: u64, state: &State) {
+    let mut line = LineBuf::new();
+    write_state_line(&mut line, number, state);
+    put(text, &line);
+}
+
+fn end_name(end: LiveEnd) -> &'static [u8] {
+    match end {
+        LiveEnd::Memory => b"Memory",
+        LiveEnd::Port => b"Port",
+        LiveEnd::Audio => b"Audio",
+        LiveEnd::Events => b"Events",
+        LiveEnd::Well => b"Well",
+    }
+}
+
+fn put_events(text: &mut Text, events: &[Event]) {
+    put_count(text, b" t", count_of(events, b't'));
+    put_count(text, b" c", count_of(events, b'c'));
+    put_count(text, b" u", count_of(events, b'u'));
+    put_count(text, b" e", count_of(events, b'e'));
+    if let Some(event) = events.last() {
+        put(text, if kind_of(event) == b'e' { b" end" } else { b"" });
+    }
+}
+
+// How many events are of that kind.
+fn count_of(events: &[Event], kind: u8) -> u64 {
+    let mut count = 0u64;
+    for event in events {
+        count = count.wrapping_add(u64::from(kind_of(event) == kind));
+    }
+    count
+}

@@ -1,0 +1,166 @@
+//! A link over each cell, on which a script is run.
+
+ghost use Rattle.std.specs.Prelude.{◌≡◌, ◌≤◌, All, length};
+ghost use Rattle.link_text.specs.LiveScript.{IsCommand, app as app_command, block as block_command};
+ghost use Rattle.link_live.specs.LiveRun.{IsReady};
+
+use super::super::lines::{Text, put};
+use super::super::nodes::config_of;
+use super::rows::Row;
+use audio_handoff::StateCell;
+use client_state::Commit;
+use link_live::{Room, ScriptReport, script_loop};
+use link_node::{Event, Sends};
+use link_shared::{AppPass, Got, Hub, Link, LinkName, Opened, Parts};
+use link_text::{LineBuf, LiveScript, write_event, write_state_line};
+use lk_base::MOMENT_MAX;
+use lk_outside::ListPace;
+use std::alloc::{AllocError, Global};
+use std::marker::Brand;
+use std::process::Abort;
+use std::sync::Wait;
+
+const NOTHING: Commit = Commit {
+    timeline: None,
+    start: None,
+    at: 0,
+};
+
+/// The run of a row over a link with such a cell, and what is told of it. The link comes last, since nothing can fail behind it.
+pub fn told_by<C: StateCell<9>, R: Wait + Abort>(
+    rt: &R,
+    alloc: Global,
+    way: &C::Way,
+    row: &Row,
+    script: &LiveScript,
+) -> Result<Text, AllocError>
+    requires apps { All (λ command. IsCommand (app_command command)) script.now.apps.items }
+    requires commands { All (λ command. IsCommand (block_command command)) script.now.blocks.items }
+    requires few { length script.now.blocks.items ≤ 99 }
+{
+    let mut room = Room::new(alloc, script, 0)?;
+    let parts = Parts::<C>::new(alloc, way, &config_of(&[0]), 0, 300)?;
+    Ok(told_of::<C, Brand, R>(rt, alloc, way, parts, row, script, &mut room))
+}
+
+fn told_of<C: StateCell<9>, N: LinkName, R: Wait + Abort>(
+    rt: &R,
+    alloc: Global,
+    way: &C::Way,
+    parts: Parts<C>,
+    row: &Row,
+    script: &LiveScript,
+    room: &mut Room,
+) -> Text
+    requires cells { (parts.app_states ≡ N.app_states) × (parts.audio_states ≡ N.audio_states)
+        × (parts.audio_commits ≡ N.audio_commits) }
+    requires queue { parts.queue ≡ N.queue }
+    requires ledger { (parts.ledger ≡ N.name) × (parts.shares ≡ N.parts) × (N.whole ≡ N.parts) }
+    requires ready { IsReady script.now 0 room.old }
+{
+    let Opened {
+        link,
+        mut hub,
+        mut app,
+        ..
+    } = Link::<C, N>::make(parts);
+    let mut pace = ListPace::new(row.late.clamp(0, MOMENT_MAX));
+    let all = script_loop(
+        rt,
+        alloc,
+        &link,
+        way,
+        &mut app,
+        &mut pace,
+        script,
+        row.quantum.clamp(0, 1_099_511_627_776),
+        &mut room.script,
+    );
+    assert!(rt; all);
+    drain(
+        rt,
+        way,
+        &link,
+        &mut hub,
+        room.script.commits.len(),
+        &mut room.sends,
+    );
+    check_taken(rt, hub.journal(), &room.script.commits);
+    check_next(rt, &link, &mut app, room.script.commits.len());
+    tell(&room.script, hub.journal())
+}
+
+// Makes turns until one tells a quit, which is the first one behind all commits. None finds the journal full.
+fn drain<C: StateCell<9>, N: LinkName, R: Wait + Abort>(
+    rt: &R,
+    way: &C::Way,
+    link: &Link<C, N>,
+    hub: &mut Hub<C, N>,
+    commits: usize,
+    sends: &mut Sends,
+) {
+    let mut early = false;
+    let mut full = false;
+    for _ in 0..commits {
+        early = turn(rt, way, link, hub, sends, &mut full) | early;
+    }
+    let last = turn(rt, way, link, hub, sends, &mut full);
+    assert!(rt; last & !early & !full);
+}
+
+// Makes a turn, notes whether it finds the journal full, and answers whether it tells a quit.
+fn turn<C: StateCell<9>, N: LinkName, R: Wait>(
+    rt: &R,
+    way: &C::Way,
+    link: &Link<C, N>,
+    hub: &mut Hub<C, N>,
+    sends: &mut Sends,
+    full: &mut bool,
+) -> bool {
+    let now = hub.moment();
+    let turned = hub.turn(rt, link, way, now, Got::Nothing, sends);
+    *full = *full | turned.full;
+    turned.quit
+}
+
+// The events taken are these commits.
+fn check_taken<R: Abort>(rt: &R, journal: &[Event], commits: &[Commit]) {
+    assert_eq!(rt; journal.len(), commits.len());
+    for (event, commit) in journal.iter().zip(commits) {
+        assert!(rt; is_of(event, commit));
+    }
+}
+
+fn is_of(event: &Event, commit: &Commit) -> bool {
+    match event {
+        Event::App { commit: taken, .. } => taken == commit,
+        _ => false,
+    }
+}
+
+// A further commit has the number behind theirs.
+fn check_next<C: StateCell<9>, N: LinkName, R: Wait + Abort>(
+    rt: &R,
+    link: &Link<C, N>,
+    app: &mut AppPass<C, N>,
+    commits: usize,
+) {
+    let Ok(number) = link.commit(rt, app, NOTHING) else {
+        panic!(rt; "the queue is full");
+    };
+    assert_eq!(rt; number, (commits as u64).wrapping_add(1));
+}
+
+fn tell(report: &ScriptReport, journal: &[Event]) -> Text {
+    let mut text = Text::new();
+    let mut line = LineBuf::new();
+    for capture in &report.captures {
+        write_state_line(&mut line, capture.number, &capture.shown);
+        put(&mut text, &line);
+    }
+    for event in journal {
+        write_event(&mut line, event);
+        put(&mut text, &line);
+    }
+    text
+}

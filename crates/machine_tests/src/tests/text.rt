@@ -1,0 +1,20 @@
+//! Texts of `link_text`: lines as they are written, scripts as they are read.
+
+mod commands;
+mod explanations;
+mod lines;
+mod live;
+mod load;
+mod readings;
+mod replay;
+mod script;
+mod words;
+mod writing;
+
+use link_text::LineBuf;
+use std::process::Abort;
+
+/// Fails where a line isn't a row's.
+fn expect_line(rt: &impl Abort, row: usize, line: &LineBuf, wanted: &[u8]) {
+    assert_eq!(rt; line.as_slice(), wanted, "row {row}");
+}

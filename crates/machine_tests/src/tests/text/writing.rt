@@ -1,0 +1,482 @@
+//! The lines of scripts and of replays, as they are written.
+
+use super::expect_line;
+use crate::tests::expect;
+use arrayvec::ArrayVec;
+use client_state::{Commit, State};
+use link_node::{Config, Event, GateSetup, Sending};
+use link_text::{
+    LineBuf, write_done_line, write_event, write_head, write_sending, write_state_line,
+};
+use lk_base::{ClientStart, Endpoint, Gate, NodeId, Timeline, Wire};
+use std::process::Abort;
+
+/// 2^55, the last moment of an event.
+const LAST: i64 = 36_028_797_018_963_968;
+
+/// 2^60, the limit of numbers.
+const LIMIT: i64 = 1_152_921_504_606_846_976;
+
+/// 127.0.0.1:20808.
+const HERE: Endpoint = Endpoint {
+    addr: 2_130_706_433,
+    port: 20_808,
+};
+
+/// 224.76.78.75:20808.
+const THERE: Endpoint = Endpoint {
+    addr: 3_763_097_163,
+    port: 20_808,
+};
+
+/// 255.255.255.255:65535.
+const HIGHEST: Endpoint = Endpoint {
+    addr: 4_294_967_295,
+    port: 65_535,
+};
+
+/// A state before anything happened.
+const FIRST: State = State {
+    timeline: Timeline {
+        mpb: 500_000,
+        beat: 0,
+        time: 0,
+    },
+    start: ClientStart {
+        playing: false,
+        time: 0,
+        stamp: 0,
+    },
+    sync: false,
+    peers: 0,
+    moment: 0,
+    app: 0,
+    audio: 0,
+};
+
+/// A state with numbers of its own in every place.
+const LATER: State = State {
+    timeline: Timeline {
+        mpb: 60_060,
+        beat: -LIMIT,
+        time: -1,
+    },
+    start: ClientStart {
+        playing: true,
+        time: -20,
+        stamp: 300,
+    },
+    sync: true,
+    peers: 4_294_967_295,
+    moment: LAST,
+    app: 1_152_921_504_606_846_975,
+    audio: 9,
+};
+
+/// The first with sync.
+const SHARED: State = State {
+    sync: true,
+    ..FIRST
+};
+
+/// The first with the least moment and the greatest number of commits that words have room for.
+const LEAST: State = State {
+    moment: -9_223_372_036_854_775_808,
+    app: 18_446_744_073_709_551_615,
+    ..FIRST
+};
+
+// Fails where a state of a number is told otherwise than by a row's line.
+fn expect_states(rt: &impl Abort, rows: &[(u64, State, &[u8])]) {
+    for (row, (number, state, wanted)) in rows.iter().enumerate() {
+        let mut line = LineBuf::new();
+        write_state_line(&mut line, *number, state);
+        expect_line(rt, row, &line, wanted);
+    }
+}
+
+#[test]
+fn a_state_is_told_by_its_number_and_its_words(rt: HostRuntime) {
+    expect_states(
+        &rt,
+        &[
+            (0, FIRST, b"state 0 500000 0 0 0 0 0 0 0 0 0 0\n"),
+            (
+                18_446_744_073_709_551_615,
+                LATER,
+                b"state 18446744073709551615 60060 -1152921504606846976 -1 1 -20 300 1 4294967295 36028797018963968 1152921504606846975 9\n",
+            ),
+            (1, SHARED, b"state 1 500000 0 0 0 0 0 1 0 0 0 0\n"),
+            (
+                2,
+                LEAST,
+                b"state 2 500000 0 0 0 0 0 0 0 -9223372036854775808 18446744073709551615 0\n",
+            ),
+        ],
+    );
+}
+
+// Fails where a last line is told otherwise than a row's.
+fn expect_dones(rt: &impl Abort, rows: &[(u64, u64, u64, &[u8])]) {
+    for (row, (events, states, sends, wanted)) in rows.iter().enumerate() {
+        let mut line = LineBuf::new();
+        write_done_line(&mut line, *events, *states, *sends);
+        expect_line(rt, row, &line, wanted);
+    }
+}
+
+#[test]
+fn the_last_line_tells_events_states_and_sendings(rt: HostRuntime) {
+    expect_dones(
+        &rt,
+        &[
+            (0, 1, 0, b"done 0 1 0\n"),
+            (10, 9, 100, b"done 10 9 100\n"),
+            (
+                18_446_744_073_709_551_615,
+                18_446_744_073_709_551_615,
+                18_446_744_073_709_551_615,
+                b"done 18446744073709551615 18446744073709551615 18446744073709551615\n",
+            ),
+        ],
+    );
+}
+
+/// A datagram of these bytes.
+fn wire(bytes: &[u8]) -> Wire {
+    let mut wire = Wire::new();
+    let _all = wire.try_extend_from_slice(bytes);
+    wire
+}
+
+// Fails where a sending is told otherwise than by a row's line.
+fn expect_sendings(rt: &impl Abort, rows: &[(i64, u8, Endpoint, &[u8], &[u8])]) {
+    for (row, (now, gate, to, bytes, wanted)) in rows.iter().enumerate() {
+        let sending = Sending {
+            gate: Gate(*gate),
+            to: *to,
+            bytes: wire(bytes),
+        };
+        let mut line = LineBuf::new();
+        write_sending(&mut line, *now, &sending);
+        expect_line(rt, row, &line, wanted);
+    }
+}
+
+#[test]
+fn a_sending_is_told_by_its_moment_gate_endpoint_and_bytes(rt: HostRuntime) {
+    expect_sendings(
+        &rt,
+        &[
+            (
+                0,
+                0,
+                THERE,
+                b"_asdp",
+                b"tx 0 0 224.76.78.75:20808 5f61736470\n",
+            ),
+            (
+                LAST,
+                255,
+                HIGHEST,
+                b"\x00\x0a\xff",
+                b"tx 36028797018963968 255 255.255.255.255:65535 000aff\n",
+            ),
+            (
+                -LIMIT,
+                3,
+                Endpoint { addr: 0, port: 0 },
+                b"\x80",
+                b"tx -1152921504606846976 3 0.0.0.0:0 80\n",
+            ),
+        ],
+    );
+}
+
+// Fails where a datagram that came is told otherwise than by a row's line.
+fn expect_arrivals(rt: &impl Abort, rows: &[(i64, u8, Endpoint, &[u8], &[u8])]) {
+    for (row, (now, gate, from, bytes, wanted)) in rows.iter().enumerate() {
+        let event = Event::Rx {
+            gate: Gate(*gate),
+            from: *from,
+            bytes: wire(bytes),
+            now: *now,
+        };
+        let mut line = LineBuf::new();
+        write_event(&mut line, &event);
+        expect_line(rt, row, &line, wanted);
+    }
+}
+
+#[test]
+fn a_datagram_that_came_is_told_in_hex_and_none_by_a_hyphen(rt: HostRuntime) {
+    expect_arrivals(
+        &rt,
+        &[
+            (1, 3, HERE, b"", b"rx 1 3 127.0.0.1:20808 -\n"),
+            (0, 0, THERE, b"\x00", b"rx 0 0 224.76.78.75:20808 00\n"),
+            (
+                LAST,
+                255,
+                HIGHEST,
+                b"\xab\xcd\xef\x01",
+                b"rx 36028797018963968 255 255.255.255.255:65535 abcdef01\n",
+            ),
+        ],
+    );
+}
+
+#[test]
+fn the_longest_datagram_finds_room(rt: HostRuntime) {
+    let event = Event::Rx {
+        gate: Gate(2),
+        from: HERE,
+        bytes: wire(&[0x5f; 513]),
+        now: 7,
+    };
+    let mut line = LineBuf::new();
+    write_event(&mut line, &event);
+    let text = line.as_slice();
+    // 23 bytes before the digits, 1,026 digits and a line feed.
+    expect(&rt, 0, &text.len(), &1_050);
+    expect(
+        &rt,
+        1,
+        &text.starts_with(b"rx 7 2 127.0.0.1:20808 5f5f"),
+        &true,
+    );
+    expect(&rt, 2, &text.ends_with(b"5f5f\n"), &true);
+}
+
+/// A timeline and a start with numbers of their own in every place.
+const EDITED: Commit = Commit {
+    timeline: Some(Timeline {
+        mpb: 3_000_000,
+        beat: LIMIT,
+        time: -LIMIT,
+    }),
+    start: Some(ClientStart {
+        playing: false,
+        time: 3,
+        stamp: -4,
+    }),
+    at: 6,
+};
+
+/// One of nothing, one of the start alone and one of the timeline alone.
+const NONE: Commit = Commit {
+    timeline: None,
+    start: None,
+    at: -7,
+};
+
+const STOPPED: Commit = Commit {
+    timeline: None,
+    ..EDITED
+};
+
+const MOVED: Commit = Commit {
+    start: None,
+    ..EDITED
+};
+
+// Fails where an application's commit is told otherwise than by a row's line.
+fn expect_apps(rt: &impl Abort, rows: &[(i64, Commit, &[u8])]) {
+    for (row, (now, commit, wanted)) in rows.iter().enumerate() {
+        let event = Event::App {
+            commit: *commit,
+            now: *now,
+        };
+        let mut line = LineBuf::new();
+        write_event(&mut line, &event);
+        expect_line(rt, row, &line, wanted);
+    }
+}
+
+// Fails where the audio thread's commit of a number is told otherwise than by a row's line.
+fn expect_audios(rt: &impl Abort, rows: &[(i64, u64, Commit, &[u8])]) {
+    for (row, (now, number, commit, wanted)) in rows.iter().enumerate() {
+        let event = Event::Audio {
+            number: *number,
+            commit: *commit,
+            now: *now,
+        };
+        let mut line = LineBuf::new();
+        write_event(&mut line, &event);
+        expect_line(rt, row, &line, wanted);
+    }
+}
+
+#[test]
+fn a_commit_is_told_by_what_it_carries(rt: HostRuntime) {
+    expect_apps(
+        &rt,
+        &[
+            (5, NONE, b"app 5 -7\n"),
+            (
+                5,
+                MOVED,
+                b"app 5 6 t 3000000 1152921504606846976 -1152921504606846976\n",
+            ),
+            (5, STOPPED, b"app 5 6 s 0 3 -4\n"),
+            (
+                5,
+                EDITED,
+                b"app 5 6 t 3000000 1152921504606846976 -1152921504606846976 s 0 3 -4\n",
+            ),
+        ],
+    );
+    expect_audios(
+        &rt,
+        &[
+            (0, 1, NONE, b"audio 0 1 -7\n"),
+            (
+                LAST,
+                1_152_921_504_606_846_975,
+                STOPPED,
+                b"audio 36028797018963968 1152921504606846975 6 s 0 3 -4\n",
+            ),
+            (
+                9,
+                8,
+                EDITED,
+                b"audio 9 8 6 t 3000000 1152921504606846976 -1152921504606846976 s 0 3 -4\n",
+            ),
+        ],
+    );
+}
+
+// Fails where an event is told otherwise than by a line.
+fn expect_event(rt: &impl Abort, event: &Event, wanted: &[u8]) {
+    let mut line = LineBuf::new();
+    write_event(&mut line, event);
+    expect_line(rt, 0, &line, wanted);
+}
+
+#[test]
+fn a_tick_and_the_end_are_told_by_their_moment(rt: HostRuntime) {
+    expect_event(&rt, &Event::Tick { now: 0 }, b"tick 0\n");
+    expect_event(&rt, &Event::Tick { now: -1 }, b"tick -1\n");
+    expect_event(&rt, &Event::End { now: LAST }, b"end 36028797018963968\n");
+    expect_event(&rt, &Event::End { now: 10 }, b"end 10\n");
+}
+
+/// Four gates: with two destinations, with none, with one and with two.
+fn four_gates() -> Config {
+    let mut two = ArrayVec::new();
+    let _first = two.try_push(THERE);
+    let _second = two.try_push(HIGHEST);
+    let mut one = ArrayVec::new();
+    let _only = one.try_push(HERE);
+    let mut others = ArrayVec::new();
+    let _first = others.try_push(HIGHEST);
+    let _second = others.try_push(HERE);
+    let mut gates = ArrayVec::new();
+    let _a = gates.try_push(GateSetup {
+        local: HERE,
+        peers: two,
+    });
+    let _b = gates.try_push(GateSetup {
+        local: HIGHEST,
+        peers: ArrayVec::new(),
+    });
+    let _c = gates.try_push(GateSetup {
+        local: THERE,
+        peers: one,
+    });
+    let _d = gates.try_push(GateSetup {
+        local: Endpoint { addr: 0, port: 1 },
+        peers: others,
+    });
+    Config {
+        id: NodeId(*b"!ABCDEF~"),
+        seed: 18_446_744_073_709_551_615,
+        mpb: 3_000_000,
+        sync: true,
+        gates,
+    }
+}
+
+// Fails where the lines of a head aren't these.
+fn expect_head(rt: &impl Abort, line: &mut LineBuf, config: &Config, now: i64, lines: &[&[u8]]) {
+    let mut k = 0u32;
+    for wanted in lines {
+        expect(rt, k as usize, &write_head(line, config, now, k), &true);
+        expect_line(rt, k as usize, line, wanted);
+        k = k.wrapping_add(1);
+    }
+}
+
+// Fails where one of these lines is written, or the last one doesn't stay.
+fn expect_past(rt: &impl Abort, line: &mut LineBuf, config: &Config, ks: &[u32], last: &[u8]) {
+    for (row, k) in ks.iter().enumerate() {
+        expect(rt, row, &write_head(line, config, LAST, *k), &false);
+        expect_line(rt, row, line, last);
+    }
+}
+
+#[test]
+fn a_head_is_told_line_by_line_and_ends(rt: HostRuntime) {
+    let config = four_gates();
+    let mut line = LineBuf::new();
+    expect_head(
+        &rt,
+        &mut line,
+        &config,
+        LAST,
+        &[
+            b"replay 1\n",
+            b"node !ABCDEF~ 18446744073709551615 3000000 1 36028797018963968\n",
+            b"gate 127.0.0.1:20808\n",
+            b"to 224.76.78.75:20808\n",
+            b"to 255.255.255.255:65535\n",
+            b"gate 255.255.255.255:65535\n",
+            b"gate 224.76.78.75:20808\n",
+            b"to 127.0.0.1:20808\n",
+            b"gate 0.0.0.0:1\n",
+            b"to 255.255.255.255:65535\n",
+            b"to 127.0.0.1:20808\n",
+        ],
+    );
+    expect_past(
+        &rt,
+        &mut line,
+        &config,
+        &[11, 12, 4_294_967_295],
+        b"to 127.0.0.1:20808\n",
+    );
+}
+
+// One gate without destinations.
+fn one_gate() -> Config {
+    let mut gates = ArrayVec::new();
+    let _only = gates.try_push(GateSetup {
+        local: HERE,
+        peers: ArrayVec::new(),
+    });
+    Config {
+        id: NodeId(*b"abcdefgh"),
+        seed: 0,
+        mpb: 60_060,
+        sync: false,
+        gates,
+    }
+}
+
+#[test]
+fn the_head_of_one_gate_has_three_lines(rt: HostRuntime) {
+    let config = one_gate();
+    let mut line = LineBuf::new();
+    expect_head(
+        &rt,
+        &mut line,
+        &config,
+        0,
+        &[
+            b"replay 1\n",
+            b"node abcdefgh 0 60060 0 0\n",
+            b"gate 127.0.0.1:20808\n",
+        ],
+    );
+    expect_past(&rt, &mut line, &config, &[3], b"gate 127.0.0.1:20808\n");
+}

@@ -1,0 +1,327 @@
+//! Runs of one thread, worked out by hand.
+ghost use Rattle.std.specs.Prelude.{◌≤◌};
+ghost use Rattle.link_shared.specs.Hub.{IsOnGate};
+
+use super::bench::{Bench, Network, datagram};
+use super::{edit, shown_with, state_of};
+use arrayvec::ArrayVec;
+use audio_handoff::StateCell;
+use link_node::Event;
+use link_shared::{AppPass, AudioPass, Capture, Got, Link, LinkName};
+use std::alloc::Global;
+use std::process::Abort;
+use std::sync::Wait;
+
+/// Each begins with how many events its journal takes. Each small letter is a step, and its answer stands behind it. All
+/// steps are at the opening moment.
+///
+/// a, b: a commit by the first or the second application's pass, and its number. c: one of the audio thread, and its number.
+/// q: a quit. n, d, t: a turn with nothing, with a datagram that means nothing, or with a tick. Its answer is what it took: X
+/// or Y for a commit by a pass and which of its commits, U for one of the audio thread, R for the datagram, T for the tick;
+/// then Q for a quit, F where something found no room, and behind > how many datagrams it sends; - for nothing at all.
+///
+/// k, l, m: a capture by the first or the second pass or by the audio thread, the state's number, how many commits of
+/// applications it has taken, the number of the last audio commit taken, and which own commit is shown over it. z: the last
+/// turn, what it took, as a turn and with E for the end, and behind = how many states were published.
+pub const RUNS: &[&str] = &[
+    "9k000.l000.m000.zE>1=1",
+    "9a1k0001zX1E>1=2",
+    "9a1nX1k110.zE>1=2",
+    "9c1m0001zU1E>1=2",
+    "9c1nU1m101.zE>1=2",
+    "9c1c2m0002nU2m102.zE>1=2",
+    "9a1c1nX1U1k211.m211.zE>1=3",
+    "9a1b2nX1k110.l1101nY1l220.zE>1=3",
+    "9tT>1tTzE>1=1",
+    "9dRdRzE>1=1",
+    "9n-n-zE>1=1",
+    "9q.nQn-zE>1=1",
+    "9a1q.nX1nQn-zE>1=2",
+    "9q.a1nQnX1zE>1=2",
+    "9a1tX1T>1zE>1=2",
+    "9c1dU1RzE>1=2",
+    "9a1c1tX1U1T>1zE>1=3",
+    "9a1a2a3nX1nX2k2203nX3k330.zE>1=4",
+    "9a1b2a3b4zX1Y1X2Y2E>1=5",
+    "9c1c2c3zU3E>1=2",
+    "9c1nU1c2m1012nU2m202.zE>1=3",
+    "9a1c1zU1X1E>1=3",
+    "9a1c1k0001m0001zU1X1E>1=3",
+    "1tT>1a1nFk0001zF=1",
+    "1a1nX1k110.zF=2",
+    "1a1c1nX1FzF=2",
+    "2a1c1nX1U1zF=3",
+    "2a1b2nX1nY1zF=3",
+    "2a1b2a3nX1nY1nFk2202l220.zF=3",
+    "3c1nU1c2nU2c3nU3c4nFm3034zF=4",
+    "9b1l0001nY1l110.k110.zE>1=2",
+    "9a1k0001b2l0001k0001zX1Y1E>1=3",
+    "9q.q.nQnQn-zE>1=1",
+    "9q.zE>1=1",
+    "9a1q.b2zX1Y1E>1=3",
+    "9tT>1a1tX1TzE>1=2",
+    "9dRa1dX1Rc1dU1Rm211.zE>1=3",
+    "9c1nU1n-zE>1=2",
+    "9a1nX1c1nU1a2nX2c2nU2k422.m422.zE>1=5",
+    "4a1a2c1tX1U1T>1nX2zF=4",
+];
+
+/// An answer.
+type Text = ArrayVec<u8, 24>;
+
+/// The commit that each thread made last: those of the first pass are from 101 on, those of the second from 201 on, and those of the
+/// audio thread from 301 on.
+#[derive(Clone, Copy)]
+struct Lasts {
+    first: u16,
+    second: u16,
+    audio: u16,
+}
+
+/// How many events the journal of the run takes.
+pub fn events_of(run: &str) -> u64
+    ensures { (1 ≤ result) × (result ≤ 9) }
+{
+    match run.as_bytes().first() {
+        Some(b'1') => 1,
+        Some(b'2') => 2,
+        Some(b'3') => 3,
+        Some(b'4') => 4,
+        _ => 9,
+    }
+}
+
+fn put(text: &mut Text, byte: u8) {
+    let _room = text.try_push(byte);
+}
+
+fn put_digit(text: &mut Text, n: u64) {
+    put(text, if n < 10 { b'0' + n as u8 } else { b'*' });
+}
+
+fn put_taken(text: &mut Text, event: &Event) {
+    match event {
+        Event::Rx { .. } => put(text, b'R'),
+        Event::Tick { .. } => put(text, b'T'),
+        Event::App { commit, .. } => {
+            put(text, if commit.at < 200 { b'X' } else { b'Y' });
+            put_digit(text, which(commit.at));
+        }
+        Event::Audio { number, commit, .. } => {
+            put(text, b'U');
+            put_digit(
+                text,
+                if which(commit.at) == *number {
+                    *number
+                } else {
+                    10
+                },
+            );
+        }
+        Event::End { .. } => put(text, b'E'),
+    }
+}
+
+/// Which of the commits of its thread it is.
+fn which(at: i64) -> u64 {
+    if at < 0 { 10 } else { at.unsigned_abs() % 100 }
+}
+
+/// What stands in the journal behind so many events, and how many datagrams are sent.
+fn put_news(text: &mut Text, events: &[Event], before: usize, quit: bool, full: bool, sent: usize) {
+    let mut at = 0u64;
+    for event in events {
+        if at >= before as u64 {
+            put_taken(text, event);
+        }
+        at = at.saturating_add(1);
+    }
+    if quit {
+        put(text, b'Q');
+    }
+    if full {
+        put(text, b'F');
+    }
+    if sent > 0 {
+        put(text, b'>');
+        put_digit(text, sent as u64);
+    }
+}
+
+/// The answer to a capture by a pass that made that commit last.
+fn capture_text(capture: &Capture, last: u16) -> Text {
+    let mut text = Text::new();
+    put_digit(&mut text, capture.number);
+    put_digit(&mut text, capture.state.app);
+    put_digit(&mut text, capture.state.audio);
+    if capture.state != state_of(capture.state.app, capture.state.audio, capture.state.start) {
+        put(&mut text, b'*');
+    } else if capture.shown == capture.state {
+        put(&mut text, b'.');
+    } else if capture.shown == shown_with(&capture.state, last) {
+        put_digit(&mut text, u64::from(last % 100));
+    } else {
+        put(&mut text, b'*');
+    }
+    text
+}
+
+fn commit<C: StateCell<9>, N: LinkName, R: Wait>(
+    rt: &R,
+    link: &Link<C, N>,
+    pass: &mut AppPass<C, N>,
+    last: &mut u16,
+) -> Text {
+    *last = last.saturating_add(1);
+    let mut text = Text::new();
+    put_digit(&mut text, link.commit(rt, pass, edit(*last)).unwrap_or(10));
+    text
+}
+
+/// Where memory is wanting the answer is that of no run.
+fn capture<C: StateCell<9>, N: LinkName, R: Wait>(
+    rt: &R,
+    alloc: Global,
+    way: &C::Way,
+    link: &Link<C, N>,
+    pass: &mut AppPass<C, N>,
+    last: u16,
+) -> Text {
+    match link.capture(rt, alloc, way, pass) {
+        Ok(capture) => capture_text(&capture, last),
+        Err(_) => Text::new(),
+    }
+}
+
+fn commit_audio<C: StateCell<9>, N: LinkName>(
+    way: &C::Way,
+    link: &Link<C, N>,
+    pass: &mut AudioPass<C, N>,
+    last: &mut u16,
+) -> Text {
+    *last = last.saturating_add(1);
+    let number = if link.audio_spent(pass) {
+        10
+    } else {
+        link.commit_audio(way, pass, &edit(*last))
+    };
+    let mut text = Text::new();
+    put_digit(&mut text, number);
+    text
+}
+
+fn quit<C: StateCell<9>, N: LinkName, R: Wait>(rt: &R, link: &Link<C, N>) -> Text {
+    let mut text = Text::new();
+    put(&mut text, if link.quit(rt).is_ok() { b'.' } else { b'*' });
+    text
+}
+
+fn turn<C: StateCell<9>, N: LinkName, R: Wait>(
+    rt: &R,
+    link: &Link<C, N>,
+    way: &C::Way,
+    network: &mut Network<C, N>,
+    got: Got,
+) -> Text
+    requires { IsOnGate 1 got }
+{
+    let before = network.hub.journal().len();
+    let turned = network.turn(rt, link, way, 0, got);
+    let mut text = Text::new();
+    let sent = network.sends.list().len();
+    put_news(
+        &mut text,
+        network.hub.journal(),
+        before,
+        turned.quit,
+        turned.full,
+        sent,
+    );
+    if text.is_empty() {
+        put(&mut text, b'-');
+    }
+    text
+}
+
+/// The steps of applications and of the audio thread.
+fn take_step<C: StateCell<9>, N: LinkName, R: Wait>(
+    rt: &R,
+    alloc: Global,
+    way: &C::Way,
+    bench: &mut Bench<C, N>,
+    lasts: &mut Lasts,
+    step: u8,
+) -> Text {
+    let Bench {
+        link,
+        network,
+        audio,
+        first,
+        second,
+    } = bench;
+    match step {
+        b'a' => commit(rt, link, first, &mut lasts.first),
+        b'b' => commit(rt, link, second, &mut lasts.second),
+        b'c' => commit_audio(way, link, audio, &mut lasts.audio),
+        b'k' => capture(rt, alloc, way, link, first, lasts.first),
+        b'l' => capture(rt, alloc, way, link, second, lasts.second),
+        b'm' => capture_text(&link.capture_audio(way, audio), lasts.audio),
+        b'q' => quit(rt, link),
+        b'n' => turn(rt, link, way, network, Got::Nothing),
+        b'd' => turn(rt, link, way, network, datagram()),
+        _ => turn(rt, link, way, network, Got::Tick),
+    }
+}
+
+/// Takes the steps of a run before the last turn, and compares each answer.
+pub fn play_run<C: StateCell<9>, N: LinkName, R: Wait + Abort>(
+    rt: &R,
+    alloc: Global,
+    way: &C::Way,
+    bench: &mut Bench<C, N>,
+    run: &str,
+) {
+    let (steps, _ending) = run.split_once('z').unwrap_or((run, ""));
+    let mut lasts = Lasts {
+        first: 100,
+        second: 200,
+        audio: 300,
+    };
+    let mut answer = Text::new();
+    put_digit(&mut answer, events_of(run));
+    let mut at = 0u64;
+    for byte in steps.bytes() {
+        if b"abcqndtklm".contains(&byte) {
+            expect_answer(rt, &answer, at, None, run);
+            answer = take_step(rt, alloc, way, bench, &mut lasts, byte);
+            at = 0;
+        } else {
+            expect_answer(rt, &answer, at, Some(byte), run);
+            at = at.saturating_add(1);
+        }
+    }
+    expect_answer(rt, &answer, at, None, run);
+}
+
+/// Fails where an answer hasn't that byte at a place, or with none where it goes on there.
+fn expect_answer(rt: &impl Abort, answer: &Text, at: u64, byte: Option<u8>, run: &str) {
+    let answered = answer.as_slice().get(at as usize).copied();
+    assert_eq!(rt; answered, byte, "at {at} of an answer in {run}");
+}
+
+/// The last turn of a run, whose answer stands behind its sign.
+pub fn end_run<C: StateCell<9>, N: LinkName, R: Wait + Abort>(
+    rt: &R,
+    way: &C::Way,
+    bench: Bench<C, N>,
+    run: &str,
+) {
+    let before = bench.network.hub.journal().len();
+    let (ended, sent) = bench.end(rt, way, 0);
+    let mut text = Text::new();
+    put_news(&mut text, &ended.events, before, false, ended.full, sent);
+    put(&mut text, b'=');
+    put_digit(&mut text, ended.published.len() as u64);
+    let (_steps, ending) = run.split_once('z').unwrap_or((run, ""));
+    assert_eq!(rt; text.as_slice(), ending.as_bytes(), "at the end of {run}");
+}

@@ -1,5 +1,0 @@
-//! The tests of `timeline_math`, over its public calls.
-#![tactic(auto)]
-
-#[cfg(test)]
-mod tests;
