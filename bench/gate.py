@@ -4,11 +4,13 @@
 That is `rt ci --anew` where `rt help` speaks of --anew, and else `rt ci`, which proves all from nothing then. It watches the provers that
 rt starts, and puts the figures into docs/GATE.md, between its two marks: how long the run took, and for each crate the seconds of one
 processor that its proof, the proof of its tests and its must-fail edits took, with the check that the edits begin with. Beside each stands
-its budget, from the table that people keep between two other marks of that page. Nothing is written where the run fails. The commit has
-to be clean, so that the figures are those of a commit.
+its budget, from the table that people keep between two other marks of that page. A table of runs, between two marks too, gets a row for
+so many processors in place of the one that it had; rows of other numbers stay. Nothing is written where the run fails. The commit has to
+be clean, so that the figures are those of a commit.
 """
 import os
 import platform
+import re
 import resource
 import subprocess
 import sys
@@ -21,6 +23,7 @@ PAGE = os.path.join(HERE, "docs", "GATE.md")
 BEGIN, END = "<!-- figures: written by bench/gate.py -->", "<!-- end of the figures -->"
 TICK = os.sysconf("SC_CLK_TCK")
 BUDGET, BUDGET_END = "<!-- budget -->", "<!-- end of the budget -->"
+RUNS, RUNS_END = "<!-- runs: written by bench/gate.py -->", "<!-- end of the runs -->"
 KINDS = ("proof", "tests", "edits")
 ALL = "all"
 
@@ -179,13 +182,21 @@ def table(names, sums, edits, budgets, whole):
     return [*lines, "", *prose(" ".join(say))], over
 
 
+def runs_with(text, processors, row):
+    """The lines of the table of runs with this row for so many processors."""
+    rows = {int(line.split("|")[1]): line.strip() for line in text.splitlines() if re.match(r"\| *\d+ *\|", line)}
+    rows[processors] = row
+    head = ["| Processors | Minutes | Minutes that they worked | Seconds of all provers | Memory at most | Commit | Kit |", "|---|---|---|---|---|---|---|"]
+    return [*head, *(rows[number] for number in sorted(rows))]
+
+
 def keeps_proofs():
     """Whether this rt keeps what a run has passed, so that it has to be told to prove all. Its help ends with a status that isn't 0."""
     return "--anew" in subprocess.run(["rt", "help"], cwd=HERE, stdout=subprocess.PIPE, stderr=subprocess.STDOUT, text=True).stdout
 
 
 def measured(processors, budgets, whole):
-    """Runs the gate, and returns the lines of its figures, and how many are over their budgets."""
+    """Runs the gate, and returns the lines of its figures, its row among the runs, and how many figures are over their budgets."""
     words = ["rt", "ci", *["--anew"] * keeps_proofs()]
     began, before = time.monotonic(), resource.getrusage(resource.RUSAGE_CHILDREN)
     run = subprocess.Popen(
@@ -204,15 +215,20 @@ def measured(processors, budgets, whole):
     if status:
         raise Failed(f"{' '.join(words)} ended with status {status}: {last}")
     worked = after.ru_utime + after.ru_stime - before.ru_utime - before.ru_stime
-    names = crates()
-    lines, over = table(names, watch.sums(), {name: edits_of(name) for name in names}, budgets, whole)
+    names, sums = crates(), watch.sums()
+    lines, over = table(names, sums, {name: edits_of(name) for name in names}, budgets, whole)
     commit = told(["git", "rev-parse", "--short", "HEAD"])
     head = (
         f"`bench/gate.py` ran `{' '.join(words)}` of `{told(['rt', 'version'])}` at commit {commit} on {processors} processors "
         f"({processor()}): **{took / 60:.0f} minutes**, in which they worked {worked / 60:.0f} minutes together; all provers at once held "
         f"{watch.most / 2**30:.1f} GB at most. It said: {last.removeprefix('rt: ')}"
     )
-    return [*prose(head), "", "Seconds of one processor, and of how many by the budget:", "", *lines], over
+    together = sum(sum(taken.values()) for taken in sums.values())
+    kit = told(["rt", "version"]).split()[0]
+    row = (
+        f"| {processors} | {took / 60:.0f} | {worked / 60:.0f} | {together:.0f} | {watch.most / 2**30:.1f} GB | {commit} | `{kit}` |"
+    )
+    return [*prose(head), "", "Seconds of one processor, and of how many by the budget:", "", *lines], row, over
 
 
 def main():
@@ -227,12 +243,16 @@ def main():
             page = file.read()
         begin, end = between(page, BEGIN, END)
         first, last = between(page, BUDGET, BUDGET_END)
-        lines, over = measured(processors, *budgets_of(page[first:last]))
+        between(page, RUNS, RUNS_END)
+        lines, row, over = measured(processors, *budgets_of(page[first:last]))
     except Failed as error:
         print(f"gate: {error}", file=sys.stderr)
         return 1
+    page = page[:begin] + "\n" + "\n".join(lines) + "\n" + page[end:]
+    begin, end = between(page, RUNS, RUNS_END)
+    page = page[:begin] + "\n" + "\n".join(runs_with(page[begin:end], processors, row)) + "\n" + page[end:]
     with open(PAGE, "w", encoding="utf-8") as file:
-        file.write(page[:begin] + "\n" + "\n".join(lines) + "\n" + page[end:])
+        file.write(page)
     print(f"gate: docs/GATE.md has the figures; over their budgets: {over}")
     return 0
 
