@@ -1,0 +1,147 @@
+#!/usr/bin/env python3
+"""Runs the script `jorazhil` in a copy that isn't built, and looks that it answers help and words at fault by itself: checks/script.py.
+
+Beside it a stand-in for `rt` is on the PATH, which notes each of its calls and fails. Each run's exit status is compared with what is
+written here, and both of its texts. Where PROGRAM is given, the forms that the script tells are compared with the program's own.
+The last line is 'N passed, N failed'.
+"""
+import os
+import shutil
+import stat
+import subprocess
+import sys
+import tempfile
+
+HERE = os.path.dirname(os.path.dirname(os.path.abspath(__file__)))
+COMMANDS = {
+    "replay": ["Usage: jorazhil replay < SCRIPT", "1,073,741,824 bytes", "500000 is 120 beats a minute"],
+    "decode": ["Usage: jorazhil decode < DATAGRAMS", "16,777,216 bytes"],
+    "filter": ["Usage: jorazhil filter < PAIRS", "last 512 pairs", "16,777,216 bytes"],
+    "load": ["Usage: jorazhil load <SEED> <COUNT>", "from 1 to 524288"],
+    "live": ["Usage: jorazhil live [OPTIONS] < SCRIPT", "--events <N>", "--blocks <N>", "--quantum <N>", "--record", "2 hours 55 minutes"],
+}
+GENERAL = ["Usage: jorazhil <COMMAND>", "jorazhil help COMMAND", "JORAZHIL_TRY=1", "Exit status:", *(f"jorazhil {name} " for name in COMMANDS)]
+FORMS = ["Usage: jorazhil <COMMAND>", *(f"jorazhil {name} " for name in COMMANDS)]
+
+# The words, the status, what standard output has, and what standard error has; an empty list is no text at all.
+RUNS = [
+    ([], 2, [], ["jorazhil: no command was given\n", *FORMS]),
+    ([""], 2, [], ['jorazhil: "" is no command\n', *FORMS]),
+    (["listen"], 2, [], ['jorazhil: "listen" is no command\n', *FORMS]),
+    (["rep"], 2, [], ['"rep" is no command; the nearest is `replay`\n', *FORMS]),
+    (["Replay"], 2, [], ['"Replay" is no command; the nearest is `replay`\n', *FORMS]),
+    (["decoed"], 2, [], ['"decoed" is no command; the nearest is `decode`\n', *FORMS]),
+    (["lod", "7", "5"], 2, [], ['"lod" is no command; the nearest is `load`\n', *FORMS]),
+    (["liev"], 2, [], ['"liev" is no command; the nearest is `live`\n', *FORMS]),
+    (["filters"], 2, [], ['"filters" is no command; the nearest is `filter`\n', *FORMS]),
+    (["replay decode"], 2, [], ['"replay decode" is no command\n', *FORMS]),
+    (["--bogus"], 2, [], ['"--bogus" is no command\n', *FORMS]),
+    (["help", "lives"], 2, [], ['"lives" is no command; the nearest is `live`\n', *FORMS]),
+    (["--help"], 0, GENERAL, []),
+    (["-h"], 0, GENERAL, []),
+    (["help"], 0, GENERAL, []),
+    (["live", "--blocks", "5", "--help"], 0, COMMANDS["live"], []),
+    *((["help", name], 0, texts, []) for name, texts in COMMANDS.items()),
+    *(([name, "--help"], 0, texts, []) for name, texts in COMMANDS.items()),
+    *(([name, "-h"], 0, texts, []) for name, texts in COMMANDS.items()),
+]
+
+
+def differs(words, status, out, error, run):
+    """What is not as wanted of a run; nothing where all is."""
+    if run.returncode != status:
+        return f"status {run.returncode} in place of {status}"
+    for name, wanted, got in (("output", out, run.stdout), ("error", error, run.stderr)):
+        if not wanted and got:
+            return f"standard {name} has a text: {got[:200]!r}"
+        for text in wanted:
+            if text not in got:
+                return f"standard {name} lacks {text!r}"
+        if any(len(line) > 160 for line in got.splitlines()):
+            return f"standard {name} has a line of more than 160 characters"
+    return None
+
+
+class Copy:
+    """A copy of what the script needs, without a program, and a PATH on which `rt` is a stand-in."""
+
+    def __init__(self, folder):
+        self.calls = os.path.join(folder, "calls")
+        self.script = os.path.join(folder, "copy", "jorazhil")
+        # The program's folder, in which the script would have it built.
+        os.makedirs(os.path.join(folder, "copy", "crates", "jorazhil"))
+        shutil.copy(os.path.join(HERE, "jorazhil"), self.script)
+        for name in (".ci", "crates.txt", "docs", "examples"):
+            place = os.path.join(HERE, name)
+            (shutil.copytree if os.path.isdir(place) else shutil.copy)(place, os.path.join(folder, "copy", name))
+        tools = os.path.join(folder, "tools")
+        os.makedirs(tools)
+        rt = os.path.join(tools, "rt")
+        with open(rt, "w", encoding="utf-8") as file:
+            file.write(f'#!/bin/sh\necho "$@" >>"{self.calls}"\nexit 1\n')
+        os.chmod(rt, os.stat(rt).st_mode | stat.S_IXUSR)
+        self.environment = {**os.environ, "PATH": f"{tools}:{os.environ['PATH']}"}
+
+    def run(self, words, out=subprocess.PIPE):
+        run = subprocess.run(
+            [self.script, *words], stdin=subprocess.DEVNULL, stdout=out, stderr=subprocess.PIPE, text=True, env=self.environment, timeout=60
+        )
+        return run
+
+    def was_asked(self):
+        """Whether `rt` was called since the last question, and with which words."""
+        if not os.path.exists(self.calls):
+            return None
+        with open(self.calls, encoding="utf-8") as file:
+            calls = file.read().split("\n")[0]
+        os.remove(self.calls)
+        return calls
+
+
+def main():
+    if len(sys.argv) > 2:
+        print("usage: checks/script.py [PROGRAM]", file=sys.stderr)
+        return 2
+    passed = failed = 0
+
+    def note(what, why):
+        nonlocal passed, failed
+        if why is None:
+            passed += 1
+        else:
+            failed += 1
+            print(f"failed: {what}: {why}")
+
+    with tempfile.TemporaryDirectory() as folder:
+        copy = Copy(folder)
+        for words, status, out, error in RUNS:
+            run = copy.run(words)
+            asked = copy.was_asked()
+            why = differs(words, status, out, error, run)
+            note(f"jorazhil {' '.join(words)}", why or (asked and f"rt was called, with {asked!r}"))
+        for words in (["--version"], ["-V"]):
+            run = copy.run(words)
+            copy.was_asked()
+            note(f"jorazhil {words[0]}, where rt tells no version", differs(words, 0, ["jorazhil, "], ["tells no version"], run))
+        for words in (["--help"], ["help", "live"], ["--version"]):
+            with open("/dev/full", "w", encoding="utf-8") as full:
+                run = copy.run(words, full)
+            why = None if run.returncode == 7 else f"status {run.returncode} in place of 7"
+            note(f"jorazhil {' '.join(words)} > /dev/full", why)
+        run = copy.run(["replay"])
+        asked = copy.was_asked()
+        note("jorazhil replay, which has to be built", None if run.returncode == 125 and asked else f"status {run.returncode}, rt {asked!r}")
+        if len(sys.argv) == 2:
+            told = [program_told(words) for words in (copy.script, sys.argv[1])]
+            note("the forms of the script and of the program", None if told[0] == told[1] else f"{told[0]!r} in place of {told[1]!r}")
+    print(f"{passed} passed, {failed} failed")
+    return 1 if failed else 0
+
+
+def program_told(program):
+    """What a call without words says on standard error."""
+    return subprocess.run([program], stdin=subprocess.DEVNULL, stdout=subprocess.PIPE, stderr=subprocess.PIPE, text=True).stderr
+
+
+if __name__ == "__main__":
+    sys.exit(main())
