@@ -6,6 +6,7 @@ ghost use Rattle.lk_base.specs.Timeline.{IsTidy};
 mod clicks;
 mod commits;
 mod conversions;
+mod filter;
 mod ids;
 mod lines;
 mod numbers;

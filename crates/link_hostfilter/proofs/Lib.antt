@@ -1,0 +1,12 @@
+pub mod RingLemmas
+pub mod ReadLemmas
+pub mod TotalLemmas
+pub mod LineLemmas
+pub mod NearLemmas
+pub mod SpreadLemmas
+pub mod ValueLemmas
+pub mod KeptLemmas
+pub mod SumLemmas
+pub mod FilterLemmas
+pub mod FarLemmas
+pub mod HoldLemmas

@@ -1,0 +1,5 @@
+pub mod Totals
+pub mod Fit
+pub mod Sums
+pub mod Kept
+pub mod Span
