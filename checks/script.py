@@ -6,6 +6,7 @@ written here, and both of its texts. Where PROGRAM is given, the forms that the 
 The last line is 'N passed, N failed'.
 """
 import os
+import pty
 import shutil
 import stat
 import subprocess
@@ -88,6 +89,18 @@ class Copy:
         )
         return run
 
+    def at_a_terminal(self, words):
+        """What a run says on standard error whose input is a terminal."""
+        ours, theirs = pty.openpty()
+        try:
+            run = subprocess.run(
+                [self.script, *words], stdin=theirs, stdout=subprocess.PIPE, stderr=subprocess.PIPE, text=True, env=self.environment, timeout=60
+            )
+        finally:
+            os.close(ours)
+            os.close(theirs)
+        return run.stderr
+
     def was_asked(self):
         """Whether `rt` was called since the last question, and with which words."""
         if not os.path.exists(self.calls):
@@ -131,6 +144,10 @@ def main():
         run = copy.run(["replay"])
         asked = copy.was_asked()
         note("jorazhil replay, which has to be built", None if run.returncode == 125 and asked else f"status {run.returncode}, rt {asked!r}")
+        for words in (["replay"], ["decode"], ["live", "--blocks", "0"]):
+            error = copy.at_a_terminal(words)
+            note(f"jorazhil {' '.join(words)} at a terminal", None if f"{words[0]} reads its input from this terminal" in error else repr(error))
+        copy.was_asked()
         if len(sys.argv) == 2:
             told = [program_told(words) for words in (copy.script, sys.argv[1])]
             note("the forms of the script and of the program", None if told[0] == told[1] else f"{told[0]!r} in place of {told[1]!r}")

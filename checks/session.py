@@ -115,9 +115,9 @@ PICTURES = {
 }
 
 
-def tell(words, text=b"", **streams):
+def tell(words, text=b"", tool=TOOL):
     """Status, standard output and standard error of the tool."""
-    done = subprocess.run([sys.executable, TOOL, *words], input=text, capture_output=True, timeout=600, check=False, **streams)
+    done = subprocess.run([sys.executable, tool, *words], input=text, capture_output=True, timeout=600, check=False)
     return done.returncode, done.stdout.decode(), done.stderr.decode()
 
 
@@ -133,14 +133,20 @@ def write(folder, name, text):
     return path
 
 
-def counted(text):
-    """What a picture has, by its classes; an error where it isn't XML, asks for something else, or has no title."""
+def parts_of(text):
+    """The parts of a picture by their classes; an error where it isn't XML, asks for something else, or has no title."""
     root = ElementTree.fromstring(text)
     if root.tag != SVG + "svg" or root[0].tag != SVG + "title" or not root[0].text or re.search("href|url\\(|<script|<style", text):
         raise ValueError("it is no picture of its own with a title")
     by_class = {}
     for part in root.iter():
         by_class.setdefault(part.get("class"), []).append(part)
+    return by_class
+
+
+def counted(text):
+    """How much there is in a picture of a session."""
+    by_class = parts_of(text)
     steps = [by_class[name][0].get("d").count("V") for name in ("tempo", "peers")]
     return (*steps, *(len(by_class.get(name, [])) for name in ("playing", "session", "offset", "mark")))
 
@@ -289,7 +295,7 @@ def refused(program, folder):
     # What replay has to say is handed on.
     status, told, error = tell(run, HEAD.replace("500000", "60059").encode())
     sentences = [
-        'jorazhil: line 2, column 17: expected a tempo from 60060 to 3000000 microseconds per beat, found "60059"; nothing was written',
+        'jorazhil: line 2, column 17: expected a tempo from 60060 to 3000000 microseconds per beat (500000 is 120 beats a minute), found "60059"; nothing was written',
         f"session: `replay` of {program} ended with status 8, as it says above",
     ]
     yield "a script that replay refuses", (status, told, error.splitlines()), (2, "", sentences)
@@ -302,27 +308,32 @@ def refused(program, folder):
     yield "a picture in no folder", tell([*run, "--svg", nowhere, copy]), (2, "", sentence)
 
 
-def streams(program, folder):
-    """A reader that leaves, and a full device."""
-    commits = "".join(f"app {k}000000 {k}000000 t {400000 + k} 0 0\n" for k in range(1, 2000))
-    script = write(folder, "long.script", HEAD + commits)
-    pipe = subprocess.PIPE
-    child = subprocess.Popen([sys.executable, TOOL, "--program", program, script], stdout=pipe, stderr=pipe)
-    first = child.stdout.readline().decode()
+def leaving(tool, words, first):
+    """A reader that leaves after the first line, which is given, and a full device, for a tool and its words."""
+    pipe, words = subprocess.PIPE, [sys.executable, tool, *words]
+    child = subprocess.Popen(words, stdout=pipe, stderr=pipe)
+    line = child.stdout.readline().decode()
     child.stdout.close()
     error = child.stderr.read().decode()
-    yield "a reader that leaves after a line", (first.lstrip(), error, child.wait(timeout=600)), (OPENS, "", 0)
+    yield "a reader that leaves after a line", (line.lstrip(), error, child.wait(timeout=600)), (first, "", 0)
     if os.path.exists("/dev/full"):
         with open("/dev/full", "wb") as full:
-            done = subprocess.run([sys.executable, TOOL, "--program", program, script], stdout=full, stderr=pipe, timeout=600, check=False)
-        found = done.returncode, done.stderr.decode()
-        yield "a full device", found, (2, "session: standard output could not be written: No space left on device\n")
+            done = subprocess.run(words, stdout=full, stderr=pipe, timeout=600, check=False)
+        found, name = (done.returncode, done.stderr.decode()), os.path.basename(tool).removesuffix(".py")
+        yield "a full device", found, (2, f"{name}: standard output could not be written: No space left on device\n")
 
 
-def main(program):
+def streams(program, folder):
+    commits = "".join(f"app {k}000000 {k}000000 t {400000 + k} 0 0\n" for k in range(1, 2000))
+    script = write(folder, "long.script", HEAD + commits)
+    yield from leaving(TOOL, ["--program", program, script], OPENS)
+
+
+def compare(program, parts):
+    """What the parts of a check found with what they wanted."""
     failed = passed = 0
     with tempfile.TemporaryDirectory() as folder:
-        for part in (examples, made_here, refused, streams):
+        for part in parts:
             try:
                 for name, found, wanted in part(program, folder):
                     if found == wanted:
@@ -341,4 +352,4 @@ if __name__ == "__main__":
     if len(sys.argv) != 2:
         print(__doc__, file=sys.stderr)
         sys.exit(2)
-    sys.exit(main(os.path.abspath(sys.argv[1])))
+    sys.exit(compare(os.path.abspath(sys.argv[1]), (examples, made_here, refused, streams)))

@@ -13,12 +13,13 @@ it. A peer that is heard no more is told by the number of peers alone. Which ses
 A new one stands where its output tells when it began: at the pong or the departure behind which a state is shown; and where there is none
 at the datagram that tells it, with the words "by now".
 """
-import argparse
-import os
 import re
-import subprocess
 import sys
 from collections import deque, namedtuple
+
+sys.dont_write_bytecode = True
+from shared import Drawing, Lane, Words, clock, decimals, end_of, fault, lines_of, quoted, read_file, round_step, run  # noqa: E402
+from shared import LEFT_X, RIGHT_X, SECOND, write_picture  # noqa: E402
 
 OPTIONS = """\
 Without the program: `--output` has what `replay` writes for the recording, and `--decoded` what `decode` tells of those of `--datagrams`:
@@ -69,47 +70,7 @@ Sent = namedtuple("Sent", "line now gate endpoint digits")
 Output = namedtuple("Output", "states sent lines done")
 
 
-class Refused(Exception):
-    """A sentence for standard error."""
-
-
-def fault(where, line, expected, found):
-    return Refused(f"{where}line {line}: expected {expected}, found {found}")
-
-
-def quoted(text):
-    """A line that was found, as far as a person has to see it."""
-    if text is None:
-        return "the end of the text"
-    shown = "".join(sign if " " <= sign <= "~" else f"\\x{ord(sign):02x}" for sign in text[:40])
-    return f'"{shown}"' + (" and more" if len(text) > 40 else "")
-
-
 # Reading.
-
-
-def read_file(name):
-    """The bytes of a file, or of standard input for `-`."""
-    try:
-        if name == "-" and sys.stdin is None:
-            raise Refused("standard input could not be read: it is closed")
-        if name == "-":
-            return sys.stdin.buffer.read()
-        with open(name, "rb") as file:
-            return file.read()
-    except OSError as error:
-        raise Refused(f"{'standard input' if name == '-' else name} could not be read: {error.strerror}") from None
-
-
-def lines_of(text, where):
-    """The lines of a text of bytes, which the last may end without a line feed."""
-    lines = text.decode("latin-1").split("\n")
-    if lines[-1] == "":
-        lines.pop()
-    for count, line in enumerate(lines, 1):
-        if line.endswith("\r") and not line.startswith("#"):
-            raise fault(where, count, "a line feed alone at the end of the line", "a carriage return before it")
-    return lines
 
 
 def read_script(text):
@@ -226,17 +187,6 @@ def read_decoded(text, where, digits):
 
 
 # Running the program.
-
-
-def run(program, word, text):
-    """What the program writes. What it has to say of a fault goes to standard error as it is."""
-    try:
-        done = subprocess.run([program, word], input=text, stdout=subprocess.PIPE, check=False)
-    except OSError as error:
-        raise Refused(f"{program} could not be run: {error.strerror}") from None
-    if done.returncode:
-        raise Refused(f"`{word}` of {program} ended with status {done.returncode}" + (", as it says above" if done.returncode > 0 else ""))
-    return done.stdout
 
 
 def run_decode(program, digits):
@@ -380,13 +330,6 @@ class Placed:
 
 
 # Words.
-
-
-def clock(micros, digits=3):
-    """A time as m:ss.mmm, cut to its digits."""
-    size = abs(micros) // 10 ** (6 - digits)
-    seconds, part = divmod(size, 10**digits)
-    return f"{'-' if micros < 0 and size else ''}{seconds // 60}:{seconds % 60:02d}.{part:0{digits}d}"
 
 
 def tempo_words(mpb):
@@ -657,75 +600,12 @@ class Story:
 # The picture.
 
 COLOURS = {APPLICATION: "#1f5fa8", AUDIO: "#c25700", PEER: "#2b7a2b", SESSION: "#7a3fa0", LEFT: "#7a3fa0", UNCLEAR: "#777"}
-LEFT_X, RIGHT_X, WIDTH = 96, 876, 900
-# Steps of an axis of time, in microseconds: up to ten seconds by 1, 2 and 5, then by what a clock has.
-SECOND = 1_000_000
-CLOCK_STEPS = [k * SECOND for k in (15, 30, 60, 120, 300, 600, 900, 1800, 3600, 7200, 21_600, 43_200, 86_400)]
 
 
-def escaped(text):
-    for sign, name in (("&", "&amp;"), ("<", "&lt;"), (">", "&gt;"), ('"', "&quot;"), ("'", "&#39;")):
-        text = text.replace(sign, name)
-    return text
-
-
-def round_step(span, most):
-    """The least of 1, 2 and 5 times a power of ten of which there are at most so many in the span."""
-    power = 1
-    while True:
-        for step in (power, 2 * power, 5 * power):
-            if span <= step * most:
-                return step
-        power *= 10
-
-
-def time_step(span, most):
-    step = round_step(span, most)
-    if step <= 10 * SECOND:
-        return step
-    day = CLOCK_STEPS[-1]
-    return next((step for step in CLOCK_STEPS if span <= step * most), None) or day * round_step(-(-span // day), most)
-
-
-def decimals(value, scale):
-    """A whole number of parts, of which the scale makes one, without needless digits."""
-    sign, (whole, part) = "-" if value < 0 else "", divmod(abs(value), scale)
-    digits = str(scale + part)[1:].rstrip("0")
-    return f"{sign}{whole}" + (f".{digits}" if digits else "")
-
-
-def short_clock(micros):
-    return clock(micros, 6).rstrip("0").rstrip(".")
-
-
-class Lane:
-    """A part of the picture with an axis of its own, for whole numbers from least to most."""
-
-    def __init__(self, top, height, least, most):
-        self.top, self.height, self.least, self.most = top, height, least, most
-
-    def y(self, value):
-        return self.top + self.height - self.height * (value - self.least) / (self.most - self.least)
-
-
-class Picture:
+class Picture(Drawing):
     def __init__(self, story):
-        self.story, self.parts, self.drawn = story, [], set()
-        self.opened, self.span = story.script.opened, max(story.last - story.script.opened, 1000)
-
-    def x(self, moment):
-        return LEFT_X + (RIGHT_X - LEFT_X) * min(max(moment - self.opened, 0), self.span) / self.span
-
-    def put(self, text):
-        self.parts.append(text)
-
-    def label(self, x, y, text, more=""):
-        self.put(f'<text x="{x:.1f}" y="{y:.1f}"{more}>{escaped(text)}</text>')
-
-    def titled(self, shape, text):
-        """A shape that tells its text where a browser's pointer rests on it."""
-        name = shape[1:].split(" ", 1)[0]
-        self.put(f"{shape}><title>{escaped(text)}</title></{name}>" if text else f"{shape}/>")
+        super().__init__(story.script.opened, max(story.last - story.script.opened, 1000))
+        self.story = story
 
     def steps(self, lane, changes, name, colour):
         """A stepped line. Of several steps at one place of the picture the first, the least, the greatest and the last are drawn."""
@@ -764,24 +644,9 @@ class Picture:
             if self.is_free(x, y, change.whose):
                 self.mark(x, y, change.whose, f"{clock(change.moment - self.opened)} {change.text}")
 
-    def is_free(self, x, y, kind):
-        """Whether nothing of this kind stands within about two pixels of there."""
-        place = round(x / 2), round(y / 2), kind
-        if place in self.drawn:
-            return False
-        self.drawn.add(place)
-        return True
-
     def dot(self, kind, x, y, colour, text):
         if self.is_free(x, y, kind):
             self.titled(f'<circle class="{kind}" cx="{x:.1f}" cy="{y:.1f}" r="3" fill="{colour}"', text)
-
-    def axis(self, lane, caption, values):
-        self.label(LEFT_X, lane.top - 8, caption)
-        for value, text in values:
-            y = lane.y(value)
-            self.put(f'<path d="M{LEFT_X} {y:.1f} H{RIGHT_X}" stroke="#ddd"/>')
-            self.label(LEFT_X - 8, y + 4, text, ' text-anchor="end"' + (' font-size="9"' if len(text) > 10 else ""))
 
     def band(self, top, name):
         self.label(LEFT_X - 8, top + 16, name, ' text-anchor="end"')
@@ -865,22 +730,6 @@ class Picture:
         for moment, offset in self.story.offsets:
             self.dot("offset", self.x(moment), lane.y(offset), "#7a3fa0", f"{clock(moment - self.opened)} {decimals(offset, SECOND)} s")
 
-    def times(self, top, bottom):
-        """The axis of time, below all lanes, with a line up through them."""
-        most = next(most for most in (10, 5, 2, 1) if 9 * self.longest(time_step(self.span, most)) * most < RIGHT_X - LEFT_X or most == 1)
-        step = time_step(self.span, most)
-        for time in range(0, self.span + 1, step):
-            x, text = self.x(self.opened + time), short_clock(time)
-            self.put(f'<path d="M{x:.1f} {top} V{bottom + 5}" stroke="#ddd"/>')
-            is_last = x + 4 * len(text) > WIDTH
-            self.label(WIDTH - 4 if is_last else x, bottom + 19, text, f' text-anchor="{"end" if is_last else "middle"}"')
-        self.put(f'<path d="M{LEFT_X} {bottom} H{RIGHT_X}" stroke="#333"/>')
-        self.label((LEFT_X + RIGHT_X) / 2, bottom + 37, "time since the opening, in minutes and seconds", ' text-anchor="middle"')
-
-    def longest(self, step):
-        """How many signs the longest time of the axis has."""
-        return max(len(short_clock(time)) for time in range(0, self.span + 1, step))
-
     def legend(self, y):
         story = self.story
         used = {change.whose for change in [*story.tempo, *story.beats, *story.starts]} - {""}
@@ -898,7 +747,7 @@ class Picture:
     def text(self):
         story, title = self.story, f"A session as {self.story.script.name} is shown it, {clock(self.story.last - self.opened)} long"
         bottom = 446 if story.offsets else 364
-        self.times(62, bottom)
+        self.below(62, bottom, "time since the opening, in minutes and seconds")
         self.tempo(66)
         self.peers(222)
         self.sessions(288)
@@ -907,36 +756,18 @@ class Picture:
         if story.offsets:
             self.offsets(390)
         self.legend(bottom + 60)
-        height = bottom + 80
-        size = f'width="{WIDTH}" height="{height}"'
-        head = f'<svg xmlns="http://www.w3.org/2000/svg" viewBox="0 0 {WIDTH} {height}" {size} font-family="sans-serif" font-size="13">'
-        ground = f'<rect {size} fill="#fff"/>'
-        first = f'<text x="20" y="28" font-size="16" font-weight="bold">{escaped(title)}</text>'
-        return "\n".join([head, f"<title>{escaped(title)}</title>", ground, first, *self.parts, "</svg>", ""])
+        return self.whole(title, bottom + 80)
 
 
 # The command.
 
 
-class Words(argparse.ArgumentParser):
-    def error(self, message):
-        raise Refused(f"{message}; --help tells all")
-
-
 def parser_of_words():
-    parser = Words(
-        prog="session.py",
-        usage="session.py [--svg FILE] [--program PROGRAM | --output FILE --decoded FILE] [RECORDING]",
-        description=__doc__,
-        epilog=OPTIONS,
-        add_help=False,
-        allow_abbrev=False,
-        formatter_class=argparse.RawDescriptionHelpFormatter,
-    )
-    program = os.path.normpath(os.path.join(os.path.dirname(os.path.realpath(__file__)), "..", "jorazhil"))
+    usage = "session.py [--svg FILE] [--program PROGRAM | --output FILE --decoded FILE] [RECORDING]"
+    parser = Words("session.py", usage, __doc__, OPTIONS)
     parser.add_argument("recording", metavar="RECORDING", nargs="?", default="-", help="a replay script; `-`, or none: standard input")
     parser.add_argument("--svg", metavar="FILE", help="also draws it all over time, as a picture that any browser opens")
-    parser.add_argument("--program", metavar="PROGRAM", default=program, help="the program (../jorazhil beside this tool)")
+    parser.add_program()
     parser.add_argument("--output", metavar="FILE", help="what `replay` wrote for the recording; it isn't run then")
     parser.add_argument("--decoded", metavar="FILE", help="what `decode` wrote for --datagrams; it isn't run then")
     datagrams_help = "writes all datagrams in hex, one a line, each once, and ends (`decode` takes 16,777,216 bytes of them at once)"
@@ -945,20 +776,10 @@ def parser_of_words():
     return parser
 
 
-def write_picture(words, text):
-    """Not over what was read."""
-    for name in (words.recording, words.output, words.decoded):
-        if name not in (None, "-") and os.path.exists(words.svg) and os.path.samefile(name, words.svg):
-            raise Refused(f"--svg {words.svg} is a file that is read from")
-    try:
-        with open(words.svg, "w", encoding="utf-8", newline="\n") as file:
-            file.write(text)
-    except OSError as error:
-        raise Refused(f"{words.svg} could not be written: {error.strerror}") from None
-
-
-def tell(parser, words):
+def tell(arguments):
     """The lines to write."""
+    parser = parser_of_words()
+    words = parser.parse_args(arguments)
     if words.help:
         return [parser.format_help()]
     text = read_file(words.recording)
@@ -972,30 +793,9 @@ def tell(parser, words):
     told = read_decoded(decoded, f"{words.decoded}: " if words.decoded else "the output of `decode`: ", digits)
     story = Story(script, output, told, where)
     if words.svg:
-        write_picture(words, Picture(story).text())
+        write_picture(words.svg, Picture(story).text(), (words.recording, words.output, words.decoded))
     return story.lines()
 
 
-def main(arguments):
-    try:
-        parser = parser_of_words()
-        lines = tell(parser, parser.parse_args(arguments))
-        if sys.stdout is None:
-            raise Refused("standard output could not be written: it is closed")
-        sys.stdout.writelines(lines)
-        sys.stdout.flush()
-    except Refused as refusal:
-        print(f"session: {refusal}", file=sys.stderr)
-        return 2
-    except BrokenPipeError:
-        # Nobody reads on. What is left goes nowhere, so that the end of the run says nothing either.
-        os.dup2(os.open(os.devnull, os.O_WRONLY), sys.stdout.fileno())
-    except OSError as error:
-        print(f"session: standard output could not be written: {error.strerror}", file=sys.stderr)
-        os.dup2(os.open(os.devnull, os.O_WRONLY), sys.stdout.fileno())
-        return 2
-    return 0
-
-
 if __name__ == "__main__":
-    sys.exit(main(sys.argv[1:]))
+    sys.exit(end_of("session", tell, sys.argv[1:]))

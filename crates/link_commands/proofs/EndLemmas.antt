@@ -1,5 +1,5 @@
 -- How a command ends, from how it ends for a text that was read.
-use Rattle.std.proofs.Common.{◌≡◌, List, ℕ, arith}
+use Rattle.std.proofs.Common.{List, ℕ, arith}
 use Rattle.link_commands.specs.Statuses.{Command, Stream, WasRead, EndsInput, EndsText}
 use Rattle.link_commands.specs.declared.status.Status.{Status}
 use Rattle.link_commands.specs.declared.status.Status.TheVariants as status

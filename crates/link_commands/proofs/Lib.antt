@@ -4,4 +4,6 @@ pub mod OutletLemmas
 pub mod ReplayLemmas
 pub mod HexLineLemmas
 pub mod DecodeLemmas
+pub mod PairLineLemmas
+pub mod FilterLemmas
 mod LoadLemmas

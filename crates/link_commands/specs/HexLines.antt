@@ -1,7 +1,8 @@
 -- The grammar of datagrams in hex, one a line: an even number of hex digits of either case, and nothing else.
-use Rattle.std.specs.Prelude.{◌≡◌, ◌<◌, ◌≤◌, ◌+◌, ◌*◌, ◌%◌, ℕ, false, List, [], ◌∷◌, ◌++◌, length, slice_index, All, Contains, Ok, ◌⊎◌}
+use Rattle.std.specs.Prelude.{◌≡◌, ◌<◌, ◌≤◌, ◌*◌, ◌%◌, ℕ, false, List, [], length, slice_index, All, Contains, Ok, ◌⊎◌}
 use Rattle.hex.specs.Hex.{decode_of, is_hex_digit}
 use Rattle.link_text.specs.Lines.{lines_of}
+use Rattle.link_commands.specs.BadLines.{IsFirstBad}
 
 -- the line says some bytes
 abbrev pub IsHexLine : List ℕ → Type 0
@@ -16,14 +17,8 @@ IsBadLine line =
     (length line % 2 ≡ 1) ⊎ ((k : ℕ) × (k < length line) × (is_hex_digit (slice_index line k) ≡ false))
 
 -- the first line outside the grammar, counted from 1
-pub record IsFirstBadLine (text : List ℕ) (k : ℕ) : Type 0 where
-  pub before : List (List ℕ)
-  pub line : List ℕ
-  pub after : List (List ℕ)
-  pub split : lines_of text ≡ before ++ line ∷ after
-  pub number : k ≡ length before + 1
-  pub good : All IsHexLine before
-  pub bad : IsBadLine line
+abbrev pub IsFirstBadLine : List ℕ → ℕ → Type 0
+IsFirstBadLine text k = IsFirstBad IsHexLine IsBadLine text k
 
 -- no line says more than so many bytes
 abbrev pub HasLinesWithin : ℕ → List ℕ → Type 0

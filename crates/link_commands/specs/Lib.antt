@@ -1,6 +1,9 @@
 pub mod Outlet
+pub mod BadLines
 pub mod HexLines
 pub mod DecodeText
+pub mod PairLines
+pub mod FilterText
 pub mod Replaying
 pub mod Loading
 pub mod Statuses

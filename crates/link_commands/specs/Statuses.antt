@@ -13,6 +13,8 @@ use Rattle.link_text.specs.ReplayScript.{IsScriptOf, IsNoScript, IsFirstFault}
 use Rattle.link_text.specs.ReplayText.{replay_text_of}
 use Rattle.link_commands.specs.HexLines.{IsFirstBadLine}
 use Rattle.link_commands.specs.DecodeText.{IsDecodeText}
+use Rattle.link_commands.specs.FilterText.{IsFilterText}
+use Rattle.link_commands.specs.PairLines.{IsFirstNoPair}
 use Rattle.link_words.specs.CommandNames.{Names}
 use Rattle.link_words.specs.LoadWords.{BeginsLoad, IsLoad, NamesLoad}
 use Rattle.link_words.specs.declared.command_name.CommandName.{CommandName}
@@ -81,6 +83,14 @@ decode_command = record {
   grammar = grammar.HexLines;
   Gives = IsDecodeText;
   FaultsAt = IsFirstBadLine;
+}
+
+abbrev pub filter_command : Command
+filter_command = record {
+  limit = 16_777_216;
+  grammar = grammar.Pairs;
+  Gives = IsFilterText;
+  FaultsAt = IsFirstNoPair;
 }
 
 -- these bytes were read, to the end of the input and within the limit, and no read failed
@@ -157,6 +167,9 @@ EndsReplay = EndsBy name.Replay replay_command
 
 abbrev pub EndsDecode : List (String Global) → Stream → Stream → Stream → Stream → Status → Type 0
 EndsDecode = EndsBy name.Decode decode_command
+
+abbrev pub EndsFilter : List (String Global) → Stream → Stream → Stream → Stream → Status → Type 0
+EndsFilter = EndsBy name.Filter filter_command
 
 -- ---- a command without input
 

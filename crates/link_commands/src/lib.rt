@@ -1,15 +1,18 @@
 //! How a call of the program may end, and its commands that need neither network nor clock.
 //!
 //! In reading order: `status`, `reason`, `text_fault`; `text_command` (a command that reads a whole text and writes another), `run_text`,
-//! `outlet`; `replay`, `replay_lines`, `counts`; `decode`, `hex_lines`; `load`; last `laws`.
+//! `outlet`; `replay`, `replay_lines`, `counts`; `decode`, `hex_lines`; `filter`, `pair_lines`;
+//! `load`; last `laws`.
 #![tactic(auto)]
 
 mod counts;
 mod decode;
+mod filter;
 mod hex_lines;
 mod laws;
 mod load;
 mod outlet;
+mod pair_lines;
 mod reason;
 mod replay;
 mod replay_lines;
@@ -19,7 +22,8 @@ mod text_command;
 mod text_fault;
 
 pub use decode::decode_main;
-pub use laws::one_output;
+pub use filter::filter_main;
+pub use laws::{one_filter_text, one_output};
 pub use load::load_main;
 pub use outlet::{Outlet, SinkFailed};
 pub use reason::Reason;

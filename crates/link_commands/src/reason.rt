@@ -8,6 +8,8 @@ use std::fmt;
 pub enum Reason {
     /// Of a replay script.
     Script(link_text::Reason),
+    /// Of a pair of a sample count and a host time.
+    Pair(link_text::Reason),
     /// A character that is no hex digit, at a column counted in bytes from 1.
     NoDigit { column: u32, found: Found },
     /// Hex digits, an odd number of them: one is lacking at the column behind them.
@@ -17,7 +19,7 @@ pub enum Reason {
 impl fmt::Display for Reason {
     fn fmt<W: fmt::Write>(&self, f: &mut fmt::Formatter<W>) -> fmt::Result {
         match self {
-            Reason::Script(reason) => write!(f, "{reason}"),
+            Reason::Script(reason) | Reason::Pair(reason) => write!(f, "{reason}"),
             Reason::NoDigit { column, found } => {
                 write!(f, "column {column}: expected a hex digit, found {found}")
             }

@@ -15,6 +15,8 @@ pub enum Grammar {
     HexLines,
     /// A live script.
     LiveScript,
+    /// Pairs of a sample count and a host time, one a line.
+    Pairs,
 }
 
 /// How a call of the program ended. Its number is the program's exit status, and its text is for the person who ran it.

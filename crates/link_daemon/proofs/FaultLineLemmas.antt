@@ -3,8 +3,10 @@ use Rattle.std.proofs.Common.{◌≡◌, sym, ◌∙◌, arith, ℕ, ◌<◌, Li
 use Rattle.std.proofs.lemmas.List.{append_assoc}
 use Rattle.std.proofs.lemmas.List.Elements.{All-head, All-same}
 use Rattle.link_text.specs.ReplayScript.{IsFirstFault}
-use Rattle.link_commands.specs.HexLines.{IsHexLine, IsFirstBadLine}
-use Rattle.link_commands.specs.Statuses.{replay_command, decode_command}
+use Rattle.link_commands.specs.BadLines.{IsFirstBad}
+use Rattle.link_commands.specs.HexLines.{IsHexLine, IsBadLine}
+use Rattle.link_commands.specs.PairLines.{IsSomePair, IsNoPair}
+use Rattle.link_commands.specs.Statuses.{replay_command, decode_command, filter_command}
 use Rattle.link_daemon.specs.OneStatus.{HasOneFaultLine}
 use Rattle.link_commands.proofs.HexLineLemmas.{bad_line}
 use Rattle.link_commands.proofs.DecodeLemmas.{all_back}
@@ -26,16 +28,24 @@ IsFaultOnce = (text : List ℕ) (k j : ℕ) → IsFirstFault text k → IsFirstF
 pub one_script_fault : IsFaultOnce → HasOneFaultLine replay_command
 one_script_fault law text line other p q = law text line other p.0 q.0
 
-no_earlier_bad_line : (text : List ℕ) (k j : ℕ) → IsFirstBadLine text k → IsFirstBadLine text j → k < j → ⊥
-no_earlier_bad_line text k j p q less =
+no_earlier_bad : (IsGood IsBad : List ℕ → Type 0) (clash : (line : List ℕ) → IsGood line → IsBad line → ⊥) (text : List ℕ) (k j : ℕ)
+    → IsFirstBad IsGood IsBad text k → IsFirstBad IsGood IsBad text j → k < j → ⊥
+no_earlier_bad IsGood IsBad clash text k j p q less =
     let more = earlier p.before q.before p.after q.after p.line q.line (sym p.split ∙ q.split) (omega (arith, p.number, q.number)) in
     let front : q.before ≡ p.before ++ p.line ∷ more.0 = more.1 ∙ append_assoc p.before (p.line ∷ []) more.0 in
-    let good = All-same IsHexLine (p.before ++ p.line ∷ more.0) q.before (sym front) q.good in
-    let here = All-head IsHexLine p.line more.0 (all_back IsHexLine p.before (p.line ∷ more.0) good) in
-    bad_line p.line here.0 p.bad here.1
+    let good = All-same IsGood (p.before ++ p.line ∷ more.0) q.before (sym front) q.good in
+    clash p.line (All-head IsGood p.line more.0 (all_back IsGood p.before (p.line ∷ more.0) good)) p.bad
+
+-- where no line is both good and bad, one line is the first bad one
+one_first_bad : (IsGood IsBad : List ℕ → Type 0) (clash : (line : List ℕ) → IsGood line → IsBad line → ⊥) (text : List ℕ) (k j : ℕ)
+    → IsFirstBad IsGood IsBad text k → IsFirstBad IsGood IsBad text j → k ≡ j
+one_first_bad IsGood IsBad clash text k j p q =
+    let not_less = no_earlier_bad IsGood IsBad clash text k j p q in
+    let not_more = no_earlier_bad IsGood IsBad clash text j k q p in
+    omega (arith, not_less, not_more)
 
 pub one_bad_line : HasOneFaultLine decode_command
-one_bad_line text line other p q =
-    let not_less = no_earlier_bad_line text line other p q in
-    let not_more = no_earlier_bad_line text other line q p in
-    omega (arith, not_less, not_more)
+one_bad_line = one_first_bad IsHexLine IsBadLine (λ line good bad. bad_line line good.0 bad good.1)
+
+pub one_no_pair : HasOneFaultLine filter_command
+one_no_pair = one_first_bad IsSomePair IsNoPair (λ line good bad. bad good)

@@ -13,11 +13,12 @@ use Rattle.link_daemon.specs.Outside.{Outside}
 use Rattle.link_commands.specs.declared.status.Grammar.{Grammar}
 use Rattle.link_commands.specs.declared.status.Status.{Status}
 use Rattle.link_commands.specs.declared.status.Status.TheVariants as status
-use Rattle.link_commands.specs.Statuses.{Command, Stream, ReadsText, ReadsFault, EndsBy, EndsInput, EndsLoad, replay_command, decode_command}
+use Rattle.link_commands.specs.Statuses.{Command, Stream, ReadsText, ReadsFault, EndsBy, EndsInput, EndsLoad, replay_command, decode_command, filter_command}
 use Rattle.link_daemon.specs.OneStatus.{CanFail, End, end_of, IsTold, HasOneStatus, HasOneFaultLine, HasOneLiveFaultLine}
 use Rattle.link_daemon.proofs.CauseLemmas.{First, here, later, IsOne, first_is_one, rose_and_quiet, one_read, more_and_whole}
 use Rattle.link_commands.proofs.HexLineLemmas.{bad_and_decoded}
-use Rattle.link_daemon.proofs.FaultLineLemmas.{IsFaultOnce, one_script_fault, one_bad_line}
+use Rattle.link_commands.proofs.FilterLemmas.{bad_and_filtered}
+use Rattle.link_daemon.proofs.FaultLineLemmas.{IsFaultOnce, one_script_fault, one_bad_line, one_no_pair}
 use Rattle.link_daemon.proofs.LiveStatusLemmas.{one_live}
 
 -- a text for which a command gives an output has no fault
@@ -29,6 +30,9 @@ replay_exclusive text output line fault (config, now, es, script, same) = fault.
 
 pub decode_exclusive : AreExclusive decode_command
 decode_exclusive text output line fault whole = bad_and_decoded text output line fault whole
+
+pub filter_exclusive : AreExclusive filter_command
+filter_exclusive text output line fault whole = bad_and_filtered text output line fault whole
 
 -- one text is not both in a grammar and outside it
 fault_and_output : (command : Command) → AreExclusive command → (line : ℕ) (input input' : Stream) (output : List ℕ) → IsSome input.told
@@ -171,6 +175,9 @@ module _ (law : IsFaultOnce) (live_law : HasOneLiveFaultLine) (words : List (Str
       can.out_counts not_one not_other ends ends'
   one_end (Some name.Decode) (ends, aside) (ends', aside') =
       one_of name.Decode decode_command decode_exclusive one_bad_line words input input' before.out after.out one other tells
+      can.out_counts not_one not_other ends ends'
+  one_end (Some name.Filter) (ends, aside) (ends', aside') =
+      one_of name.Filter filter_command filter_exclusive one_no_pair words input input' before.out after.out one other tells
       can.out_counts not_one not_other ends ends'
   one_end (Some name.Load) (ends, unread, aside) (ends', unread', aside') =
       one_load words before.out after.out one other can.out_counts not_one not_other ends ends'

@@ -13,14 +13,14 @@ use Rattle.link_words.specs.LoadWords.{IsLoad}
 use Rattle.link_daemon.specs.Outside.{Outside}
 use Rattle.link_commands.specs.declared.status.Status.{Status}
 use Rattle.link_commands.specs.declared.status.Status.TheVariants as status
-use Rattle.link_commands.specs.Statuses.{Command, Stream, EndsBy, EndsInput, EndsLoad, ReadsFault, replay_command, decode_command}
+use Rattle.link_commands.specs.Statuses.{Command, Stream, EndsBy, EndsInput, EndsLoad, ReadsFault, replay_command, decode_command, filter_command}
 use Rattle.link_words.specs.CommandNames.{Names}
 use Rattle.link_words.specs.declared.command_name.CommandName.{CommandName}
 use Rattle.link_words.specs.declared.command_name.CommandName.TheVariants as name
 use Rattle.link_daemon.specs.ValidInput.{IsValidFor, IsValidLive, CompletesLive, CompletesLoad, CompletesValid, CompleteValid}
 use Rattle.link_daemon.proofs.CauseLemmas.{told_is_read}
 use Rattle.link_daemon.proofs.StatusLemmas.{as_named}
-use Rattle.link_daemon.proofs.OneStatusLemmas.{AreExclusive, replay_exclusive, decode_exclusive}
+use Rattle.link_daemon.proofs.OneStatusLemmas.{AreExclusive, replay_exclusive, decode_exclusive, filter_exclusive}
 
 -- what is taken is no more than what was told
 taken_is_some : (xs bytes : List ℕ) (after : Option (List ℕ)) → Takes (Some xs) bytes after → length xs < length bytes → ⊥
@@ -76,6 +76,11 @@ completes_decode words seed input input' before after end named valid reads writ
     completes_by decode_command decode_exclusive input input' before.out after.out valid reads writes name.Decode words end named
     (as_named words name.Decode seed input input' before after end ([], named) ends).0
 
+completes_filter : CompletesValid name.Filter filter_command
+completes_filter words seed input input' before after end named valid reads writes ends =
+    completes_by filter_command filter_exclusive input input' before.out after.out valid reads writes name.Filter words end named
+    (as_named words name.Filter seed input input' before after end ([], named) ends).0
+
 -- ---- a load
 
 load_ends : (words : List (String Global)) (out out' : Stream) (end : Status)
@@ -128,4 +133,4 @@ completes_live words seed input input' before after end live valid reads posts p
     (as_named words name.Live seed input input' before after end live.0 ends)
 
 pub complete_valid : CompleteValid
-complete_valid = (completes_replay, (completes_decode, (completes_load, completes_live)))
+complete_valid = (completes_replay, (completes_decode, (completes_filter, (completes_load, completes_live))))

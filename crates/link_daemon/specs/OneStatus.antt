@@ -8,7 +8,7 @@ use Rattle.link_commands.specs.declared.status.Status.{Status}
 use Rattle.link_commands.specs.declared.status.Status.TheVariants as status
 use Rattle.link_daemon.specs.Ends.{Ends}
 use Rattle.link_daemon.specs.Outside.{Outside}
-use Rattle.link_commands.specs.Statuses.{Command, Stream, status_number_of, replay_command, decode_command}
+use Rattle.link_commands.specs.Statuses.{Command, Stream, status_number_of, replay_command, decode_command, filter_command}
 
 -- a stream that tells what it holds, and whose count of failures can still rise
 pub record IsTold (s : Stream) : Type 0 where
@@ -52,4 +52,5 @@ abbrev pub HasOneLiveFaultLine : Type 0
 HasOneLiveFaultLine = (text : List ℕ) (line other : ℕ) → IsLiveLineFault text line → IsLiveLineFault text other → line ≡ other
 
 abbrev pub HaveOneFaultLine : Type 0
-HaveOneFaultLine = HasOneFaultLine replay_command × (HasOneFaultLine decode_command × HasOneLiveFaultLine)
+HaveOneFaultLine =
+    HasOneFaultLine replay_command × (HasOneFaultLine decode_command × (HasOneFaultLine filter_command × HasOneLiveFaultLine))

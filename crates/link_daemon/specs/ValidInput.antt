@@ -11,7 +11,7 @@ use Rattle.link_commands.specs.declared.status.Status.TheVariants as status
 use Rattle.link_daemon.specs.Ends.{Ends}
 use Rattle.link_words.specs.LiveWords.{IsLive}
 use Rattle.link_daemon.specs.Outside.{Outside}
-use Rattle.link_commands.specs.Statuses.{Command, Stream, replay_command, decode_command}
+use Rattle.link_commands.specs.Statuses.{Command, Stream, replay_command, decode_command, filter_command}
 use Rattle.link_words.specs.CommandNames.{Names}
 use Rattle.link_words.specs.declared.command_name.CommandName.{CommandName}
 use Rattle.link_words.specs.declared.command_name.CommandName.TheVariants as name
@@ -61,4 +61,6 @@ CompletesLive =
     → (end ≡ status.Done) ⊎ ((end ≡ status.Memory) ⊎ (end ≡ status.Events))
 
 abbrev pub CompleteValid : Type 0
-CompleteValid = CompletesValid name.Replay replay_command × (CompletesValid name.Decode decode_command × (CompletesLoad × CompletesLive))
+CompleteValid =
+    CompletesValid name.Replay replay_command
+    × (CompletesValid name.Decode decode_command × (CompletesValid name.Filter filter_command × (CompletesLoad × CompletesLive)))

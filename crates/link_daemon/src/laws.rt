@@ -15,7 +15,7 @@ pub fn one_status()
     one_live_script();
 }
 
-/// The first line at fault of a script of either kind, and of a text of datagrams, is one line.
+/// The first line at fault of a script of either kind, and of a text of datagrams or of pairs, is one line.
 pub fn one_fault_line()
     ensures { HaveOneFaultLine }
 {

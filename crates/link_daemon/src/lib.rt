@@ -16,7 +16,10 @@ pub use laws::{one_fault_line, one_status, valid_is_done};
 pub use link_adapters::{
     BehindName, ClickAudio, ClockPace, HostClock, StdSink, StdSource, UdpPort,
 };
-pub use link_commands::{Grammar, Reason, Status, decode_main, load_main, one_output, replay_main};
+pub use link_commands::{
+    Grammar, Reason, Status, decode_main, filter_main, load_main, one_filter_text, one_output,
+    replay_main,
+};
 pub use link_live::{Report, audio_loop, network_loop};
 pub use live::live_main;
 pub use top::link_main;

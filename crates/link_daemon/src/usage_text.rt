@@ -12,6 +12,7 @@ use std::alloc::{AllocError, Global};
 const COMMANDS: &str = "Usage: jorazhil <COMMAND>\n\n  \
     jorazhil replay < SCRIPT           reads a script on standard input, and writes what the node sends and shows\n  \
     jorazhil decode < DATAGRAMS        reads datagrams in hex on standard input, one a line, and tells in a line what each says\n  \
+    jorazhil filter < PAIRS            reads pairs of a sample count and a host time on standard input, one a line, and tells a smooth host time for each\n  \
     jorazhil load <SEED> <COUNT>       runs a node through generated events, and writes how much there was and the last state\n  \
     jorazhil live [OPTIONS] < SCRIPT   plays a live script beside its peers, and writes how much there was and the last state";
 
@@ -37,6 +38,7 @@ pub fn usage(alloc: Global, words: &[String]) -> Result<String, AllocError> {
         ),
         Some(CommandName::Replay) => input_usage(alloc, CommandName::Replay, "SCRIPT", rest),
         Some(CommandName::Decode) => input_usage(alloc, CommandName::Decode, "DATAGRAMS", rest),
+        Some(CommandName::Filter) => input_usage(alloc, CommandName::Filter, "PAIRS", rest),
         None if is_request(first.as_str()) => {
             format!(in alloc; "a runtime for tempo sessions\n\n{COMMANDS}")
         }

@@ -10,6 +10,7 @@ mod CommitLemmas
 mod EventLemmas
 mod HeadLemmas
 mod EventUniqueLemmas
+mod PairLemmas
 mod ScriptLemmas
 mod LiveLineLemmas
 mod LiveLemmas

@@ -1,6 +1,7 @@
 pub mod Lines
 pub mod Words
 pub mod LineWords
+pub mod PairLine
 pub mod Line
 pub mod Spaced
 pub mod GateLines

@@ -1,4 +1,4 @@
-//! Laws of scripts and of loads, for what stands above: to call one is to know it.
+//! Laws of scripts, of loads and of pairs, for what stands above: to call one is to know it.
 
 ghost use Rattle.std.specs.Prelude.{◌≡◌, ◌≤◌, ◌<◌, ◌+◌, ◌^◌, ℕ, ℤ, Bool, List, length};
 ghost use Rattle.link_node.specs.Config.{ConfigValue, GateValue};
@@ -7,6 +7,7 @@ ghost use Rattle.link_node.specs.Runs.{AreFitting};
 ghost use Rattle.link_text.specs.Lines.{lines_of};
 ghost use Rattle.link_text.specs.LiveScript.{Command, IsFirstLiveFault, IsLiveScript, IsLiveText};
 ghost use Rattle.link_text.specs.Load.{HasOneLoadText};
+ghost use Rattle.link_text.specs.PairLine.{IsPairLine};
 ghost use Rattle.link_text.specs.ReplayScript.{IsHead, IsScriptOf, IsFirstFault, IsNoScript, AreSayable, SaysFrom, written_script_of};
 ghost use Rattle.link_text.specs.declared.live_script.AppCommand.{AppCommand};
 ghost use Rattle.link_text.specs.declared.live_script.BlockCommand.{BlockCommand};
@@ -49,4 +50,10 @@ pub fn one_live_script()
     ensures fault { (text : List ℕ) (k j : ℕ) → IsFirstLiveFault text k → IsFirstLiveFault text j → k ≡ j }
     ensures no_fault { (text : List ℕ) (k : ℕ) (m : ℤ) (s : Bool) (gs : List GateValue) (apps : List AppCommand)
         (blocks : List BlockCommand) → IsFirstLiveFault text k → IsLiveText text m s gs apps blocks → ⊥ }
+{}
+
+/// A line says one pair of numbers at most.
+pub fn one_pair()
+    ensures { (line : List ℕ) (first second third fourth : ℤ) → IsPairLine line first second → IsPairLine line third fourth
+        → (first ≡ third) × (second ≡ fourth) }
 {}

@@ -13,7 +13,7 @@ mod explained;
 mod found;
 
 pub use expected::Expected;
-use explained::explained;
+use explained::{explained, pair_explained};
 pub use found::{Excerpt, Found};
 
 /// What was expected at a place of a line, and what stands there. Its text is for people, as `column 6: expected a tempo from 60060
@@ -71,6 +71,11 @@ pub fn explain_live(text: &[u8], line: u32) -> Reason
     requires { length text.now ≤ 2 ^ 32 - 2 }
 {
     explain_as(Kind::Live, text, line)
+}
+
+/// Why a line is no pair of a sample count and a host time. Memory: none.
+pub fn explain_pair(line: &[u8]) -> Reason {
+    pair_explained(line)
 }
 
 fn explain_as(kind: Kind, text: &[u8], line: u32) -> Reason

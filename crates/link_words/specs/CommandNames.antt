@@ -13,6 +13,7 @@ word_of name.Replay = codes "replay"
 word_of name.Decode = codes "decode"
 word_of name.Load = codes "load"
 word_of name.Live = codes "live"
+word_of name.Filter = codes "filter"
 
 -- the command of a word, if it is one
 unfoldable pub command_of : List ℕ → Option CommandName
@@ -21,6 +22,7 @@ command_of word =
     else if bytes_eq word (word_of name.Decode) then Some name.Decode
     else if bytes_eq word (word_of name.Load) then Some name.Load
     else if bytes_eq word (word_of name.Live) then Some name.Live
+    else if bytes_eq word (word_of name.Filter) then Some name.Filter
     else None
 
 -- the command that the first of the words names; none where there is no word, or another one

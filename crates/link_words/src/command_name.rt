@@ -14,6 +14,8 @@ pub enum CommandName {
     Load,
     /// `live`
     Live,
+    /// `filter`
+    Filter,
 }
 
 impl CommandName {
@@ -26,6 +28,7 @@ impl CommandName {
             CommandName::Decode => "decode",
             CommandName::Load => "load",
             CommandName::Live => "live",
+            CommandName::Filter => "filter",
         }
     }
 }
@@ -42,6 +45,7 @@ pub fn command_named(words: &[String]) -> Option<CommandName>
         "decode" => Some(CommandName::Decode),
         "load" => Some(CommandName::Load),
         "live" => Some(CommandName::Live),
+        "filter" => Some(CommandName::Filter),
         _ => None,
     }
 }

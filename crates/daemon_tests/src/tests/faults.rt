@@ -28,6 +28,7 @@ impl Source for Endless {
 const LIMITS: &[(&str, u64)] = &[
     ("replay", 1_073_741_824),
     ("decode", 16_777_216),
+    ("filter", 16_777_216),
     ("live", 16_777_216),
 ];
 
@@ -113,6 +114,22 @@ const CASES: &[Case] = &[
         bad_write: 18,
         status: 7,
         written: "fault short 1\nfau",
+    },
+    Case {
+        words: &["filter"],
+        input: "0 0\n512 11610\n0 0",
+        bad_read: 4,
+        bad_write: 0,
+        status: 5,
+        written: "",
+    },
+    Case {
+        words: &["filter"],
+        input: "0 0\n512 11610\n0 0",
+        bad_read: 0,
+        bad_write: 22,
+        status: 7,
+        written: "host 0\nhost 11610\nlat",
     },
     Case {
         words: &["load", "0", "1"],

@@ -82,6 +82,52 @@ const ROWS: &[Row] = &[
         status: 0,
         line: 0,
     },
+    // A filter tells the nearest line, and refuses a late pair and a far one.
+    Row {
+        words: &["filter"],
+        input: "0 0\n512 11610\n1024 23000\n512 30000\n2147483649 0\n",
+        output: "host 0\nhost 11610\nhost 23037\nlate 1024\nfar 0 0\ndone 5 2\n",
+        status: 0,
+        line: 0,
+    },
+    // A text of no bytes has no pair.
+    Row {
+        words: &["filter"],
+        input: "",
+        output: "done 0 0\n",
+        status: 0,
+        line: 0,
+    },
+    // An empty line is no pair.
+    Row {
+        words: &["filter"],
+        input: "-5 -7\n\n1 1\n",
+        output: "",
+        status: 8,
+        line: 2,
+    },
+    // Three numbers are none, nor is one beyond the limit.
+    Row {
+        words: &["filter"],
+        input: "1 1152921504606846976\n2 1 1\n",
+        output: "",
+        status: 8,
+        line: 2,
+    },
+    Row {
+        words: &["filter"],
+        input: "1 1152921504606846977",
+        output: "",
+        status: 8,
+        line: 1,
+    },
+    Row {
+        words: &["filter", "x"],
+        input: "1 1\n",
+        output: "",
+        status: 2,
+        line: 0,
+    },
     // Its own id, another group, another kind.
     Row {
         words: &["replay"],

@@ -16,7 +16,8 @@ pub enum Expected {
     Truth,
     Moment,
     Endpoint,
-    GateNumber,
+    /// Of one to four gates.
+    GateNumber { gates: u8 },
     Bytes,
     AudioNumber,
     /// An audio commit's number up to that of the last one.
@@ -39,6 +40,8 @@ pub enum Expected {
     /// What an audio thread does.
     BlockAct,
     Beat,
+    SampleCount,
+    HostTime,
 }
 
 impl Expected {
@@ -57,11 +60,15 @@ impl Expected {
             Expected::Event => "an event: `rx`, `tick`, `app`, `audio` or `end`",
             Expected::Id => "an id of eight characters from ! to ~",
             Expected::Seed => "a number from 0 to 18446744073709551615",
-            Expected::Tempo => "a tempo from 60060 to 3000000 microseconds per beat",
+            Expected::Tempo =>
+                "a tempo from 60060 to 3000000 microseconds per beat (500000 is 120 beats a minute)",
             Expected::Truth => "1 or 0",
             Expected::Moment => "a moment from 0 to 36028797018963968 microseconds",
             Expected::Endpoint => "an endpoint as in 127.0.0.1:20808",
-            Expected::GateNumber => "the number of a gate, counted from 0",
+            Expected::GateNumber { gates: 1 } => "0, the number of the only gate",
+            Expected::GateNumber { gates: 2 } => "0 or 1, the number of a gate",
+            Expected::GateNumber { gates: 3 } => "the number of a gate from 0 to 2",
+            Expected::GateNumber { .. } => "the number of a gate from 0 to 3",
             Expected::Bytes => "at most 513 bytes in hex digits, two for each, or `-` for none",
             Expected::AudioNumber => "a number from 1 to 1152921504606846975",
             Expected::GreaterAudioNumber => "a greater number than that of the last audio commit",
@@ -81,6 +88,10 @@ impl Expected {
             Expected::Act => "`tempo`, `force`, `request`, `play`, `stop` or `look`",
             Expected::BlockAct => "`tempo`, `play` or `stop`",
             Expected::Beat => "a beat from -1152921504606846976 to 1152921504606846976 microbeats",
+            Expected::SampleCount =>
+                "a sample count from -1152921504606846976 to 1152921504606846976",
+            Expected::HostTime =>
+                "a host time from -1152921504606846976 to 1152921504606846976 microseconds",
         }
     }
 }

@@ -2,6 +2,7 @@
 
 use crate::event_read::AUDIO_MAX;
 use crate::live_read::BLOCK_MAX;
+use crate::number::signed_of;
 use crate::reason::{Excerpt, Expected, Found, Kind, Reason, Stage, expected_at};
 use crate::values::{
     bytes_in, endpoint_in, id_in, moment_in, number_in, signed_in, tempo_in, truth_in,
@@ -19,6 +20,21 @@ pub(crate) fn explained(kind: Kind, line: &[u8], stage: Stage) -> Reason {
         } => head(kind, line, stage, gates, destinations),
         Stage::Body { gates, audio } => body(kind, line, stage, gates, audio),
     }
+}
+
+/// Why a line is no pair of a sample count and a host time.
+pub(crate) fn pair_explained(line: &[u8]) -> Reason {
+    let (word, left) = first_word(line);
+    if line.is_empty() {
+        return behind(line, left, Expected::SampleCount);
+    }
+    if signed_of(word).is_none() {
+        return at(0, word, left, Expected::SampleCount);
+    }
+    let Some((_, rest)) = signed_in(left) else {
+        return behind(line, left, Expected::HostTime);
+    };
+    behind(line, rest, Expected::LineEnd)
 }
 
 // What is found where a word was expected behind a part of a line.
@@ -168,7 +184,7 @@ fn event(line: &[u8], stage: Stage, gates: u8, audio: u64) -> Reason {
 
 fn datagram(line: &[u8], left: &[u8], gates: u8) -> Reason {
     let Some((_, from)) = number_in(left, u64::from(gates.saturating_sub(1))) else {
-        return behind(line, left, Expected::GateNumber);
+        return behind(line, left, Expected::GateNumber { gates });
     };
     let Some((_, bytes)) = endpoint_in(from) else {
         return behind(line, from, Expected::Endpoint);

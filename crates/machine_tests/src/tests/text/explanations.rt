@@ -74,7 +74,7 @@ fn what_a_head_lacks_is_told_by_its_column(rt: HostRuntime) {
             (
                 b"replay 1\nnode ABCDEFGH 7 1",
                 2,
-                "column 17: expected a tempo from 60060 to 3000000 microseconds per beat, found \"1\"",
+                "column 17: expected a tempo from 60060 to 3000000 microseconds per beat (500000 is 120 beats a minute), found \"1\"",
             ),
         ],
     );
@@ -116,7 +116,7 @@ fn what_an_event_lacks_is_told_by_its_column(rt: HostRuntime) {
             (
                 b"rx 0 1 1.2.3.4:5 00",
                 4,
-                "column 6: expected the number of a gate, counted from 0, found \"1\"",
+                "column 6: expected 0, the number of the only gate, found \"1\"",
             ),
             (
                 b"rx 0 0 127.0.0.1 00",
@@ -216,7 +216,7 @@ fn what_the_head_of_a_live_script_lacks_is_told(rt: HostRuntime) {
             (
                 b"link 1\nsetup 60059 1",
                 2,
-                "column 7: expected a tempo from 60060 to 3000000 microseconds per beat, found \"60059\"",
+                "column 7: expected a tempo from 60060 to 3000000 microseconds per beat (500000 is 120 beats a minute), found \"60059\"",
             ),
             (
                 b"link 1\nsetup 60060",
@@ -273,7 +273,7 @@ fn what_a_command_lacks_is_told(rt: HostRuntime) {
             (
                 b"at 0 tempo 1",
                 4,
-                "column 12: expected a tempo from 60060 to 3000000 microseconds per beat, found \"1\"",
+                "column 12: expected a tempo from 60060 to 3000000 microseconds per beat (500000 is 120 beats a minute), found \"1\"",
             ),
             (
                 b"at 0 play\r",

@@ -1,0 +1,13 @@
+-- The lines before `at` are answered, and the answers are handed over.
+use Rattle.std.proofs.Common.{◌≡◌, ◌-◌, length}
+use Rattle.link_commands.proofs.FilterLemmas.{HasHandedAnswers}
+use Rattle.link_commands.proofs.filter.hand_answers.Given as goal
+
+abbrev pub invariant-loop-at : goal.invariant-loop-at
+invariant-loop-at g l = record {
+  handed : HasHandedAnswers l.text l.at l.pairs l.refused l.filter (g.K.Sink.written l.fn.out) l.fn.outlet.kept.items (g.K.Sink.written l.out) l.outlet.kept.items;
+  quiet : g.K.Sink.faults l.out ≡ g.K.Sink.faults l.fn.out;
+}
+
+abbrev pub decreases-loop-at : goal.decreases-loop-at
+decreases-loop-at g l = length l.text - l.at
