@@ -2,11 +2,14 @@
 """Runs two of the built program's `live` beside each other over the loopback interface: checks/live.py PROGRAM.
 
 Each lists the other as a destination; one changes the tempo, and the audio thread of the other starts to play. Looked at are, of each run,
-its status, its clicks, and what its summary counts; its record, which the program and the plain reading of checks/node.py replay to what
-the summary tells; and of both, that what one heard is what the other's replayed record sends, and that they end with one tempo, both
-playing, in the session that both told before one said goodbye. A third run finds its gate's port taken, and tells of itself all the same.
+its status, its clicks, what else it tells on standard error, and what its summary counts; its record, which the program and the plain
+reading of checks/node.py replay to what the summary tells; and of both, that what one heard is what the other's replayed record sends, and
+that they end with one tempo, both playing, in the session that both told before one said goodbye.
+Further runs: one finds its gate's port taken, one has a destination that the system refuses, one has no `at` command, and one counts its
+accents in four microbeats.
 The last line is 'N passed, N failed'.
 """
+import os
 import socket
 import subprocess
 import sys
@@ -21,6 +24,8 @@ END = BLOCKS * BLOCK
 # By then both are in one session: they tell of themselves four times a second, and a measurement is 51 pings.
 TEMPO_AT, PLAY_IN = END // 2, 7 * BLOCKS // 10
 NEW_TEMPO = 400_000
+TOLD = "jorazhil: "
+ROOM = "room for 262144 events"
 COUNTS = "events states reads captures app audio plays clicks".split()
 STATE = "number mpb beat time playing start stamp sync peers moment app audio".split()
 
@@ -56,9 +61,9 @@ def script(port, peers, commands):
 class Run:
     """A live run, from its beginning on."""
 
-    def __init__(self, program, port, peers, commands, blocks=BLOCKS):
+    def __init__(self, program, port, peers, commands, blocks=BLOCKS, quantum=4_000_000):
         self.program, self.port, self.script, self.sent = program, port, script(port, peers, commands), []
-        words, pipe = [program, "live", "--blocks", str(blocks), "--record"], subprocess.PIPE
+        words, pipe = [program, "live", "--blocks", str(blocks), "--quantum", str(quantum), "--record"], subprocess.PIPE
         self.child = subprocess.Popen(words, stdin=pipe, stdout=pipe, stderr=pipe, text=True)
         self.child.stdin.write(self.script)
         self.child.stdin.close()
@@ -92,14 +97,23 @@ class Run:
         want("the summary", {name: found[name] for name in wanted}, wanted)
 
     def expect_clicks(self):
-        """The lines on standard error are the clicks that the summary counts, each at a later moment."""
-        words = [line.split(" ") for line in self.error.splitlines()]
+        """The lines on standard error are the clicks that the summary counts, each at a later moment, but for those of the program."""
+        words = [line.split(" ") for line in self.error.splitlines() if not line.startswith(TOLD)]
         want("lines that tell no click", [line for line in words if line[0] != "click" or line[2:] not in (["accent"], ["plain"])], [])
         moments = [int(line[1]) for line in words]
         want("the moments of the clicks", moments, sorted(set(moments)))
         self.expect_counts(clicks=len(words))
         if not words:
             raise Differs("no click was told")
+
+    def expect_told(self, setup, before=(), behind=()):
+        """What the program tells on standard error: how the run is set up, before any click; and at its end how full the journal is, and
+        what stands before that and behind it."""
+        lines = self.error.splitlines()
+        told = [line[len(TOLD) :] for line in lines if line.startswith(TOLD)]
+        events = numbers(self.lines[0], "# live", COUNTS)["events"]
+        want("what is told", told, [*setup, *before, f"the journal took {events} of 262144 events", *behind])
+        want("the first lines", [line[len(TOLD) :] for line in lines[: len(setup)]], setup)
 
     def expect_replayed(self):
         """The record is a replay script of this run, for the program and for the plain reading. Keeps what it sends."""
@@ -157,6 +171,7 @@ def each_run(run, app, audio):
     want("the status and the end of standard error", (run.status, run.error[-400:] if run.status else ""), (0, ""))
     run.expect_counts(reads=BLOCKS, plays=BLOCKS, captures=app + 1, app=app, audio=audio)
     run.expect_clicks()
+    run.expect_told(setup_told(run.port, "at most 250 blocks of 20 milliseconds (5 seconds)"))
     run.expect_replayed()
 
 
@@ -178,6 +193,10 @@ def both_runs(one, other):
     want("the session that the second tells last", other.session(), one.session())
 
 
+def setup_told(port, blocks, bars="bars of 4 beats"):
+    return [f"live at 127.0.0.1:{port}; {blocks}, {ROOM}, {bars}"]
+
+
 def taken_port(program):
     """The gate's port is held by someone else: the run goes on without it."""
     with socket.socket(socket.AF_INET, socket.SOCK_DGRAM) as held:
@@ -185,10 +204,62 @@ def taken_port(program):
         run = Run(program, held.getsockname()[1], [], ["at 0 tempo 400000", "at 0 look"], 3)
         run.end()
     want("the status", run.status, 3)
-    want("the front of standard error", run.error[:30], "jorazhil: the network failed: ")
+    without = [
+        f"the gate 127.0.0.1:{run.port} could not be bound: Address already in use (os error 98); the run goes on without the network",
+        f"live without the network; at most 3 blocks of 20 milliseconds (0.06 seconds), {ROOM}, bars of 4 beats",
+    ]
+    told = [line for line in run.error.splitlines() if line.startswith(TOLD)]
+    want("the last line", told[-1][:30], "jorazhil: the network failed: ")
+    run.error = "".join(line + "\n" for line in told[:-1])
+    run.expect_told(without)
     run.expect_counts(reads=3, plays=3, captures=2, app=1, audio=0, clicks=0)
     want("the tempo at the end", run.state()["mpb"], 400_000)
     run.expect_replayed()
+
+
+def short_run(program, commands, blocks, quantum=4_000_000):
+    run = Run(program, free_ports(1)[0], [], commands, blocks, quantum)
+    run.end()
+    want("the status", run.status, 0)
+    return run
+
+
+def reason_to_refuse():
+    """Why the system refuses a broadcast here."""
+    with socket.socket(socket.AF_INET, socket.SOCK_DGRAM) as gate:
+        gate.bind(("127.0.0.1", 0))
+        try:
+            gate.sendto(b"-", ("255.255.255.255", 20808))
+        except OSError as error:
+            return f"{os.strerror(error.errno)} (os error {error.errno})"
+    return "nothing"
+
+
+def refused(program):
+    """The system refuses a broadcast, for which no option is set: how often is told at the end, and the run goes on."""
+    run = short_run(program, ["to 255.255.255.255:20808", "at 0 tempo 400000", "at 300000 look"], 10)
+    run.expect_replayed()
+    sent = len([words for words in run.sent if words[3] == "255.255.255.255:20808"])
+    refusal = f"the system refused {sent} datagrams to 255.255.255.255:20808, the last for: {reason_to_refuse()}"
+    run.expect_told(setup_told(run.port, "at most 10 blocks of 20 milliseconds (0.2 seconds)"), before=[refusal])
+
+
+def without_commands(program):
+    """No `at` command: the node leaves at once, and its blocks go on."""
+    run = short_run(program, [], 3)
+    run.expect_counts(reads=3, plays=3, captures=0)
+    told = "the script had no at command, so the node left its session at once, while its blocks went on"
+    run.expect_told(setup_told(run.port, "at most 3 blocks of 20 milliseconds (0.06 seconds)"), behind=[told])
+
+
+def short_quantum(program):
+    """A quantum of four microbeats, as somebody writes who means four beats: each click is an accent, and it is told."""
+    run = short_run(program, ["at 0 tempo 60060", "at 20000 play", "at 400000 look"], 25, 4)
+    run.expect_clicks()
+    clicks = {line.split(" ")[2] for line in run.error.splitlines() if not line.startswith(TOLD)}
+    want("the kinds of clicks", clicks, {"accent"})
+    bars = "bars of 0.000004 beats, so every click is an accent"
+    run.expect_told(setup_told(run.port, "at most 25 blocks of 20 milliseconds (0.5 seconds)", bars))
 
 
 def main(program):
@@ -198,6 +269,9 @@ def main(program):
         ("the run that starts to play", each_run, other, 0, 1),
         ("both runs", both_runs, one, other),
         ("a run whose port is taken", taken_port, program),
+        ("a run with a destination that the system refuses", refused, program),
+        ("a run without an at command", without_commands, program),
+        ("a run with a quantum of four microbeats", short_quantum, program),
     ]
     failed = 0
     for name, check, *given in checks:

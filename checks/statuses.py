@@ -11,6 +11,7 @@ import subprocess
 import sys
 
 HEAD = b"replay 1\nnode QRSTUVWX 1 500000 1 1000000\ngate 127.0.0.1:20809\n"
+GATE = b"gate 127.0.0.1:20809\n"
 OPENING = b"state 0 500000 0 1000000 0 0 0 1 0 1000000 0 0\n"
 
 # A gate at a port that the system picks, and a last command that ends the run at once.
@@ -22,11 +23,14 @@ Usage: jorazhil <COMMAND>
 
   jorazhil replay < SCRIPT           reads a script on standard input, and writes what the node sends and shows
   jorazhil decode < DATAGRAMS        reads datagrams in hex on standard input, one a line, and tells in a line what each says
+  jorazhil filter < PAIRS            reads pairs of a sample count and a host time on standard input, one a line, \
+and tells a smooth host time for each
   jorazhil load <SEED> <COUNT>       runs a node through generated events, and writes how much there was and the last state
   jorazhil live [OPTIONS] < SCRIPT   plays a live script beside its peers, and writes how much there was and the last state
 """
 REPLAY = b"Usage: jorazhil replay < SCRIPT\n"
 DECODE = b"Usage: jorazhil decode < DATAGRAMS\n"
+FILTER = b"Usage: jorazhil filter < PAIRS\n"
 LOAD = b"""\
 Usage: jorazhil load <SEED> <COUNT>
 
@@ -44,8 +48,18 @@ Options:
 to 1099511627776 [default: 4000000]
       --record       also writes the run's replay script
 """
-INPUT = b"jorazhil: standard input could not be read; nothing was written\n"
-SINK = b"jorazhil: standard output could not be written; what was written is the front of the output\n"
+INPUT = b"jorazhil: standard input could not be read: %s; nothing was written\n"
+SINK = b"jorazhil: standard output could not be written: %s; what was written is the front of the output\n"
+DIRECTORY, DESCRIPTOR, FULL = b"Is a directory (os error 21)", b"Bad file descriptor (os error 9)", b"No space left on device (os error 28)"
+# What a live run tells when its gates are bound or not, and at its end.
+LIVE_AT = b"jorazhil: live at %s; no blocks, room for %s, bars of 4 beats\n"
+NO_GATE = (
+    b"jorazhil: the gate %s could not be bound: %s; the run goes on without the network\n"
+    b"jorazhil: live without the network; no blocks, room for 262144 events, bars of 4 beats\n"
+)
+IN_USE, NOT_HERE = b"Address already in use (os error 98)", b"Cannot assign requested address (os error 99)"
+JOURNAL = b"jorazhil: the journal took %d of %s\n"
+NO_AT = b"jorazhil: the script had no at command, so the node left its session at once\n"
 PORT = (
     b"jorazhil: the network failed: a gate could not be bound (its address must be this machine's, and its port free), or a socket broke; "
     b"a run that had begun went on without it\n"
@@ -62,6 +76,11 @@ ACT = b"`tempo`, `force`, `request`, `play`, `stop` or `look`"
 BLOCK_ACT = b"`tempo`, `play` or `stop`"
 MOMENT = b"a moment from 0 to 36028797018963968 microseconds"
 EVENT = b"an event: `rx`, `tick`, `app`, `audio` or `end`"
+SAMPLE = b"a sample count from -1152921504606846976 to 1152921504606846976"
+HOST = b"a host time from -1152921504606846976 to 1152921504606846976 microseconds"
+LINE_END = b"the end of the line"
+NO_WORD = b"no word (words are parted by single spaces)"
+CARRIAGE_RETURN = b"a carriage return (lines end in line feeds alone)"
 
 
 def words_at_fault(reason, forms):
@@ -89,6 +108,12 @@ TEXTS = [
     (["replay", "x"], HEAD, 2, words_at_fault(b'"x" is one word too many: replay takes no other word, and reads standard input', REPLAY)),
     (["decode", "x"], b"00\n", 2, words_at_fault(b'"x" is one word too many: decode takes no other word, and reads standard input', DECODE)),
     (["replay", "--help"], HEAD, 2, words_at_fault(b"replay reads standard input", REPLAY)),
+    (["filters"], b"0 0\n", 2, words_at_fault(b'"filters" is no command', COMMANDS)),
+    (["Filter"], b"0 0\n", 2, words_at_fault(b'"Filter" is no command', COMMANDS)),
+    (["filter", "x"], b"0 0\n", 2, words_at_fault(b'"x" is one word too many: filter takes no other word, and reads standard input', FILTER)),
+    (["filter", ""], b"0 0\n", 2, words_at_fault(b'"" is one word too many: filter takes no other word, and reads standard input', FILTER)),
+    (["filter", "--"], b"0 0\n", 2, words_at_fault(b'"--" is one word too many: filter takes no other word, and reads standard input', FILTER)),
+    (["filter", "--help"], b"0 0\n", 2, words_at_fault(b"filter reads standard input", FILTER)),
     ([b"replay\xff"], HEAD, 2, words_at_fault(b"a word is not UTF-8 text", COMMANDS)),
     (["load"], b"", 2, words_at_fault(b"the following required arguments were not provided:\n  <SEED>\n  <COUNT>", LOAD)),
     (["load", "7", "0"], b"", 2, words_at_fault(b"invalid value '0' for '<COUNT>': 0 is not in 1..=524288", LOAD)),
@@ -109,6 +134,7 @@ TEXTS = [
     (["live", "--blocks"], LINK, 2, words_at_fault(b"a value is required for '--blocks <N>' but none was supplied", LIVE)),
     (["live", "--quantum", "-1"], LINK, 2, words_at_fault(b"unexpected argument '-1' found", LIVE)),
     (["live", "--event", "5"], LINK, 2, words_at_fault(b"unexpected argument '--event' found", LIVE)),
+    (["live", "--bogus"], LINK, 2, words_at_fault(b"unexpected argument '--bogus' found", LIVE)),
     (["live", "x"], LINK, 2, words_at_fault(b"unexpected argument 'x' found", LIVE)),
     (["live", "--record", "x"], LINK, 2, words_at_fault(b"unexpected argument 'x' found", LIVE)),
     (["live", "--record", "--record"], LINK, 2, words_at_fault(b"the argument '--record' cannot be used multiple times", LIVE)),
@@ -118,12 +144,16 @@ TEXTS = [
         ["replay"],
         HEAD.replace(b"500000", b"60059"),
         8,
-        at_fault(2, 17, b"a tempo from 60060 to 3000000 microseconds per beat", b'"60059"'),
+        at_fault(2, 17, b"a tempo from 60060 to 3000000 microseconds per beat (500000 is 120 beats a minute)", b'"60059"'),
     ),
     (["replay"], b"# a comment\n\n" + HEAD.replace(b":20809", b""), 8, at_fault(5, 6, b"an endpoint as in 127.0.0.1:20808", b'"127.0.0.1"')),
     (["replay"], HEAD.replace(b":20809", b""), 8, at_fault(3, 6, b"an endpoint as in 127.0.0.1:20808", b'"127.0.0.1"')),
     (["replay"], HEAD + b"# twice\nend 1\nend\n", 8, at_fault(6, 4, MOMENT, b"the end of the line")),
     (["replay"], HEAD + b"tick 5\nwait 5\n", 8, at_fault(5, 1, EVENT, b'"wait"')),
+    (["replay"], HEAD + b"rx 0 1 127.0.0.1:1 00\n", 8, at_fault(4, 6, b"0, the number of the only gate", b'"1"')),
+    (["replay"], HEAD + GATE + b"rx 0 2 127.0.0.1:1 00\n", 8, at_fault(5, 6, b"0 or 1, the number of a gate", b'"2"')),
+    (["replay"], HEAD + GATE * 2 + b"rx 0 3 127.0.0.1:1 00\n", 8, at_fault(6, 6, b"the number of a gate from 0 to 2", b'"3"')),
+    (["replay"], HEAD + GATE * 3 + b"rx 0 4 127.0.0.1:1 00\n", 8, at_fault(7, 6, b"the number of a gate from 0 to 3", b'"4"')),
     (["replay"], HEAD + b"tick 5\r\n", 8, at_fault(4, 7, MOMENT, b"a carriage return (lines end in line feeds alone)")),
     (["live"], b"", 8, at_fault(1, 1, b"`link 1`", b"the end of the text")),
     (["live"], b"replay 1\n", 8, at_fault(1, 1, b"`link 1`", b'"replay"')),
@@ -139,6 +169,28 @@ TEXTS = [
     (["decode"], b"00\n\n0g\n", 8, at_fault(3, 2, b"a hex digit", b'"g"')),
     (["decode"], b"00\n0\xff00\n", 8, at_fault(2, 2, b"a hex digit", b'"\\xff"')),
     (["decode"], b"00" * 8_388_608 + b"\n", 10, TOO_LONG),
+    # A line without a word, and words that are no numbers.
+    (["filter"], b"\n", 8, at_fault(1, 1, SAMPLE, LINE_END)),
+    (["filter"], b"0 0\n\n1 1\n", 8, at_fault(2, 1, SAMPLE, LINE_END)),
+    (["filter"], b" 0 0\n", 8, at_fault(1, 1, SAMPLE, NO_WORD)),
+    (["filter"], b"# a comment\n", 8, at_fault(1, 1, SAMPLE, b'"#"')),
+    (["filter"], b"x 0\n", 8, at_fault(1, 1, SAMPLE, b'"x"')),
+    (["filter"], b"0 0\n-0 0", 8, at_fault(2, 1, SAMPLE, b'"-0"')),
+    (["filter"], b"0\t0\n", 8, at_fault(1, 1, SAMPLE, b'"0\\t0"')),
+    (["filter"], b"1152921504606846977 0\n", 8, at_fault(1, 1, SAMPLE, b'"1152921504606846977"')),
+    (["filter"], b"9" * 41 + b" 0\n", 8, at_fault(1, 1, SAMPLE, b'"' + b"9" * 40 + b'"...')),
+    (["filter"], b"\r\n", 8, at_fault(1, 1, SAMPLE, CARRIAGE_RETURN)),
+    (["filter"], b"0\n", 8, at_fault(1, 2, HOST, LINE_END)),
+    (["filter"], b"0 \n", 8, at_fault(1, 3, HOST, NO_WORD)),
+    (["filter"], b"0  0\n", 8, at_fault(1, 3, HOST, NO_WORD)),
+    (["filter"], b"0 0\n512 11610\n1024 +5\n0\n", 8, at_fault(3, 6, HOST, b'"+5"')),
+    (["filter"], b"5 -1152921504606846977", 8, at_fault(1, 3, HOST, b'"-1152921504606846977"')),
+    (["filter"], b"0 \xff\n", 8, at_fault(1, 3, HOST, b'"\\xff"')),
+    (["filter"], b"0 0\r\n", 8, at_fault(1, 4, HOST, CARRIAGE_RETURN)),
+    (["filter"], b"0 0 \n", 8, at_fault(1, 5, LINE_END, NO_WORD)),
+    (["filter"], b"0 0\n1 1 1\n", 8, at_fault(2, 5, LINE_END, b'"1"')),
+    (["filter"], b"0 0 \r\n", 8, at_fault(1, 5, LINE_END, CARRIAGE_RETURN)),
+    (["filter"], b"0 0\n" * 4_194_304 + b"x", 10, TOO_LONG),
 ]
 
 
@@ -184,6 +236,7 @@ NO_LIVE_RUN = [
     ["live", "--record=x"],
     ["live", "--record=true"],
     ["live", "--event", "7"],
+    ["live", "--bogus"],
     ["live", "--help"],
     ["live", "-V"],
 ]
@@ -206,28 +259,35 @@ def no_live_runs(program):
 
 def read_failures(program):
     """A standard input that can't be read: a directory, and one that is closed."""
-    for word in ("replay", "decode", "live"):
+    for word in ("replay", "decode", "filter", "live"):
         directory = os.open("/", os.O_RDONLY)
         found = run(program, [word], stdin=directory, stdout=subprocess.PIPE)
         os.close(directory)
-        yield f"{word} of a directory", found, (5, b"", INPUT)
+        yield f"{word} of a directory", found, (5, b"", INPUT % DIRECTORY)
     closed = subprocess.run(
         ["/bin/sh", "-c", 'exec "$0" replay <&-', program], stdout=subprocess.PIPE, stderr=subprocess.PIPE, timeout=60, check=False
     )
-    yield "replay of a closed input", (closed.returncode, closed.stdout, closed.stderr), (5, b"", INPUT)
+    yield "replay of a closed input", (closed.returncode, closed.stdout, closed.stderr), (5, b"", INPUT % DESCRIPTOR)
 
 
 def write_failures(program):
     """A standard output that can't be written: a full device, and a file that may hold no more than a part."""
-    for words, text in ((["replay"], HEAD), (["decode"], b"00\n"), (["load", "7", "40"], b""), (["live", "--blocks", "0"], LINK + LOOK)):
+    lived = LIVE_AT % (b"127.0.0.1:0", b"262144 events") + JOURNAL % (2, b"262144 events")
+    for words, text, told in (
+        (["replay"], HEAD, b""),
+        (["decode"], b"00\n", b""),
+        (["filter"], b"0 0\n", b""),
+        (["load", "7", "40"], b"", b""),
+        (["live", "--blocks", "0"], LINK + LOOK, lived),
+    ):
         if os.path.exists("/dev/full"):
             with open("/dev/full", "wb") as full:
                 status, _, error = run(program, words, input=text, stdout=full)
-            yield f"{words[0]} to a full device", (status, error), (7, SINK)
+            yield f"{words[0]} to a full device", (status, error), (7, told + SINK % FULL)
     closed = subprocess.run(
         ["/bin/sh", "-c", 'exec "$0" replay >&-', program], input=HEAD, stdout=subprocess.PIPE, stderr=subprocess.PIPE, timeout=60, check=False
     )
-    yield "replay to a closed output", (closed.returncode, closed.stdout, closed.stderr), (7, b"", SINK)
+    yield "replay to a closed output", (closed.returncode, closed.stdout, closed.stderr), (7, b"", SINK % DESCRIPTOR)
 
 
 def live_failures(program):
@@ -238,19 +298,36 @@ def live_failures(program):
         return f"live {name}", (status, output[: len(wanted[1])], error), wanted
 
     # No event but the opening tick and the end, and no block.
-    without_port = 3, b"# live 2 1 0 1 0 0 0 0\n# state 0 500000 0 ", PORT
+    ended = JOURNAL % (2, b"262144 events")
+
+    def without_port(gate, reason):
+        return 3, b"# live 2 1 0 1 0 0 0 0\n# state 0 500000 0 ", NO_GATE % (gate, reason) + ended + PORT
+
     with socket.socket(socket.AF_INET, socket.SOCK_DGRAM) as held:
         held.bind(("127.0.0.1", 0))
-        taken = LINK.replace(b":0\n", b":%d\n" % held.getsockname()[1])
-        yield begins("on a port in use", taken + LOOK, ["--blocks", "0"], without_port)
+        gate = b"127.0.0.1:%d" % held.getsockname()[1]
+        taken = LINK.replace(b"127.0.0.1:0", gate)
+        yield begins("on a port in use", taken + LOOK, ["--blocks", "0"], without_port(gate, IN_USE))
+        # The second of two gates is told.
+        first = LINK + b"gate " + gate + b"\n"
+        yield begins("whose second gate's port is in use", first + LOOK, ["--blocks", "0"], without_port(gate, IN_USE))
         if os.path.exists("/dev/full"):
             # Of two causes the network's comes first.
             with open("/dev/full", "wb") as full:
                 found = run(program, ["live", "--blocks", "0"], input=taken + LOOK, stdout=full)
-            yield "live on a port in use, to a full device", found, (3, None, PORT)
+            yield "live on a port in use, to a full device", found, (3, None, without_port(gate, IN_USE)[2])
+    # Nobody holds that port any more but the run's own first gate.
+    twice = taken + b"gate " + gate + b"\n"
+    yield begins("with two gates of one port", twice + LOOK, ["--blocks", "0"], without_port(gate, IN_USE))
     # An address that is set aside for documentation, and so is no machine's own.
-    yield begins("at another's address", LINK.replace(b"127.0.0.1", b"192.0.2.1") + LOOK, ["--blocks", "0"], without_port)
-    yield begins("with a full journal", LINK + LOOK, ["--blocks", "0", "--events", "1"], (6, b"# live 1 1 0 1 0 0 0 0\n# state 0 ", EVENTS))
+    elsewhere = LINK.replace(b"127.0.0.1:0", b"192.0.2.1:17000")
+    yield begins("at another's address", elsewhere + LOOK, ["--blocks", "0"], without_port(b"192.0.2.1:17000", NOT_HERE))
+    full_journal = LIVE_AT % (b"127.0.0.1:0", b"1 event") + JOURNAL % (1, b"1 event") + EVENTS
+    yield begins("with a full journal", LINK + LOOK, ["--blocks", "0", "--events", "1"], (6, b"# live 1 1 0 1 0 0 0 0\n# state 0 ", full_journal))
+    status, output, error = run(program, ["live", "--blocks", "0"], input=LINK + b"gate 127.0.0.1:0\n", stdout=subprocess.PIPE)
+    both = LIVE_AT % (b"127.0.0.1:0 and 127.0.0.1:0", b"262144 events")
+    took = JOURNAL % (int((output.split() + [b"0"] * 3)[2]), b"262144 events")
+    yield "live without an at command", (status, error), (0, both + took + NO_AT)
     if os.path.exists("/dev/full"):
         # The first click comes at once and can't be told, with which the blocks end.
         with open("/dev/full", "wb") as full:
@@ -273,7 +350,8 @@ def pipe_closed_after(program, count):
     child.stdout.close()
     error = child.stderr.read()
     status = child.wait(timeout=60)
-    return "decode to a pipe whose reader leaves", (status, front, error), (7, (told * lines)[:count], SINK)
+    # That a reader leaves is no news.
+    return "decode to a pipe whose reader leaves", (status, front, error), (7, (told * lines)[:count], b"")
 
 
 def name_of_no_text(program):

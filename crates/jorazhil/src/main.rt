@@ -1,13 +1,14 @@
 //! The program: its words, and the real things that its top call reads from, writes to and plays on.
 #![tactic(auto)]
 
+use link_adapters::{About, Counted};
 use link_daemon::{
     BehindName, ClickAudio, ClockPace, HostClock, Report, Status, StdSink, StdSource, UdpPort,
     link_main, unreadable_usage, usage,
 };
-use link_words::{CommandName, command_named};
+use link_words::{CommandName, WordsFault, command_named, live_options};
 use lk_outside::{ListAudio, ListPace, ListPort, Sink, Source};
-use std::alloc::Global;
+use std::alloc::{AllocError, Global};
 use std::io::{ErrorKind, Write};
 use std::net::Net;
 use std::process::ExitCode;
@@ -23,34 +24,44 @@ fn main(rt: HostRuntime) -> ExitCode {
             let mut input = StdSource::new(rt.stdin());
             let mut out = StdSink::new(rt.stdout());
             let mut report = Report::new(rt.alloc());
-            if command_named(words) == Some(CommandName::Live) {
+            let status = if command_named(words) == Some(CommandName::Live) {
                 // What is sent to another thread stands on the runtime itself here, and not on a type parameter for it.
-                match devices_of(rt, rt.alloc(), rt.stderr()) {
-                    Ok((mut port, mut audio, mut pace, seed)) => link_main(
-                        &rt,
-                        rt.alloc(),
-                        words,
-                        seed,
-                        &mut input,
-                        &mut port,
-                        &mut audio,
-                        &mut pace,
-                        &mut out,
-                        &mut report,
-                    ),
+                match devices_of(rt, rt.alloc(), words, rt.stderr()) {
+                    Ok(
+                        Devices {
+                            about,
+                            seed,
+                            mut port,
+                            mut audio,
+                            mut pace,
+                        },
+                    ) => {
+                        let status = link_main(
+                            &rt,
+                            rt.alloc(),
+                            words,
+                            seed,
+                            &mut input,
+                            &mut port,
+                            &mut audio,
+                            &mut pace,
+                            &mut out,
+                            &mut report,
+                        );
+                        port.tell_refused();
+                        tell_run(&rt, about, &report, status);
+                        status
+                    }
                     Err(status) => status,
                 }
             } else {
                 run_alone(&rt, rt.alloc(), words, &mut input, &mut out, &mut report)
-            }
+            };
+            tell(&rt, status, words, input.last_error(), out.last_error());
+            status
         }
-        Err(error) if error.kind() == ErrorKind::OutOfMemory => Status::Memory,
-        // A word that is no text is no word of a command.
-        Err(_) => Status::Words,
+        Err(error) => tell_unreadable(&rt, error.kind()),
     };
-    if status != Status::Done {
-        tell(&rt, status, &words);
-    }
     ExitCode::from(status.number())
 }
 
@@ -75,17 +86,29 @@ fn run_alone<R: Threads + Wait + Sync, S: Source, K: Sink>(
     )
 }
 
-// The devices of a live run, which share a clock that starts now, and its seed: the nanoseconds since 1970. Where the system has no
-// network or tells no time, the status says so.
-fn devices_of<R: Net + Wait + Clock + Copy + Drop, W: Write + Drop>(
+/// The devices of a live run, which share a clock that starts when they are made, its seed, and what is told of it.
+#[derive(Drop)]
+struct Devices<R: Net + Wait + Clock + Eprint + Copy + Drop, W: Write + Drop> {
+    about: About,
+    seed: u64,
+    port: UdpPort<R>,
+    audio: ClickAudio<W, R>,
+    pace: ClockPace<R>,
+}
+
+// The devices of the live run that the words set up. Its seed is the nanoseconds since 1970. Where the words set up none, or the system has
+// no network or tells no time, the status says so.
+fn devices_of<R: Net + Wait + Clock + Eprint + Copy + Drop, W: Write + Drop>(
     rt: R,
     alloc: Global,
+    words: &[String],
     clicks: W,
-) -> Result<(UdpPort<R>, ClickAudio<W, R>, ClockPace<R>, u64), Status> {
+) -> Result<Devices<R, W>, Status> {
+    let about = about_of(alloc, words)?;
     let (Ok(clock), Ok(now)) = (HostClock::started(&rt), SystemTime::now(&rt)) else {
         return Err(Status::Audio);
     };
-    let port = match UdpPort::new(rt, alloc, clock) {
+    let port = match UdpPort::new(rt, alloc, clock, about) {
         Ok(port) => port,
         Err(error) if error.kind() == ErrorKind::OutOfMemory => return Err(Status::Memory),
         Err(_) => return Err(Status::Port),
@@ -94,27 +117,100 @@ fn devices_of<R: Net + Wait + Clock + Copy + Drop, W: Write + Drop>(
         return Err(Status::Audio);
     };
     let since = now.duration_since(UNIX_EPOCH).unwrap_or_default();
-    Ok((
+    Ok(Devices {
+        about,
+        seed: u64::try_from(since.as_nanos()).unwrap_or(u64::MAX),
         port,
         audio,
-        ClockPace::new(rt, clock),
-        u64::try_from(since.as_nanos()).unwrap_or(u64::MAX),
-    ))
+        pace: ClockPace::new(rt, clock),
+    })
 }
 
-// Tells the person who ran the program why it is not done.
-fn tell(rt: &HostRuntime, status: Status, words: &io::Result<Vec<String>>) {
-    if status == Status::Words {
-        let told = match words {
-            Ok(words) => usage(rt.alloc(), words),
-            Err(_) => unreadable_usage(rt.alloc()),
+// How the words set up a live run. The status says that they don't, or that no memory was left to read them.
+fn about_of(alloc: Global, words: &[String]) -> Result<About, Status> {
+    match live_options(alloc, words) {
+        Ok(options) => Ok(About {
+            blocks: options.blocks,
+            events: options.events,
+            quantum: options.quantum.unsigned_abs(),
+        }),
+        Err(WordsFault::NotTaken) => Err(Status::Words),
+        Err(WordsFault::Memory) => Err(Status::Memory),
+    }
+}
+
+// Tells of a live run that had begun how full its journal got, and whether the node left at once for want of commands. A run that had begun
+// published a state; one that took no command for want of memory had some.
+fn tell_run(rt: &HostRuntime, about: About, report: &Report, status: Status) {
+    if report.published.is_empty() {
+        return;
+    }
+    let took = report.events.len();
+    let events = Counted(about.events, "event");
+    let _printed = eprintln!(rt; "jorazhil: the journal took {took} of {events}");
+    if report.captures.is_empty() && status != Status::Memory {
+        let _told = if report.plays.is_empty() {
+            eprintln!(rt;
+                "jorazhil: the script had no at command, so the node left its session at once"
+            )
+        } else {
+            eprintln!(rt;
+                "jorazhil: the script had no at command, so the node left its session at once, while its blocks went on"
+            )
         };
-        if let Ok(text) = told {
-            let _printed = eprintln!(rt; "jorazhil: {text}");
-            return;
+    }
+}
+
+// Tells the person who ran the program why it is not done, of the last read and the last write that failed. A reader of the output who left
+// is no news.
+fn tell(
+    rt: &HostRuntime,
+    status: Status,
+    words: &[String],
+    unread: Option<io::Error>,
+    unwritten: Option<io::Error>,
+) {
+    match (status, unread, unwritten) {
+        (Status::Done, _, _) => {}
+        (Status::Words, _, _) => tell_usage(rt, status, usage(rt.alloc(), words)),
+        (Status::Input, Some(error), _) => {
+            let _printed = eprintln!(rt;
+                "jorazhil: standard input could not be read: {error}; nothing was written"
+            );
+        }
+        (Status::Sink, _, Some(error)) => tell_unwritten(rt, error),
+        _ => {
+            let _printed = eprintln!(rt; "jorazhil: {status}");
         }
     }
-    let _printed = eprintln!(rt; "jorazhil: {status}");
+}
+
+// Tells why the output could not be written, unless its reader left.
+fn tell_unwritten(rt: &HostRuntime, error: io::Error) {
+    if error.kind() != ErrorKind::BrokenPipe {
+        let _printed = eprintln!(rt;
+            "jorazhil: standard output could not be written: {error}; what was written is the front of the output"
+        );
+    }
+}
+
+// Tells of words that are no command, and the forms that are some.
+fn tell_usage(rt: &HostRuntime, status: Status, told: Result<String, AllocError>) {
+    let _printed = match told {
+        Ok(text) => eprintln!(rt; "jorazhil: {text}"),
+        Err(_) => eprintln!(rt; "jorazhil: {status}"),
+    };
+}
+
+// The status where the words could not be had, which is told: no memory was left, or a word is no text, and so no word of a command.
+fn tell_unreadable(rt: &HostRuntime, kind: ErrorKind) -> Status {
+    if kind == ErrorKind::OutOfMemory {
+        let status = Status::Memory;
+        let _printed = eprintln!(rt; "jorazhil: {status}");
+        return status;
+    }
+    tell_usage(rt, Status::Words, unreadable_usage(rt.alloc()));
+    Status::Words
 }
 
 // The words after the program's name. The error is want of memory, or that one of them is no text. Std says of no

@@ -1,10 +1,11 @@
 -- What the answers of the adapters say of the clock, the reader and the writer behind them. The standard library tells of a reader's and a
 -- writer's bytes where they are known.
-use Rattle.std.specs.Prelude.{◌≡◌, ℕ, ℤ, pos, ◌+ℤ◌, ◌≤ℤ◌, ◌<ℤ◌, ◌^◌, ◌-◌, ◌/◌, min, List, [], ◌∷◌, ◌++◌, take, codes, if◌then◌else◌, Option}
+use Rattle.std.specs.Prelude.{◌≡◌, ℕ, ℤ, pos, ◌+ℤ◌, ◌≤ℤ◌, ◌<ℤ◌, ◌^◌, ◌-◌, ◌/◌, min, List, [], ◌∷◌, ◌++◌, take, codes, if◌then◌else◌, Option, IsSome}
 use Rattle.std.specs.Fmt.{signed_decimal}
 use Rattle.std.specs.List.{flat_map}
 use Rattle.std.specs.Io.KnownBytes.{Appends, Consumes, IsAtEnd, Keeps}
 use Rattle.std.specs.Time.{instant_nanos}
+use Rattle.std.specs.declared.io.Error.{Error}
 use Rattle.std.specs.declared.time.Instant.{Instant}
 use Rattle.lk_base.specs.Ranges.{IsMoment}
 use Rattle.lk_base.specs.declared.block.Click.{Click}
@@ -29,6 +30,17 @@ IsReadFrom before after buf taken.Failed = Keeps before after
 abbrev pub IsWrittenTo : Option (List ℕ) → Option (List ℕ) → List ℕ → Put → Type 0
 IsWrittenTo before after bytes (put.Took n) = Appends before after (take n bytes)
 IsWrittenTo before after bytes put.Failed = Keeps before after
+
+-- the error of a read that failed is kept, till another fails
+abbrev pub KeepsReadError : Option Error → Option Error → Taken → Type 0
+KeepsReadError before after (taken.Got n) = after ≡ before
+KeepsReadError before after taken.End = after ≡ before
+KeepsReadError before after taken.Failed = IsSome after
+
+-- and so is that of a write
+abbrev pub KeepsWriteError : Option Error → Option Error → Put → Type 0
+KeepsWriteError before after (put.Took n) = after ≡ before
+KeepsWriteError before after put.Failed = IsSome after
 
 -- ---- the clock
 

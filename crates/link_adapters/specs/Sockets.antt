@@ -33,35 +33,37 @@ abbrev pub is_among : List ℤ → Option ℤ → Bool
 is_among codes None = false
 is_among codes (Some code) = list_any (int_eq code) codes
 
--- the system refuses one datagram: no permission (1, 13), no room (11, 12, 105), no way there from here (22, 90, 99, 100, 101, 113), and
--- what became of one that was sent before (111)
-abbrev pub codes_of_one : List ℤ
-codes_of_one = pos 1 ∷ pos 11 ∷ pos 12 ∷ pos 13 ∷ pos 22 ∷ pos 90 ∷ pos 99 ∷ pos 100 ∷ pos 101 ∷ pos 105 ∷ pos 111 ∷ pos 113 ∷ []
+-- the socket is gone (9), or is none (88): no later call of it comes to anything
+abbrev pub codes_of_gone : List ℤ
+codes_of_gone = pos 9 ∷ pos 88 ∷ []
 
 -- an interrupted call (4), and what became of a datagram that was sent before
 abbrev pub codes_of_before : List ℤ
 codes_of_before = pos 4 ∷ pos 101 ∷ pos 104 ∷ pos 111 ∷ pos 113 ∷ []
 
--- nothing is there (11)
-abbrev pub codes_of_none : List ℤ
-codes_of_none = pos 11 ∷ []
-
--- what a send made of a datagram
+-- What a send made of a datagram. The system refuses it alone for any reason but that the socket is gone: no permission, no room, no way
+-- there from here, a filter, a key that is wanting, or any other.
 abbrev pub posted_at : Result ℕ Error → Posted
 posted_at (Ok count) = posted.Sent
-posted_at (Err error) = if is_among codes_of_one (raw_os_error error) then posted.Dropped else posted.Failed
+posted_at (Err error) = if is_among codes_of_gone (raw_os_error error) then posted.Failed else posted.Dropped
 
 -- what a receive gave from an endpoint, if it gave it from one
 abbrev pub taken_from : ℕ → Option Endpoint → Taken
 taken_from count (Some from) = taken.Datagram from count
 taken_from count None = taken.Passed
 
--- what is taken of what a receive gave
+-- what is taken of what a receive gave: an error of something before is passed over, and at any other that leaves the socket there is
+-- nothing until it is asked again
 abbrev pub IsTakenAt : Result (ℕ × SocketAddr) Error → Result Taken Error → Type 0
 IsTakenAt (Ok got) answer = answer ≡ Ok (taken_from got.0 (endpoint_at got.1))
 IsTakenAt (Err error) answer =
-    answer ≡ (if is_among codes_of_none (raw_os_error error) then Ok taken.Nothing
-    else (if is_among codes_of_before (raw_os_error error) then Ok taken.Passed else Err error))
+    answer ≡ (if is_among codes_of_gone (raw_os_error error) then Err error
+    else (if is_among codes_of_before (raw_os_error error) then Ok taken.Passed else Ok taken.Nothing))
+
+-- what comes of a wait: an error ends it early, and is one only where what was waited for is gone
+abbrev pub waited_at : Result (Unit {0}) Error → Result (Unit {0}) Error
+waited_at (Ok done) = Ok done
+waited_at (Err error) = if is_among codes_of_gone (raw_os_error error) then Err error else Ok tt
 
 -- ---- gates
 

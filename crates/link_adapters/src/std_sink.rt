@@ -1,17 +1,20 @@
 //! A sink over a writer, as standard output.
 
-ghost use Rattle.std.specs.Prelude.{◌≡◌, ◌<◌, length, None};
+ghost use Rattle.std.specs.Prelude.{◌≡◌, ◌<◌, length, None, Some};
+ghost use Rattle.lk_outside.specs.Faults.{Rose};
 ghost use Rattle.lk_outside.specs.Sink.{Accepts, HasWriteCause};
-ghost use Rattle.link_adapters.specs.Adapters.{IsWrittenTo};
+ghost use Rattle.link_adapters.specs.Adapters.{IsWrittenTo, KeepsWriteError};
 
 use lk_outside::{Put, Sink};
-use std::io::Write;
+use std::io;
+use std::io::{ErrorKind, Write};
 
-/// A writer as a sink, with a count of the writes that failed or took nothing.
+/// A writer as a sink, with a count of the writes that failed or took nothing, and why the last of them did.
 #[derive(Drop)]
 pub struct StdSink<W: Write + Drop> {
     inner: W,
     faults: u64,
+    last: Option<io::Error>,
 }
 
 impl<W: Write + Drop> StdSink<W> {
@@ -19,8 +22,30 @@ impl<W: Write + Drop> StdSink<W> {
     pub fn new(inner: W) -> Self
         ensures inner { result.inner ≡ inner }
         ensures faultless { result.faults ≡ 0 }
+        ensures last { result.last ≡ None }
     {
-        StdSink { inner, faults: 0 }
+        StdSink {
+            inner,
+            faults: 0,
+            last: None,
+        }
+    }
+
+    /// Why the last write failed that did; one that took nothing is told as `WriteZero`.
+    pub fn last_error(&self) -> Option<io::Error>
+        ensures { result ≡ self.now.last }
+    {
+        self.last
+    }
+
+    // Counts a write that failed so.
+    fn fail(&mut self, error: io::Error)
+        ensures rose { Rose self.old.faults self.new.faults }
+        ensures last { self.new.last ≡ Some error }
+        ensures inner { self.new.inner ≡ self.old.inner }
+    {
+        self.faults = self.faults.saturating_add(1);
+        self.last = Some(error);
     }
 }
 
@@ -36,11 +61,18 @@ impl<W: Write + Drop> Sink for StdSink<W> {
 
         // Of the writer itself, where its bytes are known.
         ensures inner { IsWrittenTo (W.contents self.old.inner) (W.contents self.new.inner) bytes.now result }
+
+        // The error of a write that failed is kept.
+        ensures last { KeepsWriteError self.old.last self.new.last result }
     {
         match self.inner.write(bytes) {
             Ok(count) if count > 0 => Put::Took(count),
-            _ => {
-                self.faults = self.faults.saturating_add(1);
+            Ok(_) => {
+                self.fail(io::Error::from(ErrorKind::WriteZero));
+                Put::Failed
+            }
+            Err(error) => {
+                self.fail(error);
                 Put::Failed
             }
         }

@@ -2,16 +2,18 @@
 
 ghost use Rattle.std.specs.Prelude.{◌≡◌, ◌<◌, length, None};
 ghost use Rattle.lk_outside.specs.Source.{Gives, HasReadCause};
-ghost use Rattle.link_adapters.specs.Adapters.{IsReadFrom};
+ghost use Rattle.link_adapters.specs.Adapters.{IsReadFrom, KeepsReadError};
 
 use lk_outside::{Source, Taken};
+use std::io;
 use std::io::Read;
 
-/// A reader as a source, with a count of the reads that failed.
+/// A reader as a source, with a count of the reads that failed, and why the last of them did.
 #[derive(Drop)]
 pub struct StdSource<R: Read + Drop> {
     inner: R,
     faults: u64,
+    last: Option<io::Error>,
 }
 
 impl<R: Read + Drop> StdSource<R> {
@@ -19,8 +21,20 @@ impl<R: Read + Drop> StdSource<R> {
     pub fn new(inner: R) -> Self
         ensures inner { result.inner ≡ inner }
         ensures faultless { result.faults ≡ 0 }
+        ensures last { result.last ≡ None }
     {
-        StdSource { inner, faults: 0 }
+        StdSource {
+            inner,
+            faults: 0,
+            last: None,
+        }
+    }
+
+    /// Why the last read failed that did.
+    pub fn last_error(&self) -> Option<io::Error>
+        ensures { result ≡ self.now.last }
+    {
+        self.last
     }
 }
 
@@ -36,12 +50,16 @@ impl<R: Read + Drop> Source for StdSource<R> {
 
         // Of the reader itself, where its bytes are known.
         ensures inner { IsReadFrom (R.remaining self.old.inner) (R.remaining self.new.inner) buf.new result }
+
+        // The error of a read that failed is kept.
+        ensures last { KeepsReadError self.old.last self.new.last result }
     {
         match self.inner.read(buf) {
             Ok(0) => Taken::End,
             Ok(count) => Taken::Got(count),
-            Err(_) => {
+            Err(error) => {
                 self.faults = self.faults.saturating_add(1);
+                self.last = Some(error);
                 Taken::Failed
             }
         }

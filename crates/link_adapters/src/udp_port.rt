@@ -3,6 +3,7 @@
 mod address;
 mod gates;
 mod refusal;
+mod refused;
 
 ghost use Rattle.std.specs.Prelude.{◌≡◌, ◌<◌, ◌≤◌, [], length, take, vec_len, None, IfOk, IfSome, OnErr, MatchOption};
 ghost use Rattle.lk_base.specs.declared.endpoint.Endpoint.{Endpoint};
@@ -11,13 +12,15 @@ ghost use Rattle.lk_outside.specs.Port.{Binds, HasBindCause, Receives, HasReceiv
 ghost use Rattle.link_adapters.specs.Sockets.{IsFromTime, IsInBuffer, IsTurnAfter, locals_of};
 
 use crate::HostClock;
+use crate::about::About;
 use crate::host_clock::span;
 pub use address::{address_of, endpoint_of};
-use gates::{Came, GateSocket, look_at, open_gates};
+use gates::{Came, GateSocket, Named, Unbound, look_at, open_gates};
 use lk_base::{Endpoint, Gate, MOMENT_MAX, Wire, append};
 use lk_outside::{Arrival, Bound, Port, Posted};
 use mio::{Events, Poll};
-pub use refusal::{Taken, posted_of, taken_of};
+pub use refusal::{Taken, posted_of, taken_of, waited_of};
+pub use refused::RefusedSends;
 use std::alloc::Global;
 use std::io;
 use std::net::Net;
@@ -27,12 +30,14 @@ use std::time::Clock;
 /// How many events one wait hears of: one a gate.
 const EVENTS: usize = 4;
 
-/// A UDP socket for each gate, which sends and receives without waiting. No option of a socket is set but that one.
+/// A UDP socket for each gate, which sends and receives without waiting. No option of a socket is set but that one. What goes wrong is told
+/// on standard error when it happens; datagrams that the system refuses are counted, to be told at the end.
 #[derive(Drop)]
-pub struct UdpPort<R: Net + Clock + Wait + Copy + Drop> {
+pub struct UdpPort<R: Net + Clock + Wait + Eprint + Copy + Drop> {
     rt: R,
     alloc: Global,
     clock: HostClock,
+    about: About,
     gates: Vec<GateSocket>,
     // Hears of the sockets of the gates.
     poll: Poll,
@@ -41,36 +46,46 @@ pub struct UdpPort<R: Net + Clock + Wait + Copy + Drop> {
     first: u8,
     // What a receive wrote last.
     buffer: [u8; 513],
+    refused: RefusedSends,
     faults: u64,
     ghost few: { vec_len gates ≤ 4 },
 }
 
-impl<R: Net + Clock + Wait + Copy + Drop> UdpPort<R> {
-    /// A port with no gate, by this clock, which `rt` reads. The error is the system's, or that memory ran out.
+impl<R: Net + Clock + Wait + Eprint + Copy + Drop> UdpPort<R> {
+    /// A port with no gate, by this clock, which `rt` reads; at a bind it tells of the run what is given here. The error is the system's,
+    /// or that memory ran out.
     ///
-    /// Waits: no. Memory: the list of events.
-    pub fn new(rt: R, alloc: Global, clock: HostClock) -> io::Result<Self>
+    /// Waits: no. Memory: the list of events, and the counts of what the system refuses.
+    pub fn new(rt: R, alloc: Global, clock: HostClock, about: About) -> io::Result<Self>
         ensures gates { IfOk result (λ port. locals_of port.gates.items ≡ []) }
         ensures faultless { IfOk result (λ port. port.faults ≡ 0) }
     {
         let poll = Poll::new(&rt)?;
         let events = Events::with_capacity(alloc, EVENTS)?;
+        let refused = RefusedSends::new(alloc)?;
         Ok(UdpPort {
             rt,
             alloc,
             clock,
+            about,
             gates: Vec::new(alloc),
             poll,
             events,
             first: 0,
             buffer: [0; 513],
+            refused,
             faults: 0,
         })
     }
 
+    /// Prints on standard error what the system refused to send, in a line for each of the first 32 destinations.
+    pub fn tell_refused(&self) {
+        self.refused.tell(&self.rt);
+    }
+
     // Sockets in place of those of before. At an error those stay.
     // Waits: no. Memory: the list of gates.
-    fn rebind(&mut self, locals: &[Endpoint]) -> io::Result<()>
+    fn rebind(&mut self, locals: &[Endpoint]) -> Result<(), Unbound>
         requires { length locals.now ≤ 4 }
         ensures gates { IfOk result (λ _. locals_of self.new.gates.items ≡ locals.now) }
         ensures kept { OnErr result (self.new.gates ≡ self.old.gates) }
@@ -80,6 +95,42 @@ impl<R: Net + Clock + Wait + Copy + Drop> UdpPort<R> {
         self.gates = open_gates(&self.rt, self.alloc, &poll, locals)?;
         self.poll = poll;
         Ok(())
+    }
+
+    // Tells that these gates are bound, and of the run.
+    fn tell_bound(&self, locals: &[Endpoint]) {
+        let rt = &self.rt;
+        let gates = Named(locals);
+        let about = self.about;
+        let _printed = eprintln!(rt; "jorazhil: live at {gates}; {about}");
+    }
+
+    // Tells why no gates could be bound, and of the run.
+    fn tell_unbound(&self, unbound: Unbound) {
+        let rt = &self.rt;
+        let about = self.about;
+        let _printed = eprintln!(rt; "jorazhil: {unbound}; the run goes on without the network");
+        let _told = eprintln!(rt; "jorazhil: live without the network; {about}");
+    }
+
+    // Takes note of a datagram that wasn't sent: one that the system refused is counted by its destination; of a port that failed it is
+    // told at once.
+    // Waits: no. Memory: none.
+    fn note_unsent(&mut self, to: Endpoint, posted: Posted, error: io::Error)
+        ensures cause { HasSendCause self.old.faults self.new.faults posted }
+        ensures gates { self.new.gates ≡ self.old.gates }
+        ensures turn { self.new.first ≡ self.old.first }
+    {
+        if posted == Posted::Failed {
+            self.faults = self.faults.saturating_add(1);
+            let rt = &self.rt;
+            let to = address_of(to);
+            let _printed = eprintln!(rt;
+                "jorazhil: a send to {to} failed: {error}; the run goes on without the network"
+            );
+        } else {
+            self.refused.count(to, error);
+        }
     }
 
     // What comes until a moment, in microseconds.
@@ -130,12 +181,12 @@ impl<R: Net + Clock + Wait + Copy + Drop> UdpPort<R> {
         if until <= now || now == MOMENT_MAX {
             return Ok(Some(Arrival::Idle(now)));
         }
-        self.poll.poll(&mut self.events, Some(span(now, until)))?;
+        waited_of(self.poll.poll(&mut self.events, Some(span(now, until))))?;
         Ok(None)
     }
 }
 
-impl<R: Net + Clock + Wait + Copy + Drop> Port for UdpPort<R> {
+impl<R: Net + Clock + Wait + Eprint + Copy + Drop> Port for UdpPort<R> {
     ghost contents = { λ _. None };
 
     ghost bound = { λ port. locals_of port.gates.items };
@@ -143,7 +194,7 @@ impl<R: Net + Clock + Wait + Copy + Drop> Port for UdpPort<R> {
     ghost faults = { λ port. port.faults };
 
     // The new sockets are bound before those of before are closed, so that these stay at a failure: a gate of before is in use.
-    // Waits: no. Memory: the list of gates.
+    // Waits: no. Memory: the list of gates. Tells how it came out.
     fn bind(&mut self, gates: &[Endpoint]) -> Bound
         requires some { 0 < length gates.now }
         requires few { length gates.now ≤ 4 }
@@ -151,9 +202,13 @@ impl<R: Net + Clock + Wait + Copy + Drop> Port for UdpPort<R> {
         ensures cause { HasBindCause self.old.faults self.new.faults result }
     {
         match self.rebind(gates) {
-            Ok(()) => Bound::Ready,
-            Err(_) => {
+            Ok(()) => {
+                self.tell_bound(gates);
+                Bound::Ready
+            }
+            Err(unbound) => {
                 self.faults = self.faults.saturating_add(1);
+                self.tell_unbound(unbound);
                 Bound::Failed
             }
         }
@@ -178,8 +233,12 @@ impl<R: Net + Clock + Wait + Copy + Drop> Port for UdpPort<R> {
     {
         match self.arrival(until) {
             Ok(arrival) => arrival,
-            Err(_) => {
+            Err(error) => {
                 self.faults = self.faults.saturating_add(1);
+                let rt = &self.rt;
+                let _printed = eprintln!(rt;
+                    "jorazhil: a receive failed: {error}; the run goes on without the network"
+                );
                 Arrival::Failed
             }
         }
@@ -192,13 +251,16 @@ impl<R: Net + Clock + Wait + Copy + Drop> Port for UdpPort<R> {
         ensures gates { locals_of self.new.gates.items ≡ locals_of self.old.gates.items }
         ensures cause { HasSendCause self.old.faults self.new.faults result }
         ensures turn { self.new.first ≡ self.old.first }
+
+        // A datagram that goes out changes no count.
+        ensures quiet { result ≡ Posted.Sent → self.new.refused ≡ self.old.refused }
     {
         let sent = self.gates[usize::from(gate.0)]
             .socket
             .send_to(bytes, address_of(to));
         let posted = posted_of(&sent);
-        if posted == Posted::Failed {
-            self.faults = self.faults.saturating_add(1);
+        if let Err(error) = sent {
+            self.note_unsent(to, posted, error);
         }
         posted
     }

@@ -3,4 +3,5 @@
 mod devices;
 mod refusals;
 mod streams;
+mod told;
 mod udp;

@@ -1,6 +1,6 @@
 //! The sockets of the gates.
 
-ghost use Rattle.std.specs.Prelude.{◌≡◌, ◌<◌, ◌≤◌, length, vec_len, IfOk, IfSome};
+ghost use Rattle.std.specs.Prelude.{◌≡◌, ◌<◌, ◌≤◌, ◌∷◌, ◌++◌, [], length, vec_len, IfOk, IfSome, OnOk};
 ghost use Rattle.link_adapters.specs.Sockets.{locals_of};
 
 use super::address::address_of;
@@ -9,9 +9,9 @@ use lk_base::{Endpoint, Gate};
 use mio::net::UdpSocket;
 use mio::{Interest, Poll, Token};
 use std::alloc::Global;
-use std::io;
 use std::net::Net;
 use std::sync::Wait;
+use std::{fmt, io};
 
 /// A gate's socket, and the local endpoint that it was bound to.
 #[derive(Drop)]
@@ -28,8 +28,50 @@ pub struct Came {
     pub count: usize,
 }
 
-/// Sockets bound to these endpoints, in order, of which the poll hears under the gates' numbers. The error is the system's, or that memory
-/// ran out; then none stays bound.
+/// Why gates could not be bound: the one at fault, if it is one's fault, and the error of the system, or that memory ran out.
+#[derive(Clone, Copy)]
+pub struct Unbound {
+    pub gate: Option<Endpoint>,
+    pub error: io::Error,
+}
+
+impl From<io::Error> for Unbound {
+    fn from(error: io::Error) -> Unbound {
+        Unbound { gate: None, error }
+    }
+}
+
+impl fmt::Display for Unbound {
+    fn fmt<W: fmt::Write>(&self, f: &mut fmt::Formatter<W>) -> fmt::Result {
+        let error = self.error;
+        match self.gate.map(address_of) {
+            Some(gate) => write!(f, "the gate {gate} could not be bound: {error}"),
+            None => write!(f, "the gates could not be bound: {error}"),
+        }
+    }
+}
+
+/// Some endpoints, for people.
+#[derive(Clone, Copy)]
+pub struct Named<'a>(pub &'a [Endpoint]);
+
+impl<'a> fmt::Display for Named<'a> {
+    fn fmt<W: fmt::Write>(&self, f: &mut fmt::Formatter<W>) -> fmt::Result {
+        let mut left = self.0.len();
+        for local in self.0 {
+            let address = address_of(*local);
+            left = left.saturating_sub(1);
+            match left {
+                0 => write!(f, "{address}")?,
+                1 => write!(f, "{address} and ")?,
+                _ => write!(f, "{address}, ")?,
+            }
+        }
+        Ok(())
+    }
+}
+
+/// Sockets bound to these endpoints, in order, of which the poll hears under the gates' numbers. At an error none stays bound.
 ///
 /// Waits: no. Memory: the list.
 pub fn open_gates<R: Net>(
@@ -37,27 +79,38 @@ pub fn open_gates<R: Net>(
     alloc: Global,
     poll: &Poll,
     locals: &[Endpoint],
-) -> io::Result<Vec<GateSocket>>
+) -> Result<Vec<GateSocket>, Unbound>
     ensures { IfOk result (λ gates. locals_of gates.items ≡ locals.now) }
 {
-    let mut gates = Vec::with_capacity(alloc, locals.len())?;
+    let mut gates = Vec::with_capacity(alloc, locals.len()).map_err(io::Error::from)?;
     let mut at = 0;
     while at < locals.len() {
-        let gate = open_gate(rt, poll, locals[at], Token(at))?;
-        gates.push(gate)?;
+        if let Err(error) = open_gate(rt, poll, locals[at], Token(at), &mut gates) {
+            return Err(Unbound {
+                gate: Some(locals[at]),
+                error,
+            });
+        }
         at += 1;
     }
     Ok(gates)
 }
 
-// A socket bound to this endpoint, of which the poll hears under this token.
-fn open_gate<R: Net>(rt: &R, poll: &Poll, local: Endpoint, token: Token) -> io::Result<GateSocket>
-    ensures { IfOk result (λ gate. gate.local ≡ local) }
+// Appends a socket bound to this endpoint, of which the poll hears under this token.
+fn open_gate<R: Net>(
+    rt: &R,
+    poll: &Poll,
+    local: Endpoint,
+    token: Token,
+    gates: &mut Vec<GateSocket>,
+) -> io::Result<()>
+    ensures { OnOk result (locals_of gates.new.items ≡ locals_of gates.old.items ++ local ∷ []) }
 {
     let mut socket = UdpSocket::bind(rt, address_of(local))?;
     poll.registry()
         .register(&mut socket, token, Interest::READABLE)?;
-    Ok(GateSocket { local, socket })
+    gates.push(GateSocket { local, socket })?;
+    Ok(())
 }
 
 /// Asks each gate in turn for a datagram, beginning at that number, and gives the first that is there. `None` where no gate has one.

@@ -1,8 +1,8 @@
-//! What the answers of a socket say, and which of its errors end nothing.
+//! What the answers of a socket say: its errors end nothing, but for those that say that it is gone.
 
 ghost use Rattle.std.specs.Prelude.{◌≡◌};
 ghost use Rattle.std.specs.IoError.{raw_os_error};
-ghost use Rattle.link_adapters.specs.Sockets.{is_among, codes_of_one, codes_of_before, codes_of_none, posted_at, IsTakenAt};
+ghost use Rattle.link_adapters.specs.Sockets.{is_among, codes_of_gone, codes_of_before, posted_at, waited_at, IsTakenAt};
 
 use super::address::endpoint_of;
 use lk_base::Endpoint;
@@ -15,13 +15,14 @@ use std::net::SocketAddr;
 pub enum Taken {
     /// A datagram, and how many of its bytes stand at the front of the buffer.
     Datagram(Endpoint, usize),
-    /// Nothing, yet more may be there.
+    /// Nothing, yet more may be there: it is asked again at once.
     Passed,
-    /// Nothing is there.
+    /// Nothing is there, or nothing that can be had now: it is asked again behind the next wait.
     Nothing,
 }
 
-/// What becomes of a datagram for which a send gave this.
+/// What becomes of a datagram for which a send gave this: it failed where the socket is gone, and any other error of the system drops this
+/// datagram alone.
 ///
 /// Waits: no. Memory: none.
 pub fn posted_of(sent: &io::Result<usize>) -> Posted
@@ -29,13 +30,13 @@ pub fn posted_of(sent: &io::Result<usize>) -> Posted
 {
     match sent {
         Ok(_) => Posted::Sent,
-        Err(error) if is_of_one(error) => Posted::Dropped,
-        Err(_) => Posted::Failed,
+        Err(error) if is_of_gone(error) => Posted::Failed,
+        Err(_) => Posted::Dropped,
     }
 }
 
 /// What is taken where a receive gave this: what comes from no IPv4 address is passed over, and so is an error of something before. The
-/// error is any other.
+/// error is one of a socket that is gone; at any other nothing is there until the next wait has ended.
 ///
 /// Waits: no. Memory: none.
 pub fn taken_of(received: io::Result<(usize, SocketAddr)>) -> io::Result<Taken>
@@ -46,42 +47,35 @@ pub fn taken_of(received: io::Result<(usize, SocketAddr)>) -> io::Result<Taken>
             Some(from) => Taken::Datagram(from, count),
             None => Taken::Passed,
         }),
-        Err(error) if is_of_none(&error) => Ok(Taken::Nothing),
+        Err(error) if is_of_gone(&error) => Err(error),
         Err(error) if is_of_before(&error) => Ok(Taken::Passed),
-        Err(error) => Err(error),
+        Err(_) => Ok(Taken::Nothing),
     }
 }
 
-// Whether the error of a send says that the system refuses this datagram alone. Any peer may name an endpoint for which it does, so such
-// an error is no fault of the port.
-fn is_of_one(error: &io::Error) -> bool
-    ensures { result ≡ is_among codes_of_one (raw_os_error error.now) }
+/// What comes of a wait that gave this: the error is one of a descriptor that is gone, and at any other the wait just ended early.
+///
+/// Waits: no. Memory: none.
+pub fn waited_of(waited: io::Result<()>) -> io::Result<()>
+    ensures { result ≡ waited_at waited }
+{
+    match waited {
+        Err(error) if is_of_gone(&error) => Err(error),
+        _ => Ok(()),
+    }
+}
+
+// Whether an error says that the socket is gone, or that it is none: no later call of it can come to anything.
+fn is_of_gone(error: &io::Error) -> bool
+    ensures { result ≡ is_among codes_of_gone (raw_os_error error.now) }
 {
     match error.raw_os_error() {
         Some(
-            1 // EPERM, EACCES: no permission.
-            | 13
-            | 11 // EAGAIN, ENOMEM, ENOBUFS: no room to send it from.
-            | 12
-            | 105
-            | 22 // EINVAL: port 0, or no way from this gate's address to that one.
-            | 90 // EMSGSIZE: too long.
-            | 99 // EADDRNOTAVAIL: an address that may not be used here.
-            | 100 // ENETDOWN, ENETUNREACH, EHOSTUNREACH: no route.
-            | 101
-            | 113
-            | 111, // ECONNREFUSED: of a datagram sent before.
+            9 // EBADF
+            | 88, // ENOTSOCK
         ) => true,
         _ => false,
     }
-}
-
-// Whether the error of a receive says that nothing is there.
-fn is_of_none(error: &io::Error) -> bool
-    ensures { result ≡ is_among codes_of_none (raw_os_error error.now) }
-{
-    // EAGAIN
-    error.raw_os_error() == Some(11)
 }
 
 // Whether the error of a receive says nothing of what comes: that a signal interrupted it, or what became of a datagram sent before.

@@ -1,15 +1,15 @@
 //! What a port makes of the numbers of errors, and of addresses.
 
-use link_adapters::{Taken, address_of, endpoint_of, posted_of, taken_of};
+use link_adapters::{Taken, address_of, endpoint_of, posted_of, taken_of, waited_of};
 use lk_base::Endpoint;
 use lk_outside::Posted;
+use std::alloc::{AllocError, Global};
 use std::io;
 use std::io::ErrorKind;
 use std::net::{Ipv4Addr, Ipv6Addr, SocketAddr};
 use std::test::Fail;
 
-/// What the numbers of Linux mean by which it is told what ends nothing. Those of 90, a datagram too long, and 105, no room to send it,
-/// have no kind.
+/// What the numbers of Linux mean by which it is told what a receive passes over, and of others that are tried below.
 const KINDS: &[(i32, ErrorKind)] = &[
     (1, ErrorKind::PermissionDenied),
     (4, ErrorKind::Interrupted),
@@ -17,36 +17,36 @@ const KINDS: &[(i32, ErrorKind)] = &[
     (12, ErrorKind::OutOfMemory),
     (13, ErrorKind::PermissionDenied),
     (22, ErrorKind::InvalidInput),
-    (90, ErrorKind::Uncategorized),
     (99, ErrorKind::AddrNotAvailable),
     (100, ErrorKind::NetworkDown),
     (101, ErrorKind::NetworkUnreachable),
     (104, ErrorKind::ConnectionReset),
-    (105, ErrorKind::Uncategorized),
     (111, ErrorKind::ConnectionRefused),
     (113, ErrorKind::HostUnreachable),
 ];
 
-/// What becomes of a datagram whose send failed with this number. 9, 14 and 88 are of sockets that are none.
-const SENDS: &[(i32, Posted)] = &[
-    (1, Posted::Dropped),
-    (11, Posted::Dropped),
-    (12, Posted::Dropped),
-    (13, Posted::Dropped),
-    (22, Posted::Dropped),
-    (90, Posted::Dropped),
-    (99, Posted::Dropped),
-    (100, Posted::Dropped),
-    (101, Posted::Dropped),
-    (105, Posted::Dropped),
-    (111, Posted::Dropped),
-    (113, Posted::Dropped),
-    (9, Posted::Failed),
-    (14, Posted::Failed),
-    (88, Posted::Failed),
+/// The texts of those that say that a socket is gone or is none, and of some that don't.
+const NAMES: &[(i32, &str)] = &[
+    (9, "Bad file descriptor (os error 9)"),
+    (88, "Socket operation on non-socket (os error 88)"),
+    (5, "Input/output error (os error 5)"),
+    (19, "No such device (os error 19)"),
+    (89, "Destination address required (os error 89)"),
+    (90, "Message too long (os error 90)"),
+    (105, "No buffer space available (os error 105)"),
+    (126, "Required key not available (os error 126)"),
 ];
 
-/// What a receive that failed with this number gives: `p` where it is passed over, `n` where nothing is there, `f` where it is a fault.
+/// The numbers of errors that drop one datagram where a send fails with them, and end nothing.
+const OF_ONE: &[i32] = &[
+    1, 5, 11, 12, 13, 19, 22, 89, 90, 99, 100, 101, 105, 111, 113, 126,
+];
+
+/// Those of a socket that is gone, and of one that is none.
+const OF_GONE: &[i32] = &[9, 88];
+
+/// What a receive that failed with this number gives: `p` where it is passed over, `n` where nothing is there until the next wait, `f`
+/// where it is a fault.
 const RECEIVES: &[(i32, u8)] = &[
     (4, b'p'),
     (101, b'p'),
@@ -54,10 +54,12 @@ const RECEIVES: &[(i32, u8)] = &[
     (111, b'p'),
     (113, b'p'),
     (11, b'n'),
+    (5, b'n'),
+    (12, b'n'),
+    (22, b'n'),
+    (100, b'n'),
     (9, b'f'),
-    (12, b'f'),
-    (22, b'f'),
-    (100, b'f'),
+    (88, b'f'),
 ];
 
 #[test]
@@ -72,15 +74,47 @@ fn the_numbers_of_errors_mean_what_they_are_taken_for(rt: HostRuntime) -> Result
 }
 
 #[test]
+fn an_error_of_a_socket_that_is_gone_has_its_name(rt: HostRuntime) -> Result<(), Fail> {
+    for (number, name) in NAMES {
+        let text = to_text(rt.alloc(), io::Error::from_raw_os_error(*number))?;
+        assert!(rt; text.as_str() == *name, "{number}");
+    }
+    Ok(())
+}
+
+fn to_text(alloc: Global, error: io::Error) -> Result<String, AllocError> {
+    format!(in alloc; "{error}")
+}
+
+#[test]
 fn an_error_of_one_datagram_is_no_fault(rt: HostRuntime) -> Result<(), Fail> {
-    for (number, posted) in SENDS {
-        assert!(rt;
-            posted_of(&Err(io::Error::from_raw_os_error(*number))) == *posted,
-            "{number}"
-        );
+    for number in OF_ONE {
+        assert!(rt; posted_by(*number) == Posted::Dropped, "{number}");
+    }
+    for number in OF_GONE {
+        assert!(rt; posted_by(*number) == Posted::Failed, "{number}");
     }
     assert!(rt; posted_of(&Ok(3)) == Posted::Sent);
     Ok(())
+}
+
+fn posted_by(number: i32) -> Posted {
+    posted_of(&Err(io::Error::from_raw_os_error(number)))
+}
+
+#[test]
+fn a_wait_fails_only_where_what_it_waits_for_is_gone(rt: HostRuntime) -> Result<(), Fail> {
+    for number in [4, 11, 12, 22] {
+        assert!(rt; waited_by(number), "{number}");
+    }
+    for number in OF_GONE {
+        assert!(rt; !waited_by(*number), "{number}");
+    }
+    Ok(())
+}
+
+fn waited_by(number: i32) -> bool {
+    waited_of(Err(io::Error::from_raw_os_error(number))).is_ok()
 }
 
 #[test]

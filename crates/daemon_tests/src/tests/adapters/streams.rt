@@ -54,6 +54,25 @@ fn a_reader_is_a_source_up_to_its_end(rt: HostRuntime) -> Result<(), Fail> {
     Ok(())
 }
 
+#[test]
+fn a_failure_of_a_stream_is_kept(rt: HostRuntime) -> Result<(), Fail> {
+    let mut source = StdSource::new(Broken);
+    assert!(rt; kind_of(source.last_error()).is_none());
+    let _failed = gives(&mut source, READS);
+    assert!(rt; kind_of(source.last_error()) == Some(ErrorKind::TimedOut));
+    let mut sink = StdSink::new(Broken);
+    let _unwritten = sink.write(b"abc");
+    assert!(rt; kind_of(sink.last_error()) == Some(ErrorKind::TimedOut));
+    let mut full = StdSink::new(Full);
+    let _none = full.write(b"abc");
+    assert!(rt; kind_of(full.last_error()) == Some(ErrorKind::WriteZero));
+    Ok(())
+}
+
+fn kind_of(error: Option<io::Error>) -> Option<ErrorKind> {
+    error.map(|error| error.kind())
+}
+
 fn gives<S: Source>(source: &mut S, wanted: &[(Taken, [u8; 2])]) -> bool {
     let mut piece = [0u8; 2];
     for (taken, bytes) in wanted {

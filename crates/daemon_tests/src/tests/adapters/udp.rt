@@ -4,7 +4,7 @@ ghost use Rattle.std.specs.Prelude.{◌≡◌, ◌<◌, length, IfOk};
 ghost use Rattle.link_adapters.specs.Sockets.{locals_of};
 
 use super::devices::moment_by;
-use link_adapters::{ClickAudio, ClockPace, HostClock, UdpPort};
+use link_adapters::{About, ClickAudio, ClockPace, HostClock, UdpPort};
 use lk_base::{Clicks, Endpoint, Gate};
 use lk_outside::{Arrival, Audio, Bound, Next, Pace, Played, Port, Posted};
 use std::alloc::Global;
@@ -22,6 +22,13 @@ const HERE: u32 = 0x7f00_0001;
 
 /// How long a datagram is waited for at most, in microseconds.
 const PATIENCE: i64 = 5_000_000;
+
+/// What is told of a run where a port is bound.
+const ABOUT: About = About {
+    blocks: 0,
+    events: 1,
+    quantum: 0,
+};
 
 /// One of the two ports of a script.
 #[derive(Clone, Copy, Debug)]
@@ -194,22 +201,22 @@ fn end(addr: u32, port: u16) -> Endpoint {
 
 /// A port, and how many gates it has.
 #[derive(Drop)]
-struct GatedPort<R: Net + Clock + Wait + Copy + Drop> {
+struct GatedPort<R: Net + Clock + Wait + Eprint + Copy + Drop> {
     port: UdpPort<R>,
     gates: usize,
     ghost same: { gates ≡ length (locals_of port.gates.items) },
 }
 
 // A port with no gate.
-fn without_gates<R: Net + Clock + Wait + Copy + Drop>(
+fn without_gates<R: Net + Clock + Wait + Eprint + Copy + Drop>(
     rt: R,
     alloc: Global,
 ) -> io::Result<GatedPort<R>> {
-    let port = UdpPort::new(rt, alloc, HostClock::started(&rt)?)?;
+    let port = UdpPort::new(rt, alloc, HostClock::started(&rt)?, ABOUT)?;
     Ok(GatedPort { port, gates: 0 })
 }
 
-impl<R: Net + Clock + Wait + Copy + Drop> GatedPort<R> {
+impl<R: Net + Clock + Wait + Eprint + Copy + Drop> GatedPort<R> {
     fn bind(&mut self, gates: &[Endpoint]) -> Bound {
         if gates.is_empty() || gates.len() > 4 {
             return Bound::Failed;
@@ -251,7 +258,7 @@ impl<R: Net + Clock + Wait + Copy + Drop> GatedPort<R> {
 }
 
 // How many steps came to what they have to, up to the first that didn't.
-fn steps_done<R: Net + Clock + Wait + Copy + Drop>(
+fn steps_done<R: Net + Clock + Wait + Eprint + Copy + Drop>(
     rt: &R,
     alloc: Global,
     ends: &[Endpoint; 6],
@@ -283,7 +290,7 @@ fn side_of(step: Step) -> Side {
 }
 
 // Whether what has to come of a step has come of it, at its port.
-fn is_as_told<R: Net + Clock + Wait + Copy + Drop>(
+fn is_as_told<R: Net + Clock + Wait + Eprint + Copy + Drop>(
     rt: &R,
     alloc: Global,
     ends: &[Endpoint; 6],
@@ -343,7 +350,7 @@ fn a_port_is_idle_at_its_time_and_not_before(rt: HostRuntime) -> Result<(), Fail
 }
 
 // Whether a port is idle no earlier than at its time, and for one that has gone by, and one before the start, at once.
-fn waits<R: Net + Clock + Wait + Copy + Drop>(
+fn waits<R: Net + Clock + Wait + Eprint + Copy + Drop>(
     rt: &R,
     clock: &HostClock,
     port: &mut GatedPort<R>,
@@ -355,20 +362,20 @@ fn waits<R: Net + Clock + Wait + Copy + Drop>(
 }
 
 // A port of two gates.
-fn idle_port<R: Net + Clock + Wait + Copy + Drop>(
+fn idle_port<R: Net + Clock + Wait + Eprint + Copy + Drop>(
     rt: R,
     alloc: Global,
     clock: HostClock,
     ends: &[Endpoint; 6],
 ) -> io::Result<GatedPort<R>> {
-    let port = UdpPort::new(rt, alloc, clock)?;
+    let port = UdpPort::new(rt, alloc, clock, ABOUT)?;
     let mut gated = GatedPort { port, gates: 0 };
     let _bound = gated.bind(some_of(ends, 0, 2));
     Ok(gated)
 }
 
 // The moment until which nothing came; that before all where something did.
-fn idle<R: Net + Clock + Wait + Copy + Drop>(port: &mut GatedPort<R>, until: i64) -> i64 {
+fn idle<R: Net + Clock + Wait + Eprint + Copy + Drop>(port: &mut GatedPort<R>, until: i64) -> i64 {
     match port.receive(until) {
         Arrival::Idle(now) => now,
         _ => i64::MIN,
