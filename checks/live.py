@@ -5,8 +5,8 @@ Each lists the other as a destination; one changes the tempo, and the audio thre
 its status, its clicks, what else it tells on standard error, and what its summary counts; its record, which the program and the plain
 reading of checks/node.py replay to what the summary tells; and of both, that what one heard is what the other's replayed record sends, and
 that they end with one tempo, both playing, in the session that both told before one said goodbye.
-Further runs: one finds its gate's port taken, one has a destination that the system refuses, one has no `at` command, and one counts its
-accents in four microbeats.
+Further runs: one finds its gate's port taken, one has a destination that the system refuses, one has no `at` command, one counts its
+accents in four microbeats, and one has a command for a block past its last one.
 The last line is 'N passed, N failed'.
 """
 import os
@@ -262,6 +262,13 @@ def short_quantum(program):
     run.expect_told(setup_told(run.port, "at most 25 blocks of 20 milliseconds (0.5 seconds)", bars))
 
 
+def late_block(program):
+    """A command for a block past the last one never comes: no audio commit is counted, and nothing told (docs/BESIDE-LINK.md says so)."""
+    run = short_run(program, ["at 0 look", "block 600 play"], 10)
+    run.expect_counts(reads=10, plays=10, captures=1, audio=0)
+    run.expect_told(setup_told(run.port, "at most 10 blocks of 20 milliseconds (0.2 seconds)"))
+
+
 def main(program):
     one, other = two_runs(program)
     checks = [
@@ -272,6 +279,7 @@ def main(program):
         ("a run with a destination that the system refuses", refused, program),
         ("a run without an at command", without_commands, program),
         ("a run with a quantum of four microbeats", short_quantum, program),
+        ("a run with a block command past its last block", late_block, program),
     ]
     failed = 0
     for name, check, *given in checks:
