@@ -90,8 +90,11 @@ class Copy:
         return run
 
     def at_a_terminal(self, words):
-        """What a run says on standard error whose input is a terminal."""
-        ours, theirs = pty.openpty()
+        """What a run says on standard error whose input is a terminal; nothing is known where the system has none to give."""
+        try:
+            ours, theirs = pty.openpty()
+        except OSError:
+            return None
         try:
             run = subprocess.run(
                 [self.script, *words], stdin=theirs, stdout=subprocess.PIPE, stderr=subprocess.PIPE, text=True, env=self.environment, timeout=60
@@ -146,6 +149,9 @@ def main():
         note("jorazhil replay, which has to be built", None if run.returncode == 125 and asked else f"status {run.returncode}, rt {asked!r}")
         for words in (["replay"], ["decode"], ["live", "--blocks", "0"]):
             error = copy.at_a_terminal(words)
+            if error is None:
+                print("skipped: no terminal can be had")
+                break
             note(f"jorazhil {' '.join(words)} at a terminal", None if f"{words[0]} reads its input from this terminal" in error else repr(error))
         copy.was_asked()
         if len(sys.argv) == 2:
