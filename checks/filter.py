@@ -23,7 +23,7 @@ NUMBER = re.compile(rb"0|-?[1-9][0-9]*")
 REACHED = (
     "late, late behind a far pair, late and far, far by sample, far by host above, far by host below, far by both, far and not from the oldest, "
     "far twice over, far but for the oldest of 512, oldest dropped, as far as it may be by sample, as far as it may be by host, wide in samples, "
-    "wide in hosts, half above 0, half below 0, rounded up, rounded down, whole, negative, beyond the range"
+    "wide in hosts, half above the oldest, half below the oldest, half that goes towards 0, rounded up, rounded down, whole, negative, beyond the range"
 ).split(", ")
 
 
@@ -55,25 +55,23 @@ def pairs_of(text):
 
 
 def fitted(pairs):
-    """Where the least squares line through the pairs is at the newest sample. It goes through the middle of the pairs."""
+    """How far the least squares line is above the oldest's host time at the newest sample. It goes through the middle of the pairs."""
     count, (ground, low), newest = len(pairs), pairs[0], pairs[-1][0]
     if count == 1:
-        return Fraction(low)
+        return Fraction(0)
     samples, hosts = [sample - ground for sample, _ in pairs], [host - low for _, host in pairs]
     middle, height = sum(samples), sum(hosts)
     apart = [count * sample - middle for sample in samples]
     slope = Fraction(sum(map(mul, apart, hosts)), sum(map(mul, apart, samples)))
-    return low + Fraction(height, count) + slope * (newest - ground - Fraction(middle, count))
+    return Fraction(height, count) + slope * (newest - ground - Fraction(middle, count))
 
 
 def nearest(value, reached):
     """The nearest whole number, halves away from 0."""
     size = int(abs(value) + Fraction(1, 2))
     if value.denominator == 2:
-        reached["half above 0" if value > 0 else "half below 0"] += 1
+        reached["half above the oldest" if value > 0 else "half below the oldest"] += 1
     reached["whole" if size == abs(value) else "rounded up" if (size > abs(value)) == (value > 0) else "rounded down"] += 1
-    reached["negative"] += value < 0
-    reached["beyond the range"] += size > LIMIT
     return size if value >= 0 else -size
 
 
@@ -117,7 +115,12 @@ def output_of(pairs, reached):
             reached["wide in samples"] += sample - stay[0][0] > FAR // 2
             reached["wide in hosts"] += abs(host - stay[0][1]) > FAR // 2
         kept = [*stay, (sample, host)]
-        lines.append(f"host {nearest(fitted(kept), reached)}\n")
+        # Rounded is how far it is from the oldest's host time, so a half goes away from that.
+        smooth = kept[0][1] + nearest(fitted(kept), reached)
+        reached["negative"] += smooth < 0
+        reached["beyond the range"] += abs(smooth) > LIMIT
+        reached["half that goes towards 0"] += (kept[0][1] + fitted(kept)).denominator == 2 and abs(smooth) < abs(kept[0][1] + fitted(kept))
+        lines.append(f"host {smooth}\n")
     return "".join(lines) + f"done {len(pairs)} {refused}\n"
 
 
@@ -169,6 +172,9 @@ WORKED = [
     (b"0 0\n1 0\n3 14\n", "host 0\nhost 0\nhost 13\ndone 3 0\n"),
     (b"0 0\n1 7\n3 0\n", "host 0\nhost 7\nhost 2\ndone 3 0\n"),
     (b"0 0\n1 -7\n3 0\n", "host 0\nhost -7\nhost -2\ndone 3 0\n"),
+    # 7/2 above the oldest, and below it: the half goes away from its host time, and here towards 0.
+    (b"0 -103\n1 -100\n2 -100\n", "host -103\nhost -100\nhost -99\ndone 3 0\n"),
+    (b"0 103\n1 100\n2 100\n", "host 103\nhost 100\nhost 99\ndone 3 0\n"),
     # A flat line.
     (b"-9 -5\n0 -5\n1 -5\n1000000 -5\n", "host -5\nhost -5\nhost -5\nhost -5\ndone 4 0\n"),
     # A line that falls.
