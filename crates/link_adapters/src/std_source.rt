@@ -1,7 +1,7 @@
 //! A source over a reader, as standard input.
 
 ghost use Rattle.std.specs.Prelude.{◌≡◌, ◌<◌, length, None};
-ghost use Rattle.lk_outside.specs.Source.{Gives, HasReadCause};
+ghost use Rattle.lk_outside.specs.Source.{Gives, KeepsRest, HasReadCause};
 ghost use Rattle.link_adapters.specs.Adapters.{IsReadFrom, KeepsReadError};
 
 use lk_outside::{Source, Taken};
@@ -46,6 +46,7 @@ impl<R: Read + Drop> Source for StdSource<R> {
     fn read(&mut self, buf: &mut [u8]) -> Taken
         requires { 0 < length buf.old }
         ensures bytes { Gives None None buf.new result }
+        ensures rest { KeepsRest None buf.old buf.new result }
         ensures cause { HasReadCause self.old.faults self.new.faults result }
 
         // Of the reader itself, where its bytes are known.

@@ -1,5 +1,5 @@
 -- What a read does to the bytes left and to the count of faults.
-use Rattle.std.specs.Prelude.{◌≡◌, ℕ, ◌≤◌, List, [], ◌++◌, length, take, Option, IfSome}
+use Rattle.std.specs.Prelude.{◌≡◌, ℕ, ◌≤◌, List, [], ◌++◌, length, take, drop, Option, Some, None, IfSome}
 use Rattle.std.specs.Option.{option_map}
 use Rattle.lk_outside.specs.Faults.{Rose}
 use Rattle.lk_outside.specs.declared.source.Taken.{Taken}
@@ -18,6 +18,13 @@ abbrev pub Gives : Option (List ℕ) → Option (List ℕ) → List ℕ → Take
 Gives before after buf (Got n) = (1 ≤ n) × (n ≤ length buf) × Takes before (take n buf) after
 Gives before after buf End = (after ≡ before) × IsAtEnd before
 Gives before after buf Failed = after ≡ before
+
+-- where the bytes are told, nothing is written into the buffer but those that were got, at its front
+abbrev pub KeepsRest : Option (List ℕ) → List ℕ → List ℕ → Taken → Type 0
+KeepsRest None old new taken = Unit {0}
+KeepsRest (Some left) old new (Got n) = drop n new ≡ drop n old
+KeepsRest (Some left) old new End = new ≡ old
+KeepsRest (Some left) old new Failed = new ≡ old
 
 -- a failure is counted, and nothing else is
 abbrev pub HasReadCause : ℕ → ℕ → Taken → Type 0

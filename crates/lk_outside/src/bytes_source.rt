@@ -63,7 +63,7 @@ impl BytesSource {
 impl Source for BytesSource {
     ghost use Rattle.std.specs.Prelude.{◌≡◌, ◌↔◌, ◌+◌, ◌-◌, ◌^◌, min};
     ghost use Rattle.lk_outside.specs.Failing.{FailsAt};
-    ghost use Rattle.lk_outside.specs.Source.{Gives, HasReadCause, IfGot};
+    ghost use Rattle.lk_outside.specs.Source.{Gives, KeepsRest, HasReadCause, IfGot};
     ghost use Rattle.lk_outside.specs.BytesSource.{left_of, rest_of, most_of, failing_of, reads_of, next_read_of, faults_of, IsQuietSource};
 
     ghost left = { left_of };
@@ -73,6 +73,7 @@ impl Source for BytesSource {
     fn read(&mut self, buf: &mut [u8]) -> Taken
         requires { 0 < length buf.old }
         ensures bytes { Gives (left_of self.old) (left_of self.new) buf.new result }
+        ensures rest { KeepsRest (left_of self.old) buf.old buf.new result }
         ensures cause { HasReadCause (faults_of self.old) (faults_of self.new) result }
 
         // Which read fails, and how much another one gives.

@@ -1,7 +1,7 @@
 //! Where bytes come from.
 
 ghost use Rattle.std.specs.Prelude.{ℕ, List, Option, ◌<◌, length};
-ghost use Rattle.lk_outside.specs.Source.{Gives, HasReadCause};
+ghost use Rattle.lk_outside.specs.Source.{Gives, KeepsRest, HasReadCause};
 
 /// What a read answers.
 #[derive(Clone, Copy, Debug, PartialEq, Eq)]
@@ -22,9 +22,11 @@ pub trait Source {
     /// How often a read has failed. It never falls, and stays at its type's last value.
     ghost faults: { Self → ℕ };
 
-    /// Takes some bytes into the front of `buf`.
+    /// Takes some bytes into the front of `buf`. A source that doesn't tell its bytes, as a reader of the system, may write
+    /// anything behind them.
     fn read(&mut self, buf: &mut [u8]) -> Taken
         requires { 0 < length buf.old }
         ensures bytes { Gives (left self.old) (left self.new) buf.new result }
+        ensures rest { KeepsRest (left self.old) buf.old buf.new result }
         ensures cause { HasReadCause (faults self.old) (faults self.new) result };
 }
