@@ -9,3 +9,4 @@ pub mod AnswerLemmas
 pub mod PickLemmas
 pub mod CountLemmas
 pub mod LawLemmas
+pub mod FirstLemmas

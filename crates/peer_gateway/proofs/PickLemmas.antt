@@ -141,7 +141,7 @@ lt_then Greater u s l p q = rw p refl
 nat_lt_is : (a b : ℕ) → nat_lt a b ≡ is_lt (nat_cmp a b)
 nat_lt_is a b = grind (arith, nat_tests)
 
-before_is : (a b : PeerRow) → comes_before a b ≡ is_lt (row_order a b)
+pub before_is : (a b : PeerRow) → comes_before a b ≡ is_lt (row_order a b)
 before_is a b = lt_then (slice_cmp nat_cmp a.id.0 b.id.0) (nat_cmp a.gate.0 b.gate.0) (same_id a.id b.id) (nat_lt a.gate.0 b.gate.0)
     (texts_ties a.id.0 b.id.0) (nat_lt_is a.gate.0 b.gate.0)
 

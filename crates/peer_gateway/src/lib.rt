@@ -9,6 +9,9 @@ mod peers;
 mod row;
 
 pub use expiry::Expiry;
-pub use laws::{no_row_twice, rows_are_what_nothing_ended};
+pub use laws::{
+    no_number_is_less_than_the_least, no_row_comes_before_the_first, no_row_twice,
+    rows_are_what_nothing_ended,
+};
 pub use peers::Peers;
 pub use row::Seen;

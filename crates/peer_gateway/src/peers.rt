@@ -27,7 +27,7 @@ pub struct Peers {
 }
 
 impl Model for Peers {
-    ghost use Rattle.std.specs.Prelude.{◌≤◌, ◌*◌, vec_capacity};
+    ghost use Rattle.std.specs.Prelude.{◌≡◌, ◌≤◌, ◌*◌, vec_capacity};
     ghost use Rattle.peer_gateway.specs.Order.{IsTable};
     ghost use Rattle.peer_gateway.specs.Table.{Table};
 
@@ -36,7 +36,7 @@ impl Model for Peers {
     ghost view = { λ s. record { gates = s.gates; rows = s.rows.items } };
 
     ghost invariant = { λ s. IsTable s.gates s.rows.items s.by_limit.items
-        × (128 * s.gates ≤ vec_capacity s.rows) × (128 * s.gates ≤ vec_capacity s.by_limit)
+        × (vec_capacity s.rows ≡ 128 * s.gates) × (vec_capacity s.by_limit ≡ 128 * s.gates)
         × (s.gates ≤ 4) };
 }
 

@@ -25,7 +25,7 @@ pub fn see_other(others: &mut Vec<Known>, session: NodeId, timeline: Timeline) -
     requires { 64 ≤ vec_capacity others.old }
     ensures answer { result ≡ saw_other_of others.old.items session timeline }
     ensures items { others.new.items ≡ others_after others.old.items session timeline }
-    ensures room { 64 ≤ vec_capacity others.new }
+    ensures room { vec_capacity others.new ≡ vec_capacity others.old }
 {
     match place_of(others, session) {
         Some(place) => others[place].see(timeline),

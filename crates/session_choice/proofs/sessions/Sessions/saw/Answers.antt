@@ -8,7 +8,7 @@ use Rattle.session_choice.proofs.sessions.Sessions.saw.Goals as goal
 
 pub invariant_of-self-else-eq : goal.invariant_of-self-else-eq
 invariant_of-self-else-eq c = record {
-  room = c.see_other.ensures.room;
+  room = c.see_other.ensures.room ∙ c.self.invariant.room;
   few = rw c.see_other.ensures.items (few_others c.args.session c.args.timeline c.self.inside.others.items c.self.invariant.few);
   distinct =
       rw c.see_other.ensures.items
