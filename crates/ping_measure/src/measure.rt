@@ -45,7 +45,7 @@ impl Measure {
     ghost use Rattle.ping_measure.specs.Accuracy.{AreFair, IfDone};
     ghost use Rattle.ping_measure.specs.Points.{counted, silent, strayed, is_zero};
     ghost use Rattle.ping_measure.specs.declared.outcome.MeasureFault.TheVariants.{OtherSession, Silence};
-    ghost use Rattle.ping_measure.specs.declared.outcome.Outcome.TheVariants.{Again, Failed};
+    ghost use Rattle.ping_measure.specs.declared.outcome.Outcome.TheVariants.{Idle, Again, Failed};
 
     /// Starts a measurement at the host time `now`, and answers the ping to send first.
     pub fn start(target: Target, session: NodeId, now: i64) -> (Measure, PingFields)
@@ -67,9 +67,9 @@ impl Measure {
     /// Takes a pong that came on a gate from an endpoint at the host time `now`.
     ///
     /// `Idle` where the measurement is over, the pong is not from the target's gate and endpoint, or it is of the
-    /// measured session and gives no point. `Failed` where it is from the target and of another session, which is
-    /// named. `Done` where there are more than 100 points with this pong. Else `Again`, with a ping that carries the
-    /// pong's ghost time.
+    /// measured session and gives no point; all stays as it was then. `Failed` where it is from the target and of
+    /// another session, which is named. `Done` where there are more than 100 points with this pong. Else `Again`, with
+    /// a ping that carries the pong's ghost time.
     ///
     /// Where every pong counted was honest (its ghost times were read off one clock, `c` ahead of the host's, while the
     /// ping was on its way) and none took longer than `r`, the offset in `Done` is within half of `r + 1` of `c`.
@@ -85,6 +85,7 @@ impl Measure {
         ensures accuracy { (life : Life) → StandsFor self.old life
             → (c r : ℤ) → IsWithin (2 ^ 60) c → AreFair c r (pong_after life gate from pong.now now)
             → IfDone result (λ xform. pos (2 * unsigned_abs (xform.offset -ℤ c)) ≤ℤ (r +ℤ pos 1)) }
+        ensures idle { result ≡ Idle → self.new ≡ self.old }
     {
         // A law, for the proof: honest pongs bound the error of the offset.
         honest_pongs_bound_the_error();
@@ -102,12 +103,14 @@ impl Measure {
 
     /// Takes the host time `now`.
     ///
-    /// `Idle` where the measurement is over or `now` is before its deadline. Else a silence: the first five are `Again`,
-    /// with a ping that carries no ghost time, and the sixth is `Failed`. A pong doesn't begin their count anew.
+    /// `Idle` where the measurement is over or `now` is before its deadline; all stays as it was then. Else a silence:
+    /// the first five are `Again`, with a ping that carries no ghost time, and the sixth is `Failed`. A pong doesn't
+    /// begin their count anew.
     pub fn tick(&mut self, now: i64) -> Outcome
         requires { IsMoment now }
         ensures answer { (life : Life) → StandsFor self.old life → result ≡ tick_outcome life now }
         ensures stands { (life : Life) → StandsFor self.old life → StandsFor self.new (tick_after life now) }
+        ensures idle { result ≡ Idle → self.new ≡ self.old }
     {
         if self.is_early(now) {
             return Outcome::Idle;
@@ -184,6 +187,7 @@ impl Measure {
         requires previous { IsWithinLimit pong.now.previous }
         ensures answer { (life : Life) → StandsFor self.old life → result ≡ counted_outcome life pong.now now }
         ensures stands { (life : Life) → StandsFor self.old life → StandsFor self.new (with life (counted pong.now now)) }
+        ensures heard { result ≡ Idle → ⊥ }
     {
         add_points(&mut self.points, pong, now);
         if self.points.len() > POINTS {
@@ -202,6 +206,7 @@ impl Measure {
         ensures answer { (life : Life) → StandsFor self.old life → result ≡
             (if nat_lt (silences_of life + 1) 6 then Again (record { host = now; previous = None }) else Failed Silence) }
         ensures stands { (life : Life) → StandsFor self.old life → StandsFor self.new (with life (silent now)) }
+        ensures heard { result ≡ Idle → ⊥ }
     {
         self.silences += 1;
         if self.silences >= SILENCES {
