@@ -1,11 +1,11 @@
 -- What the edits keep.
-use Rattle.std.proofs.Common.{◌≡◌, ℕ, ◌<◌, ◌≤◌, ℤ, pos, negsuc, ◌+ℤ◌, ◌-ℤ◌, ◌*ℤ◌, ◌<ℤ◌, ◌≤ℤ◌, unsigned_abs, ap, ◌∙◌, arith}
+use Rattle.std.proofs.Common.{◌≡◌, ℕ, ◌<◌, ◌≤◌, ℤ, pos, negsuc, ◌+ℤ◌, ◌-ℤ◌, ◌*ℤ◌, ◌<ℤ◌, ◌≤ℤ◌, neg_ℤ, unsigned_abs, ap, ◌∙◌, arith}
 use Rattle.std.proofs.lemmas.Int.{ints, clamps}
 use Rattle.lk_base.specs.Ranges.{IsQuantum, IsWithinLimit}
 use Rattle.lk_base.specs.Rounding.{clipped_of, nearest_of}
 use Rattle.lk_base.specs.Timeline.{IsTidy}
 use Rattle.lk_base.specs.declared.timeline.Timeline.{Timeline}
-use Rattle.lk_base.proofs.RoundingLemmas.{nearest_of-IsNearest, clipped_of-same, clipped_of-within}
+use Rattle.lk_base.proofs.RoundingLemmas.{nearest_of-IsNearest, clipped_of-same, clipped_of-within, scaled_neg}
 use Rattle.timeline_math.specs.Beats.{beat_at, time_at}
 use Rattle.timeline_math.specs.Encoding.{encoded_beat}
 use Rattle.timeline_math.specs.Quantum.{phase_of, closest_match_of}
@@ -16,7 +16,7 @@ use Rattle.client_state.specs.Edits.{timeline_at, tempo_set_of, match_of, shift_
 use Rattle.client_state.specs.Unclipped.{IsUnclippedTempo, IsUnclippedForce, wide_beat_at, wide_time_at}
 use Rattle.client_state.proofs.RoundLemmas.{undone, scaled_diff, advanced_near, natural_of}
 
-beat_at-within : (tl : Timeline) (time : ℤ) → IsWithinLimit (beat_at tl time)
+pub beat_at-within : (tl : Timeline) (time : ℤ) → IsWithinLimit (beat_at tl time)
 unfolding beat_at
 beat_at-within tl time =
     clipped_of-within (tl.beat +ℤ nearest_of ((time -ℤ tl.time) *ℤ pos 1_000_000) tl.mpb)
@@ -44,7 +44,7 @@ tempo_set-beat tl mpb at unclipped =
 -- ---- a forced beat
 
 -- numbers of one phase are a multiple of the quantum apart
-phase-apart : (x y : ℤ) (m : ℕ) → 0 < m → phase_of x (pos m) ≡ phase_of y (pos m) → (k : ℤ) × (x ≡ y +ℤ k *ℤ pos m)
+pub phase-apart : (x y : ℤ) (m : ℕ) → 0 < m → phase_of x (pos m) ≡ phase_of y (pos m) → (k : ℤ) × (x ≡ y +ℤ k *ℤ pos m)
 phase-apart x y m some same =
     let byx = phase_of-divides x m some in
     let byy = phase_of-divides y m some in
@@ -97,8 +97,21 @@ forced-quantum tl beat at (pos m) tidy quantum positive unclipped =
     (of_there.0 -ℤ of_here.0, omega (arith, ints, of_here.1, of_there.1, close, apart))
 forced-quantum tl beat at (negsuc m) tidy quantum positive unclipped = absurd (omega (arith, ints))
 
+-- the beat origin moves by whole quanta
+pub forced-moved : (tl : Timeline) (beat at q : ℤ) → IsQuantum q → pos 0 <ℤ q → IsWithinLimit (tl.beat +ℤ (beat -ℤ match_of tl beat at q)) → (k : ℤ) × ((forced_of tl beat at q).beat ≡ tl.beat +ℤ k *ℤ q)
+unfolding forced_of match_of
+forced-moved tl beat at (pos m) quantum positive unclipped =
+    let q = pos m in
+    let here = encoded_beat tl at q in
+    let there = match_of tl beat at q in
+    let apart = phase-apart there beat m (omega (arith, ints)) (closest_match_of-phase here beat q quantum.0) in
+    let turned = scaled_neg apart.0 m in
+    let origin = clipped_of-same (tl.beat +ℤ (beat -ℤ there)) unclipped in
+    (neg_ℤ apart.0, omega (arith, ints, apart.1, turned, origin))
+forced-moved tl beat at (negsuc m) quantum positive unclipped = absurd (omega (arith, ints))
+
 -- without a quantum nothing is shifted
-free-shift : (tl : Timeline) (beat at : ℤ) → shift_of tl beat at (pos 0) ≡ pos 0
+pub free-shift : (tl : Timeline) (beat at : ℤ) → shift_of tl beat at (pos 0) ≡ pos 0
 unfolding shift_of match_of
 free-shift tl beat at =
     let near = closest_match_of-near (encoded_beat tl at (pos 0)) beat (pos 0) (omega (arith, ints)) in

@@ -1,6 +1,7 @@
 pub mod BoolLemmas
 pub mod RoundLemmas
 pub mod EditLemmas
+pub mod RequestLemmas
 pub mod TimelineLemmas
 pub mod CommitLemmas
 pub mod StartLemmas

@@ -1,8 +1,8 @@
 -- Roundings that are undone, or made in several steps.
-use Rattle.std.proofs.Common.{◌≡◌, ℕ, ◌≤◌, ℤ, pos, negsuc, ◌+ℤ◌, ◌-ℤ◌, ◌*ℤ◌, ◌≤ℤ◌, neg_ℤ, unsigned_abs, refl, ap, arith}
+use Rattle.std.proofs.Common.{◌≡◌, ℕ, zero, suc, ◌*◌, ◌≤◌, ℤ, pos, negsuc, ◌+ℤ◌, ◌-ℤ◌, ◌*ℤ◌, ◌≤ℤ◌, neg_ℤ, unsigned_abs, refl, ap, arith}
 use Rattle.std.proofs.lemmas.Int.{ints, by_lt_z}
-use Rattle.lk_base.specs.Rounding.{IsNear}
-use Rattle.lk_base.proofs.RoundingLemmas.{scaled_le, scaled_sum, scaled_neg}
+use Rattle.lk_base.specs.Rounding.{IsNear, nearest_of}
+use Rattle.lk_base.proofs.RoundingLemmas.{nearest_of-within, scaled_le, scaled_sum, scaled_neg}
 
 -- a number of microbeats, rounded to microseconds and back
 pub undone : (d n back r : ℤ) (m : ℕ) → 60_060 ≤ m → IsNear (d *ℤ pos m) (pos 1_000_000) n → back ≡ neg_ℤ n → IsNear (back *ℤ pos 1_000_000) (pos m) r → unsigned_abs (r +ℤ d) ≤ 8
@@ -42,8 +42,8 @@ scaled_diff a b m =
     omega (arith, ints, ap (λ z. z *ℤ pos m) whole)
 
 -- how far the beat at a time is past the origin, before and after that many beats are added by moving the time origin
-pub advanced_near : (b time at s late zero moved p r : ℤ) (m : ℕ) → 60_060 ≤ m → IsNear ((s -ℤ b) *ℤ pos m) (pos 1_000_000) late → IsNear ((pos 0 -ℤ b) *ℤ pos m) (pos 1_000_000) zero → moved ≡ time -ℤ (late -ℤ zero) → IsNear ((at -ℤ time) *ℤ pos 1_000_000) (pos m) p → IsNear ((at -ℤ moved) *ℤ pos 1_000_000) (pos m) r → unsigned_abs (r -ℤ (p +ℤ s)) ≤ 17
-advanced_near b time at s late zero moved p r m fast near_late near_zero moved_is near_p near_r =
+pub advanced_near : (b time at s late start moved p r : ℤ) (m : ℕ) → 60_060 ≤ m → IsNear ((s -ℤ b) *ℤ pos m) (pos 1_000_000) late → IsNear ((pos 0 -ℤ b) *ℤ pos m) (pos 1_000_000) start → moved ≡ time -ℤ (late -ℤ start) → IsNear ((at -ℤ time) *ℤ pos 1_000_000) (pos m) p → IsNear ((at -ℤ moved) *ℤ pos 1_000_000) (pos m) r → unsigned_abs (r -ℤ (p +ℤ s)) ≤ 17
+advanced_near b time at s late start moved p r m fast near_late near_start moved_is near_p near_r =
     let to_s = scaled_diff s b m in
     let to_zero = scaled_diff (pos 0) b m in
     let sum = scaled_sum p s m in
@@ -62,3 +62,14 @@ advanced_near b time at s late zero moved p r m fast near_late near_zero moved_i
 pub natural_of : (z : ℤ) → pos 0 ≤ℤ z → (m : ℕ) × (z ≡ pos m)
 natural_of (pos m) h = (m, refl)
 natural_of (negsuc m) h = absurd (omega (arith, ints))
+
+-- halves go away from 0 on both sides of it
+pub nearest_of-turned : (n d : ℤ) → pos 1 ≤ℤ d → nearest_of (neg_ℤ n) d ≡ neg_ℤ (nearest_of n d)
+unfolding nearest_of
+nearest_of-turned (pos zero) d h = omega (arith, ints, nearest_of-within (pos zero) d h)
+nearest_of-turned (pos (suc a)) d h = refl
+nearest_of-turned (negsuc a) d h = omega (arith, ints)
+
+pub scaled_abs : (a : ℤ) (m : ℕ) → unsigned_abs (a *ℤ pos m) ≡ unsigned_abs a * m
+scaled_abs (pos a) m = omega (arith, ints)
+scaled_abs (negsuc a) m = omega (arith, ints)

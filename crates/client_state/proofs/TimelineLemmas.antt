@@ -1,18 +1,19 @@
 -- A client's timeline that went to the session and comes back.
-use Rattle.std.proofs.Common.{◌≡◌, ℕ, ◌^◌, ◌≤◌, ℤ, pos, ◌+ℤ◌, ◌-ℤ◌, ◌*ℤ◌, ◌≤ℤ◌, unsigned_abs, Bool, true, false, if◌then◌else◌, Some, None, refl, ap, sym, ◌∙◌, arith}
-use Rattle.std.proofs.lemmas.Int.{ints}
+use Rattle.std.proofs.Common.{◌≡◌, ℕ, ◌^◌, ◌≤◌, ℤ, pos, ◌+ℤ◌, ◌-ℤ◌, ◌*ℤ◌, ◌≤ℤ◌, neg_ℤ, unsigned_abs, Bool, true, false, if◌then◌else◌, Some, None, refl, ap, sym, ◌∙◌, arith}
+use Rattle.std.proofs.lemmas.Int.{ints, clamps}
 use Rattle.std.proofs.lemmas.Bool.Decides.{Decides-int_eq}
 use Rattle.std.specs.Ordering.{int_eq}
+use Rattle.lk_base.specs.Ranges.{IsWithinLimit}
 use Rattle.lk_base.specs.Rounding.{nearest_of}
 use Rattle.lk_base.specs.Timeline.{IsTidy}
 use Rattle.lk_base.specs.declared.timeline.Timeline.{Timeline}
-use Rattle.lk_base.proofs.RoundingLemmas.{nearest_of-IsNearest, clipped_of-same}
+use Rattle.lk_base.proofs.RoundingLemmas.{nearest_of-IsNearest, clipped_of-same, scaled_neg}
 use Rattle.ghost_xform.specs.GhostTime.{ghost_of}
 use Rattle.timeline_math.specs.Beats.{beat_at}
 use Rattle.client_state.specs.Timelines.{client_from_session_of, going_on, keeps_beat, renewed_of, session_from_client_of, zero_time_of}
 use Rattle.client_state.specs.Unclipped.{IsUnclippedReturn, wide_beat_at}
 use Rattle.client_state.proofs.BoolLemmas.{both}
-use Rattle.client_state.proofs.RoundLemmas.{near_sum, natural_of}
+use Rattle.client_state.proofs.RoundLemmas.{near_sum, natural_of, nearest_of-turned}
 
 -- ---- the tempo that is given is the client's
 -- one of two given by a flag, with the tempo that is common to both
@@ -71,3 +72,22 @@ returned-beat client given now offset time tidy tempo unclipped =
 pub returned : (client session given : Timeline) (at now offset time : ℤ) → IsTidy client → session_from_client_of session client at offset ≡ Some given → IsUnclippedReturn client given now offset time → unsigned_abs (beat_at (client_from_session_of client given now offset) time -ℤ beat_at client time) ≤ 2
 returned client session given at now offset time tidy e unclipped =
     returned-beat client given now offset time tidy (given-tempo session client given at offset e) unclipped
+
+-- ---- a renewal
+
+-- the way back is the way there
+turned-back : (now zero d : ℤ) → pos 1 ≤ℤ d → nearest_of ((now -ℤ zero) *ℤ pos 1_000_000) d ≡ neg_ℤ (nearest_of ((zero -ℤ now) *ℤ pos 1_000_000) d)
+turned-back now zero d some =
+    let turned : now -ℤ zero ≡ neg_ℤ (zero -ℤ now) = omega (arith, ints) in
+    ap (λ z. nearest_of (z *ℤ pos 1_000_000) d) turned
+    ∙ ap (λ z. nearest_of z d) (scaled_neg (zero -ℤ now) 1_000_000)
+    ∙ nearest_of-turned ((zero -ℤ now) *ℤ pos 1_000_000) d some
+
+pub renewed : (client session : Timeline) (now offset : ℤ) → IsTidy session → IsWithinLimit (wide_beat_at (going_on client session now) (zero_time_of session offset)) → beat_at (client_from_session_of client session now offset) now ≡ beat_at client now
+unfolding beat_at client_from_session_of
+renewed client session now offset tidy unclipped =
+    let fastest = tidy.fastest in
+    let zero = zero_time_of session offset in
+    let there = clipped_of-same (wide_beat_at (going_on client session now) zero) unclipped in
+    let back = turned-back now zero session.mpb (omega (arith, ints)) in
+    omega (arith, ints, clamps, there, back)

@@ -1,15 +1,15 @@
 //! Laws of edits, conversions and rows, in a musician's words: to call one is to know it.
 
-ghost use Rattle.std.specs.Prelude.{◌≡◌, ◌≤◌, ◌<◌, ◌^◌, ◌+ℤ◌, ◌-ℤ◌, ◌*ℤ◌, ◌<ℤ◌, ℤ, pos, Some, unsigned_abs};
-ghost use Rattle.lk_base.specs.Ranges.{IsQuantum};
+ghost use Rattle.std.specs.Prelude.{◌≡◌, ◌≤◌, ◌<◌, ◌^◌, ◌+ℤ◌, ◌-ℤ◌, ◌*ℤ◌, ◌<ℤ◌, ℕ, ℤ, pos, Some, unsigned_abs};
+ghost use Rattle.lk_base.specs.Ranges.{IsQuantum, IsWithinLimit};
 ghost use Rattle.lk_base.specs.Timeline.{IsTidy};
 ghost use Rattle.lk_base.specs.declared.timeline.Timeline.{Timeline};
 ghost use Rattle.timeline_math.specs.Beats.{beat_at};
 ghost use Rattle.client_state.specs.Commit.{IsTidyCommit};
-ghost use Rattle.client_state.specs.Edits.{tempo_set_of, forced_of};
+ghost use Rattle.client_state.specs.Edits.{tempo_set_of, match_of, forced_of, requested_of};
 ghost use Rattle.client_state.specs.State.{IsTidyState};
-ghost use Rattle.client_state.specs.Timelines.{client_from_session_of, session_from_client_of};
-ghost use Rattle.client_state.specs.Unclipped.{IsUnclippedTempo, IsUnclippedForce, IsUnclippedReturn};
+ghost use Rattle.client_state.specs.Timelines.{going_on, zero_time_of, client_from_session_of, session_from_client_of};
+ghost use Rattle.client_state.specs.Unclipped.{IsUnclippedTempo, IsUnclippedForce, IsUnclippedRequest, IsUnclippedReturn, wide_beat_at};
 ghost use Rattle.client_state.specs.Words.{words_of_state, state_of_words, words_of_commit, commit_of_words};
 ghost use Rattle.client_state.specs.declared.commit.Commit.{Commit};
 ghost use Rattle.client_state.specs.declared.state.State.{State};
@@ -30,6 +30,32 @@ pub fn forced_beats_fall_on_the_quantum()
         ((beat_at (forced_of tl beat at q) at -ℤ (forced_of tl beat at q).beat) -ℤ (beat +ℤ k *ℤ q)) ≤ 17) }
     ensures free { (tl : Timeline) (beat at : ℤ) → IsTidy tl → IsUnclippedForce tl beat at (pos 0)
         → beat_at (forced_of tl beat at (pos 0)) at ≡ beat }
+{}
+
+/// A forced beat moves the beat origin by a whole number of quanta, where the new one isn't clipped.
+pub fn forced_beats_move_the_origin_by_quanta()
+    ensures { (tl : Timeline) (beat at q : ℤ) → IsQuantum q → pos 0 <ℤ q
+        → IsWithinLimit (tl.beat +ℤ (beat -ℤ match_of tl beat at q))
+        → (k : ℤ) × ((forced_of tl beat at q).beat ≡ tl.beat +ℤ k *ℤ q) }
+{}
+
+/// With peers a requested beat keeps the phase, where nothing is clipped: the beat origin moves by a whole number of quanta,
+/// and the time origin by at most 3 microseconds of rounding.
+pub fn requested_beats_keep_the_phase()
+    ensures origin { (peers : ℕ) (tl : Timeline) (beat at q : ℤ) → 0 < peers → IsQuantum q → pos 0 <ℤ q
+        → IsUnclippedRequest tl beat at q
+        → (k : ℤ) × ((requested_of peers tl beat at q).beat ≡ tl.beat +ℤ k *ℤ q) }
+    ensures time { (peers : ℕ) (tl : Timeline) (beat at q : ℤ) → 0 < peers → IsTidy tl → IsQuantum q
+        → IsUnclippedRequest tl beat at q
+        → unsigned_abs ((requested_of peers tl beat at q).time -ℤ tl.time) ≤ 3 }
+{}
+
+/// At the moment of a renewal a client's beat is exactly the one of before, where the beat of the client's line at the
+/// session's beat 0 isn't clipped.
+pub fn renewed_clients_keep_their_beat()
+    ensures { (client session : Timeline) (now offset : ℤ) → IsTidy session
+        → IsWithinLimit (wide_beat_at (going_on client session now) (zero_time_of session offset))
+        → beat_at (client_from_session_of client session now offset) now ≡ beat_at client now }
 {}
 
 /// A client's timeline that went to the session and comes back moves no beat by more than 2 microbeats, where nothing is
