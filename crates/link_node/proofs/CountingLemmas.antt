@@ -41,7 +41,7 @@ not_above_itself a = omega (arith, ints)
 above_next : (a b : ℤ) → b <ℤ int_max a (b +ℤ pos 1)
 above_next a b = grind (arith, ints)
 
-is_below : (a b : ℤ) → a <ℤ b → int_lt a b ≡ true
+pub is_below : (a b : ℤ) → a <ℤ b → int_lt a b ≡ true
 is_below a b lt = grind (arith, ints)
 
 all_below : (held seen : ℤ) (list : List Timeline) → held <ℤ seen → AllByRecursion (λ (tl : Timeline). tl.beat <ℤ held) list → AllByRecursion (λ (tl : Timeline). tl.beat <ℤ seen) list

@@ -51,7 +51,7 @@ use Rattle.link_node.proofs.RuleLemmas.{begun_one-waiting}
 
 -- ---- the earliest of several
 
-abbrev IsAfter : ℤ → Option ℤ → Type 0
+abbrev pub IsAfter : ℤ → Option ℤ → Type 0
 IsAfter now o = IfSome o (λ at. now <ℤ at)
 
 pub earliest-after : (now at : ℤ) (others : List (Option ℤ)) → now <ℤ at → AllByRecursion (IsAfter now) others → now <ℤ earliest_of at others
@@ -401,7 +401,7 @@ due-kept last changed more moment now life measuring later waiting h =
 -- ---- a commit
 
 -- what a commit leaves as it was
-record LeavesDue (m n : Machine) : Type 0 where
+pub record LeavesDue (m n : Machine) : Type 0 where
   pub session : session_in n ≡ session_in m
   pub moment : n.moment ≡ m.moment
   pub life : n.life ≡ m.life
@@ -454,7 +454,7 @@ never-both zero = refl
 never-both (suc n) = and_right (nat_lt 0 (suc n)) (suc n == 0) (eqb-suc-zero n)
 
 -- nobody founds a session where the peers are as they were counted
-settled-counted : (m : Machine) → m.peers ≡ peers_in (session_in m) m.life → settled m ≡ counted m
+pub settled-counted : (m : Machine) → m.peers ≡ peers_in (session_in m) m.life → settled m ≡ counted m
 unfolding settled
 settled-counted m is =
     let stays : is_left m ≡ false = ap (λ n. nat_lt 0 n && (peers_in (session_in m) m.life == 0)) is ∙ never-both (peers_in (session_in m) m.life) in
@@ -483,7 +483,7 @@ committed-due m n now h left due =
     subst (λ (at : ℤ). at ≤ℤ now) (sym (shown-due (noted (held_in m) (settled n))))
     (subst (λ (s : Machine). due_of (noted (held_in m) s) ≤ℤ now) (sym (settled-counted n is)) (counted-due m n now left due))
 
-app-left : (commit : Commit) (m : Machine) → LeavesDue m (app_taken commit m)
+pub app-left : (commit : Commit) (m : Machine) → LeavesDue m (app_taken commit m)
 unfolding app_taken
 app-left commit m =
     let left = commit-left commit (record m { app = m.app + 1 }) in
@@ -499,7 +499,7 @@ app-left commit m =
       changed = left.changed;
     }
 
-audio-left : (number : ℕ) (commit : Commit) (m : Machine) → LeavesDue m (audio_taken number commit m)
+pub audio-left : (number : ℕ) (commit : Commit) (m : Machine) → LeavesDue m (audio_taken number commit m)
 unfolding audio_taken
 audio-left number commit m =
     let left = commit-left commit (record m { audio = number }) in

@@ -24,10 +24,16 @@ pub mod StayingLemmas
 pub mod KeptLemmas
 pub mod LeavingLemmas
 pub mod FollowingLemmas
+pub mod ShowingLemmas
 pub mod HearingLemmas
 pub mod NewsLemmas
 pub mod StartingLemmas
 pub mod MeasuredLemmas
 pub mod CountingLemmas
+pub mod FoundingLemmas
+pub mod LatestLemmas
 pub mod DueLemmas
+pub mod SpentLemmas
 pub mod OnGateLemmas
+pub mod QuietLemmas
+pub mod EndedLemmas

@@ -220,7 +220,7 @@ commit-stays commit m = timeline_committed-stays commit.timeline commit m
 abbrev ComesBy : Machine → EventValue → History → Type 0
 ComesBy m e k = Stays m.sessions k ⊎ IsMeasured m e k.current.session k.offset
 
-midst-gives : (m : Machine) (e : EventValue) → ComesBy m e (midst m e).sessions
+pub midst-gives : (m : Machine) (e : EventValue) → ComesBy m e (midst m e).sessions
 unfolding app_taken audio_taken
 midst-gives m (Rx gate from bytes now) = arrived-gives gate from (reading_of bytes) (at_moment now m)
 midst-gives m (Tick now) = inl (stays_remains m.sessions (ticked (at_moment now m)).sessions (ticked-stays (at_moment now m)))

@@ -31,9 +31,11 @@ pub record Stands (m n : Machine) : Type 0 where
   pub waiting : n.waiting ≡ m.waiting
   pub starts : n.starts ≡ m.starts
   pub client_start : n.client_start ≡ m.client_start
+  pub measuring : n.measuring ≡ m.measuring
+  pub remeasure_at : n.remeasure_at ≡ m.remeasure_at
 
 it_stands : (m : Machine) → Stands m m
-it_stands m = record { moment = refl; drawn = refl; id = refl; sessions = refl; life = refl; peers = refl; client = refl; waiting = refl; starts = refl; client_start = refl }
+it_stands m = record { moment = refl; drawn = refl; id = refl; sessions = refl; life = refl; peers = refl; client = refl; waiting = refl; starts = refl; client_start = refl; measuring = refl; remeasure_at = refl }
 
 stands_then : (m n o : Machine) → Stands m n → Stands n o → Stands m o
 stands_then m n o first second = record {
@@ -47,6 +49,8 @@ stands_then m n o first second = record {
   waiting = second.waiting ∙ first.waiting;
   starts = second.starts ∙ first.starts;
   client_start = second.client_start ∙ first.client_start;
+  measuring = second.measuring ∙ first.measuring;
+  remeasure_at = second.remeasure_at ∙ first.remeasure_at;
 }
 
 stands_either : (m : Machine) (b : Bool) (n o : Machine) → Stands m n → Stands m o → Stands m (if b then n else o)
@@ -56,7 +60,7 @@ stands_broadcast : (e : EventValue) (m : Machine) → Stands m (broadcast_by e m
 unfolding broadcast_after
 stands_broadcast (Tick now) m =
     stands_either m (is_broadcast m) (record m { last_broadcast = Some m.moment; changed = false }) m
-    (record { moment = refl; drawn = refl; id = refl; sessions = refl; life = refl; peers = refl; client = refl; waiting = refl; starts = refl; client_start = refl }) (it_stands m)
+    (record { moment = refl; drawn = refl; id = refl; sessions = refl; life = refl; peers = refl; client = refl; waiting = refl; starts = refl; client_start = refl; measuring = refl; remeasure_at = refl }) (it_stands m)
 stands_broadcast (Rx gate from bytes now) m = it_stands m
 stands_broadcast (App commit now) m = it_stands m
 stands_broadcast (Audio number commit now) m = it_stands m
@@ -66,7 +70,7 @@ stands_shown : (m : Machine) → Stands m (shown m)
 unfolding shown
 stands_shown m =
     stands_either m (alike (state_in m) m.published) m (record m { published = state_in m }) (it_stands m)
-    (record { moment = refl; drawn = refl; id = refl; sessions = refl; life = refl; peers = refl; client = refl; waiting = refl; starts = refl; client_start = refl })
+    (record { moment = refl; drawn = refl; id = refl; sessions = refl; life = refl; peers = refl; client = refl; waiting = refl; starts = refl; client_start = refl; measuring = refl; remeasure_at = refl })
 
 -- what the event made of the node, before it settles
 abbrev pub midst : Machine → EventValue → Machine
@@ -74,7 +78,7 @@ midst m e = taken e (at_moment (moment_of e) m)
 
 stands_noted : (m : Machine) (e : EventValue) → Stands (settled (midst m e)) (before_broadcast e m)
 unfolding before_broadcast noted
-stands_noted m e = record { moment = refl; drawn = refl; id = refl; sessions = refl; life = refl; peers = refl; client = refl; waiting = refl; starts = refl; client_start = refl }
+stands_noted m e = record { moment = refl; drawn = refl; id = refl; sessions = refl; life = refl; peers = refl; client = refl; waiting = refl; starts = refl; client_start = refl; measuring = refl; remeasure_at = refl }
 
 pub stands_step : (m : Machine) (e : EventValue) → Stands (settled (midst m e)) (step_of m e)
 unfolding step_of before_shown
@@ -133,7 +137,7 @@ founds m e some none =
       life = stands.life ∙ is.life;
     }
 
-goes_on : (m : Machine) (e : EventValue) → is_left (midst m e) ≡ false → ((step_of m e).drawn ≡ m.drawn) × ((step_of m e).id ≡ m.id)
+pub goes_on : (m : Machine) (e : EventValue) → is_left (midst m e) ≡ false → ((step_of m e).drawn ≡ m.drawn) × ((step_of m e).id ≡ m.id)
 goes_on m e not_left =
     let a = midst m e in
     let rest = rests_taken e (at_moment (moment_of e) m) in

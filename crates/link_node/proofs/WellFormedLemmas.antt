@@ -480,14 +480,14 @@ told_counted (End now) m h = h
 
 -- ---- showing
 
-int_eq-itself : (n : ℤ) → int_eq n n ≡ true
+pub int_eq-itself : (n : ℤ) → int_eq n n ≡ true
 int_eq-itself n = (Decides-int_eq n n).1 refl
 
-same_bool-itself : (b : Bool) → same_bool b b ≡ true
+pub same_bool-itself : (b : Bool) → same_bool b b ≡ true
 same_bool-itself true = refl
 same_bool-itself false = refl
 
-same_timeline-itself : (tl : Timeline) → same_timeline tl tl ≡ true
+pub same_timeline-itself : (tl : Timeline) → same_timeline tl tl ≡ true
 same_timeline-itself tl = rw (int_eq-itself tl.mpb, int_eq-itself tl.beat, int_eq-itself tl.time) refl
 
 same_start-itself : (start : ClientStart) → same_client_start start start ≡ true

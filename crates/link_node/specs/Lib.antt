@@ -25,3 +25,5 @@ pub mod News
 pub mod Starting
 pub mod Measured
 pub mod Beginning
+pub mod Quiet
+pub mod Founding

@@ -13,9 +13,11 @@ use Rattle.client_state.specs.Timelines.{session_from_client_of, zero_time_of}
 use Rattle.client_state.specs.declared.commit.Commit.{Commit}
 use Rattle.client_state.specs.declared.state.State.{State}
 use Rattle.link_node.specs.Arrival.{is_heard}
-use Rattle.link_node.specs.Event.{EventValue, Rx, Tick, App, Audio, End}
+use Rattle.link_node.specs.Event.{EventValue, Rx, Tick, App, Audio, End, moment_of, app_after, audio_after}
 use Rattle.link_node.specs.Machine.{Machine, session_in, timeline_in, offset_in}
+use Rattle.link_node.specs.Publishing.{shown}
 use Rattle.link_node.specs.Settling.{id_drawn}
+use Rattle.link_node.specs.Step.{at_moment}
 
 -- the second is the first alone in a session of a new id, whose ghost time is 0 now
 pub record IsFounded (m n : Machine) : Type 0 where
@@ -40,6 +42,11 @@ pub record IsFollowing (m : Machine) : Type 0 where
   pub tempo : m.client.mpb ≡ (timeline_in m).mpb
   pub time : m.client.time ≡ zero_time_of (timeline_in m) (offset_in m)
 
+-- the state published last shows the client's timeline, which follows the first of greatest beat origin that the session has taken
+pub record ShowsBest (m : Machine) : Type 0 where
+  pub following : IsFollowing m
+  pub shown : m.published.timeline ≡ m.client
+
 -- the event tells the message, which is of another peer and in the group 0, and there is room for that peer's row
 abbrev pub Hears : Machine → EventValue → StateMsg → Type 0
 Hears m (Rx gate from bytes now) msg =
@@ -62,3 +69,7 @@ commit_in (End now) = None
 abbrev pub IsSpent : Machine → Commit → Type 0
 IsSpent m commit =
     (client : Timeline) × (commit.timeline ≡ Some client) × (session_from_client_of (timeline_in m) client commit.at (offset_in m) ≡ None)
+
+-- the node at the event's moment with its commit counted, and so with another state published, and all else as it was
+abbrev pub only_counted : Machine → EventValue → Machine
+only_counted m e = shown (record (at_moment (moment_of e) m) { app = app_after m.app e; audio = audio_after m.audio e })

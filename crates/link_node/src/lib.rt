@@ -3,19 +3,24 @@
 //!
 //! In reading order: `config`, `event`, `sends`, `node`, and then a file a rule, in the order in which the rules of an event run:
 //! `node/arrival`, `node/taking`, `node/measuring`, `node/client`, `node/commits`, `node/tick`, `node/settling`,
-//! `node/telling`, `node/broadcast`, `node/publishing`, `node/due`; last `laws`, `news`, `staying`
-//! and `lasting`.
+//! `node/telling`, `node/broadcast`, `node/publishing`, `node/due`; last `laws`, `news`, `staying`,
+//! `beginning`, `quiet` and `lasting`.
 #![tactic(auto)]
 
+mod beginning;
 mod config;
 mod event;
 mod lasting;
 mod laws;
 mod news;
 mod node;
+mod quiet;
 mod sends;
 mod staying;
 
+pub use beginning::{
+    founded_sessions_go_on, joined_sessions_have_no_start, later_starts_are_taken,
+};
 pub use config::{Config, GateSetup};
 pub use event::{Change, Event};
 pub use lasting::{
@@ -31,9 +36,12 @@ pub use news::{
     news_is_noted, pings_are_answered,
 };
 pub use node::Node;
+pub use quiet::{
+    byes_and_limits_end_rows, ticks_before_due_are_silent, what_is_passed_over_changes_nothing,
+};
 pub use sends::{Sending, Sends};
 pub use staying::{
     clients_follow_sessions, commits_count, heard_timelines_are_taken, offsets_are_measured,
-    sessions_are_left_for_winners, starts_are_brought, states_are_published, timelines_stay,
-    who_is_left_founds,
+    sessions_are_left_for_winners, spent_origins_only_count, starts_are_brought,
+    states_are_published, timelines_stay, who_is_left_founds,
 };

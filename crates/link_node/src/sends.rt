@@ -25,14 +25,14 @@ pub struct Sends {
 }
 
 impl Model for Sends {
-    ghost use Rattle.std.specs.Prelude.{◌≤◌, List, length, map, vec_capacity};
+    ghost use Rattle.std.specs.Prelude.{◌≡◌, ◌≤◌, List, length, map, vec_capacity};
     ghost use Rattle.link_node.specs.Event.{SendingValue, sending_value};
 
     ghost Value = { List SendingValue };
 
     ghost view = { λ s. map sending_value s.list.items };
 
-    ghost invariant = { λ s. (length s.list.items ≤ 160) × (160 ≤ vec_capacity s.list) };
+    ghost invariant = { λ s. (length s.list.items ≤ 160) × (vec_capacity s.list ≡ 160) };
 }
 
 impl Sends {
@@ -75,6 +75,6 @@ impl Sends {
         ensures items { self.new ≡ self.old ++ sending_value sending ∷ [] }
         ensures len { length self.new ≡ length self.old + 1 }
     {
-        let _pushed = self.list.push(sending);
+        self.list.push_reserved(sending);
     }
 }

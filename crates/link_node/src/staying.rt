@@ -15,12 +15,12 @@ ghost use Rattle.link_node.specs.Machine.{Machine, session_in, timeline_in, offs
 ghost use Rattle.link_node.specs.Measured.{IsMeasured};
 ghost use Rattle.link_node.specs.Opening.{opened};
 ghost use Rattle.link_node.specs.Publishing.{alike};
-ghost use Rattle.link_node.specs.Runs.{machine_after, published_by};
+ghost use Rattle.link_node.specs.Runs.{machine_after, published_by, replayed};
 ghost use Rattle.client_state.specs.declared.commit.Commit.{Commit};
 ghost use Rattle.lk_base.specs.declared.start.ClientStart.{ClientStart};
 ghost use Rattle.lk_base.specs.declared.start.SessionStart.{SessionStart};
 ghost use Rattle.link_node.specs.Starting.{BringsStart};
-ghost use Rattle.link_node.specs.Staying.{IsFounded, IsKnownIn, IsFollowing, Hears, IsSpent, commit_in, last_of};
+ghost use Rattle.link_node.specs.Staying.{IsFounded, IsKnownIn, IsFollowing, ShowsBest, Hears, IsSpent, commit_in, last_of, only_counted};
 ghost use Rattle.link_node.specs.Step.{step_of, change_of};
 ghost use Rattle.link_node.specs.WellFormed.{IsMachine};
 ghost use Rattle.link_node.specs.declared.event.Change.TheVariants.{Same, Published};
@@ -64,10 +64,11 @@ pub fn sessions_are_left_for_winners()
 }
 
 /// A client has its session's tempo, and its time origin is the host time of the session's beat 0: so at the opening,
-/// and after each step.
+/// and after each step; and the state published last shows that timeline.
 pub fn clients_follow_sessions()
     ensures opening { (config : ConfigValue) (now : ℤ) → IsMoment now → IsFollowing (opened config now) }
     ensures step { (m : Machine) (e : EventValue) → IsFollowing m → IsFollowing (step_of m e) }
+    ensures run { (config : ConfigValue) (now : ℤ) (es : List EventValue) → IsMoment now → ShowsBest (replayed config now es) }
 {
     // A law, for the proof: a timeline that isn't above the best one leaves it the best.
     one_best();
@@ -111,3 +112,10 @@ pub fn commits_count()
     // A law, for the proof: a timeline of greater beat origin than the best one is the best.
     one_best();
 }
+
+/// A commit whose timeline has no greater origin to go to only counts: neither its timeline nor its start is taken, and
+/// nothing changes but the moment, the counts and so the state that is published.
+pub fn spent_origins_only_count()
+    ensures { (m : Machine) (e : EventValue) (commit : Commit) → IsMachine m → commit_in e ≡ Some commit → IsSpent m commit
+        → step_of m e ≡ only_counted m e }
+{}

@@ -1,4 +1,5 @@
 use Rattle.link_node.proofs.FollowingLemmas.{step-follows, opened-follows}
+use Rattle.link_node.proofs.ShowingLemmas.{replayed-shows}
 use Rattle.link_node.proofs.staying.clients_follow_sessions.Goals as goal
 
 pub returns-clause-opening : goal.returns-clause-opening
@@ -6,3 +7,6 @@ returns-clause-opening c = opened-follows c.one_best.ensures.there c.one_best.en
 
 pub returns-clause-step : goal.returns-clause-step
 returns-clause-step c = step-follows c.one_best.ensures.there c.one_best.ensures.one
+
+pub returns-clause-run : goal.returns-clause-run
+returns-clause-run c = replayed-shows c.one_best.ensures.there c.one_best.ensures.one
