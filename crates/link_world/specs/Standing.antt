@@ -1,10 +1,12 @@
 -- What a world's value stands for.
-use Rattle.std.specs.Prelude.{◌≡◌, ℕ, ◌⊎◌, ◌++◌, List, [], ◌∷◌, length, map, Some, slice_get, slice_set}
+use Rattle.std.specs.Prelude.{◌≡◌, ℕ, ℤ, ◌⊎◌, ◌++◌, List, [], ◌∷◌, length, map, Some, slice_get, slice_set}
+use Rattle.link_node.specs.Config.{ConfigValue}
 use Rattle.link_node.specs.Event.{EventValue, Fits, sending_value}
 use Rattle.link_node.specs.Machine.{Machine}
 use Rattle.link_node.specs.Standing.{StandsFor}
 use Rattle.link_node.specs.Step.{step_of, sends_of}
-use Rattle.link_world.specs.World.{WorldValue}
+use Rattle.link_world.specs.Agreement.{HasOrigins, Agrees, Converges}
+use Rattle.link_world.specs.World.{WorldValue, TurnValue, IsWorldOf}
 use Rattle.link_world.specs.declared.peer.Peer.{Peer}
 use Rattle.link_world.specs.declared.world.World.{World}
 
@@ -22,6 +24,18 @@ AreStanding (peer ∷ peers) (m ∷ machines) = StandsFor peer.node m × AreStan
 pub record StandsForWorld (world : World) (w : WorldValue) : Type 0 where
   pub peers : AreStanding world.peers.items w.machines
   pub sent : map sending_value world.sent.items ≡ w.sent
+
+-- What a schedule leads to from these configs and this moment on: the value that the world stands for, and what holds of it
+pub record IsRun (configs : List ConfigValue) (now : ℤ) (turns : List TurnValue) (world : World) : Type 0 where
+  pub value : WorldValue
+  pub after : IsWorldOf configs now turns value
+  pub stands : StandsForWorld world value
+  -- nobody holds or tells a timeline that nobody made
+  pub origin : HasOrigins configs now turns value
+  -- who took the same holds the same
+  pub agreement : Agrees value
+  -- who took all that was made holds the greatest of it
+  pub convergence : Converges configs now turns value
 
 -- ---- for proofs alone
 

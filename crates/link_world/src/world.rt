@@ -30,9 +30,8 @@ impl World {
     ghost use Rattle.link_node.specs.Event.{event_value, sending_value};
     ghost use Rattle.link_node.specs.Machine.{Machine};
     ghost use Rattle.link_node.specs.Standing.{StandsFor};
-    ghost use Rattle.link_world.specs.Agreement.{HasOrigins, Agrees, Converges};
     ghost use Rattle.link_world.specs.Stored.{IsStoredEvent};
-    ghost use Rattle.link_world.specs.Standing.{StandsForWorld, peers_in, IsOffered};
+    ghost use Rattle.link_world.specs.Standing.{IsRun, StandsForWorld, peers_in, IsOffered};
     ghost use Rattle.link_world.specs.World.{WorldValue, IsWorldOf, Happens, turn_value};
 
     /// Opens the peers at one moment and takes the turns in order. A turn does nothing where its peer, its datagram or its
@@ -47,17 +46,8 @@ impl World {
     ) -> Result<World, AllocError>
         requires configs { All (λ config. IsConfig (config_value config)) configs.now }
         requires moment { IsMoment now }
-        ensures stands { IfOk result (λ world. (w : WorldValue)
-            × IsWorldOf (map config_value configs.now) now (map turn_value schedule.now) w × StandsForWorld world w) }
+        ensures run { IfOk result (IsRun (map config_value configs.now) now (map turn_value schedule.now)) }
         ensures peers { IfOk result (λ world. peers_in world ≡ length configs.now) }
-        // Nobody holds or tells a timeline that nobody made.
-        ensures origin { (w : WorldValue) → IsWorldOf (map config_value configs.now) now (map turn_value schedule.now) w
-            → HasOrigins (map config_value configs.now) now (map turn_value schedule.now) w }
-        // Who took the same holds the same.
-        ensures agreement { (w : WorldValue) → IsWorldOf (map config_value configs.now) now (map turn_value schedule.now) w → Agrees w }
-        // Who took all that was made holds the greatest of it.
-        ensures convergence { (w : WorldValue) → IsWorldOf (map config_value configs.now) now (map turn_value schedule.now) w
-            → Converges (map config_value configs.now) now (map turn_value schedule.now) w }
     {
         // Laws, for the proof.
         timelines_have_origins();
