@@ -10,7 +10,7 @@ use Rattle.client_state.specs.declared.commit.Commit.{Commit}
 use Rattle.link_shared.specs.declared.queue.Hand.{Hand}
 use Rattle.link_shared.specs.declared.queue.Item.{Item}
 use Rattle.link_shared.specs.declared.queue.Item.TheVariants as item
-use Rattle.link_shared.specs.Queue.{commits_in, quits_in, IsTidyItem, AreTidyItems, Flow, FitsFlow, IsKept, knower, opener, pushing_part, popping_part, shown_part, after_hearing, whole_of, after_push, after_pop, Pushed, Popped, SeesBacklog, SeesRest, SeesHeard}
+use Rattle.link_shared.specs.Queue.{commits_in, quits_in, IsTidyItem, AreTidyItems, Flow, FitsFlow, IsKept, knower, opener, pushing_part, popping_part, shown_part, after_hearing, whole_of, after_push, after_pop, Pushed, Popped, SeesRest, SeesHeard}
 
 -- ---- items
 
@@ -273,9 +273,6 @@ module _ (id : ℕ) (v : Hand) where
       )
 
   -- ---- what is learned
-
-  pub sees_backlog : Learns IsKept id v (SeesBacklog v)
-  sees_backlog items hands k at pushes = record { popped = k.flow.popped; order = ((k.each id v at).pushes pushes).1 ∙ k.order }
 
   pub sees_rest : Learns IsKept id v (SeesRest v)
   sees_rest items hands k at pushes pops =

@@ -1,12 +1,10 @@
 -- What an application's pass stands for, and what each call does to it.
-use Rattle.std.specs.Prelude.{◌≡◌, ℕ, ◌+◌, ◌-◌, ◌^◌, ◌⊎◌, List, [], ◌∷◌, ◌++◌, length, Bool, true, false, Option, Some, None}
-use Rattle.audio_handoff.specs.Cell.{Pair, Grows, NumbersNeverFall}
+use Rattle.std.specs.Prelude.{◌≡◌, ℕ, ◌+◌, ◌-◌, List, [], ◌∷◌, ◌++◌, length, Bool, true, false, Option, Some, None}
+use Rattle.audio_handoff.specs.Cell.{Pair, NumbersNeverFall}
 use Rattle.client_state.specs.Shown.{shown_over}
 use Rattle.client_state.specs.Words.{state_of_words}
 use Rattle.client_state.specs.declared.commit.Commit.{Commit}
 use Rattle.client_state.specs.declared.state.State.{State}
-use Rattle.link_shared.specs.Queue.{IsBacklog}
-use Rattle.link_shared.specs.declared.queue.Item.{Item}
 
 -- The pairs that had been read for the applications when this pass last captured, a beginning of the commits pushed, how many of them are
 -- its own, its own last one with its number, how many further passes it may make, and whether it is the only pass that was made
@@ -49,20 +47,3 @@ pub record HasCommitted (before after : AppView) (commit : Commit) (number : ℕ
   pub number_is : number ≡ length after.pushed
   pub sole_made : before.sole ≡ true → before.made + 1 ≡ number
   pub others_stay : after ≡ record before { pushed = after.pushed; made = before.made + 1; own = Some (number, commit) }
-
--- at a step of the call the queue held 256 items, the last of the commits pushed by then among them
-pub record WasFull (known : List Commit) : Type 0 where
-  pub pushed : List Commit
-  pub known_before : Grows known pushed
-  pub items : List Item
-  pub full : length items ≡ 256
-  pub backlog : IsBacklog pushed items
-
--- no number was left for a further commit
-pub record WasSpent (known : List Commit) : Type 0 where
-  pub pushed : List Commit
-  pub known_before : Grows known pushed
-  pub spent : length pushed ≡ 2 ^ 60
-
-abbrev pub WasBusy : List Commit → Type 0
-WasBusy known = WasFull known ⊎ WasSpent known

@@ -101,13 +101,9 @@ Popped before item after = (after ≡ after_pop before item) × IsTidyItem item
 
 -- ---- what the passes learn of the items that the queue holds at one moment
 
--- what was pushed is what was popped by then and what the queue holds, so far as the pass that pushes is asked
-pub record IsBacklog (pushed : List Commit) (items : List Item) : Type 0 where
-  pub popped : List Commit
-  pub order : pushed ≡ popped ++ commits_in items
-
-abbrev pub SeesBacklog : Hand → List Item → Type 0
-SeesBacklog hand items = hand.pushes ≡ true → IsBacklog hand.pushed items
+-- a pass that finds the queue full learns nothing
+abbrev pub SeesNothing : Hand → List Item → Type 0
+SeesNothing hand items = Unit {0}
 
 -- with both ends in one hand, nothing but what the queue holds is missing
 abbrev pub SeesRest : Hand → List Item → Type 0

@@ -1,6 +1,6 @@
 //! What lies under the applications' lock.
 ghost use Rattle.std.specs.Prelude.{◌≡◌, ◌+◌, ◌<◌, ◌≤◌, ◌^◌, List, [], ◌∷◌, ◌++◌, length, true, IfOk, IfErr, OnOk, OnErr, MatchResult};
-ghost use Rattle.crossbeam_queue.specs.Passes.{view, ruled_capacity};
+ghost use Rattle.crossbeam_queue.specs.Passes.{view};
 ghost use Rattle.audio_handoff.specs.Cell.{Pair, NumbersNeverFall};
 ghost use Rattle.client_state.specs.Commit.{IsTidyCommit};
 ghost use Rattle.client_state.specs.declared.commit.Commit.{Commit};
@@ -35,8 +35,6 @@ pub struct Desk<C: StateCell<9>, N: LinkName> {
 }
 
 impl<C: StateCell<9>, N: LinkName> Desk<C, N> {
-    ghost use Rattle.link_shared.specs.Passes.{WasFull, WasBusy};
-
     /// Reads a state that is no older than any that the note's maker had read, and has the note replaced by one of it.
     /// `known` is a copy of the note. Without memory the note stays.
     /// Waits: by the way. Memory: a note.
@@ -72,12 +70,12 @@ impl<C: StateCell<9>, N: LinkName> Desk<C, N> {
         commit: Commit,
     ) -> Result<u64, Busy>
         requires queue { queue.now.table.shared.table_id ≡ N.queue }
-        requires places { ruled_capacity queue.now ≡ 256 }
         requires pass { (pass.old.table_id ≡ N.queue) × (pass.old.me.1 ≡ []) }
         requires share { 0 < share.old.parts }
         requires commit { IsTidyCommit commit }
         ensures pass { (pass.new.table_id ≡ N.queue) × (pass.new.me.1 ≡ []) }
         ensures parts { share.new.parts ≡ share.old.parts }
+        ensures quits { (view self.new.pass).quits_pushed ≡ (view self.old.pass).quits_pushed }
         ensures pushed { IfOk result (λ number. (between : List Commit)
             × ((view pass.new).pushed ≡ ((view pass.old).pushed ++ between) ++ commit ∷ [])) }
         ensures number { IfOk result (λ number. number ≡ length (view pass.new).pushed) }
@@ -85,7 +83,7 @@ impl<C: StateCell<9>, N: LinkName> Desk<C, N> {
         ensures few { OnOk result (share.new.amount ≤ 2 ^ 60) }
         ensures sole { IfOk result (λ number. share.old.parts ≡ N.parts → share.new.amount ≡ number) }
         ensures busy { IfErr result (λ busy. (busy.commit ≡ commit) × ((view pass.new).pushed ≡ (view pass.old).pushed)
-            × (share.new.amount ≡ share.old.amount) × WasBusy (view pass.old).pushed) }
+            × (share.new.amount ≡ share.old.amount)) }
     {
         let Desk {
             pass: own,
@@ -113,12 +111,10 @@ impl<C: StateCell<9>, N: LinkName> Desk<C, N> {
     /// Waits: for a place's last user in the queue. Memory: none.
     pub(crate) fn quit<R: Wait>(&mut self, rt: &R, queue: &Queue) -> Result<(), QueueFull>
         requires queue { queue.now.table.shared.table_id ≡ N.queue }
-        requires places { ruled_capacity queue.now ≡ 256 }
         ensures pushed { (view self.new.pass).pushed ≡ (view self.old.pass).pushed }
         ensures quits { MatchResult result
             (λ _. (view self.new.pass).quits_pushed ≡ (view self.old.pass).quits_pushed + 1)
             (λ _. (view self.new.pass).quits_pushed ≡ (view self.old.pass).quits_pushed) }
-        ensures full { OnErr result (WasFull (view self.old.pass).pushed) }
         ensures others { (C.reading self.new.reader ≡ C.reading self.old.reader) × (self.new.pushed ≡ self.old.pushed)
             × (self.new.book.total ≡ self.old.book.total) }
     {

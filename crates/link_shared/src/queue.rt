@@ -3,7 +3,7 @@ ghost use Rattle.std.specs.Prelude.{◌≡◌, true, IfOk, MatchOption};
 ghost use Rattle.crossbeam_queue.specs.Fifo.{Held};
 ghost use Rattle.crossbeam_queue.specs.Passes.{view, IsSamePass, IsPassOf, ruled_capacity};
 ghost use Rattle.audio_handoff.specs.Cell.{Grows};
-ghost use Rattle.link_shared.specs.Queue.{Pushed, Popped, SeesBacklog, SeesRest, SeesHeard, pushing_part, popping_part, shown_part, after_hearing, whole_of, knower, opener};
+ghost use Rattle.link_shared.specs.Queue.{Pushed, Popped, SeesNothing, SeesRest, SeesHeard, pushing_part, popping_part, shown_part, after_hearing, whole_of, knower, opener};
 
 use client_state::Commit;
 use crossbeam_queue::protocol::{Join, Lesson, Outcome, Protocol, Split};
@@ -85,7 +85,7 @@ impl Join<Hand> for Whole {
     ghost spent = { knower [] };
 }
 
-/// A push, by the pass that pushes. Where the queue is full, that pass knows what it holds.
+/// A push, by the pass that pushes. Where the queue is full, that pass learns nothing.
 pub struct Push;
 
 impl Outcome<Item, Hand> for Push {
@@ -93,7 +93,7 @@ impl Outcome<Item, Hand> for Push {
 }
 
 impl Lesson<Item, Hand> for Push {
-    ghost fact = { SeesBacklog };
+    ghost fact = { SeesNothing };
 }
 
 /// A pop, by the pass that pops. Where the queue is empty, a pass with both ends has popped all that was pushed.

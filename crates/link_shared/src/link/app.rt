@@ -3,7 +3,7 @@ ghost use Rattle.std.specs.Prelude.{◌≡◌, ◌+◌, ◌<◌, [], nat_eq, IfO
 ghost use Rattle.crossbeam_queue.specs.Passes.{view as hand_of};
 ghost use Rattle.client_state.specs.Commit.{IsTidyCommit, IsTidyOwn};
 ghost use Rattle.client_state.specs.State.{IsTidyState};
-ghost use Rattle.link_shared.specs.Passes.{AppView, further_of, after_passing, HasCaptured, HasCommitted, WasFull, WasBusy};
+ghost use Rattle.link_shared.specs.Passes.{AppView, further_of, after_passing, HasCaptured, HasCommitted};
 
 use super::Link;
 use crate::capture::{Busy, Capture, QueueFull};
@@ -135,7 +135,7 @@ impl<C: StateCell<9>, N: LinkName> Link<C, N> {
     ) -> Result<u64, Busy>
         requires tidy { IsTidyCommit commit }
         ensures committed { IfOk result (λ number. HasCommitted pass.old pass.new commit number) }
-        ensures busy { IfErr result (λ busy. (busy.commit ≡ commit) × (pass.new ≡ pass.old) × WasBusy pass.old.pushed) }
+        ensures busy { IfErr result (λ busy. (busy.commit ≡ commit) × (pass.new ≡ pass.old)) }
     {
         let AppPass {
             pass: known,
@@ -154,9 +154,7 @@ impl<C: StateCell<9>, N: LinkName> Link<C, N> {
     /// Asks the network thread to end, after all commits that were pushed before. `QueueFull` where the queue is full. That it
     /// was so at a step of this very call is tested and not proved, as in `commit`.
     /// Waits: for the desk, and for a place's last user in the queue. Memory: none.
-    pub fn quit<R: Wait>(&self, rt: &R) -> Result<(), QueueFull>
-        ensures full { OnErr result (WasFull []) }
-    {
+    pub fn quit<R: Wait>(&self, rt: &R) -> Result<(), QueueFull> {
         self.desk.lock(rt).quit(rt, &self.queue)
     }
 }
