@@ -1,5 +1,5 @@
 -- A live run from its parts: what its loops owe, and how it ends.
-use Rattle.std.proofs.Common.{◌≡◌, ℕ, ℤ, pos, ◌<◌, ◌≤◌, ◌+◌, ◌^◌, ◌⊎◌, ◌||◌, ⊎_elim, Bool, true, false, List, [], ◌∷◌, ◌++◌, length, map, Option, None, refl, sym, ap, subst, ◌∙◌, length-append, true≢false, arith}
+use Rattle.std.proofs.Common.{◌≡◌, ℕ, ℤ, pos, ◌<◌, ◌≤◌, ◌+◌, ◌^◌, ◌⊎◌, ⊎_elim, Bool, true, false, not, List, [], ◌∷◌, ◌++◌, length, map, Option, None, refl, sym, ap, subst, ◌∙◌, length-append, true≢false, arith}
 use Rattle.std.specs.List.{AllByRecursion}
 use Rattle.std.proofs.lemmas.List.{length-map}
 use Rattle.lk_base.specs.Ranges.{IsQuantum}
@@ -12,11 +12,11 @@ use Rattle.lk_outside.specs.Port.{PortContents}
 use Rattle.client_state.specs.declared.commit.Commit.{Commit}
 use Rattle.client_state.specs.declared.state.State.{State}
 use Rattle.link_node.specs.Config.{ConfigValue}
-use Rattle.link_node.specs.Event.{EventValue, End, SendingValue}
+use Rattle.link_node.specs.Event.{EventValue, SendingValue}
 use Rattle.link_node.specs.Runs.{sent_by, sent_of, AreFitting}
 use Rattle.link_shared.specs.Audio.{AudioView}
-use Rattle.link_shared.specs.Ending.{HasEnded, app_events}
-use Rattle.link_shared.specs.Hub.{HubView, machine_of, new_hub, opening_of, read_events}
+use Rattle.link_shared.specs.Ending.{HasEnded}
+use Rattle.link_shared.specs.Hub.{HubView, machine_of, new_hub, opening_of}
 use Rattle.link_shared.specs.Passes.{AppView}
 use Rattle.link_shared.specs.declared.capture.Capture.{Capture}
 use Rattle.link_text.specs.declared.live_script.AppCommand.{AppCommand}
@@ -24,8 +24,7 @@ use Rattle.link_text.specs.declared.live_script.BlockCommand.{BlockCommand}
 use Rattle.link_text.specs.declared.live_script.LiveScript.{LiveScript}
 use Rattle.link_live.specs.AudioRun.{BlockRead, IsAudioRun, clicks_of_blocks}
 use Rattle.link_live.specs.Headline.{IsLiveRun, LiveSetup, new_audio}
-use Rattle.link_live.specs.Journal.{has_ended}
-use Rattle.link_live.specs.LiveRun.{EndsLiveRun, IsFull, IsReady, first_of}
+use Rattle.link_live.specs.LiveRun.{EndsLiveRun, IsReady, first_of}
 use Rattle.link_live.specs.Loops.{CanPlay, CanRun, CanTake, HasPlayedBlocks, HasRun, HasTakenCommands}
 use Rattle.link_live.specs.Network.{IsNetworkRun, locals_of}
 use Rattle.link_live.specs.Report.{ReportValue}
@@ -34,9 +33,11 @@ use Rattle.link_live.specs.declared.audio.AudioReport.{AudioReport}
 use Rattle.link_live.specs.declared.network.NetEnd.{NetEnd}
 use Rattle.link_live.specs.declared.room.Room.{Room}
 use Rattle.link_live.specs.declared.script.ScriptReport.{ScriptReport}
-use Rattle.link_live.proofs.EndLemmas.{BestLaw, all_taken, last_commits, not_ended, whole_run}
-use Rattle.link_live.proofs.JournalLemmas.{all_later, has_ended-append}
+use Rattle.link_live.proofs.JournalLemmas.{all_later}
 use Rattle.link_live.proofs.LoopLemmas.{has_risen}
+use Rattle.link_live.proofs.PlayedLemmas.{is_audio_part}
+use Rattle.link_live.proofs.RecordedLemmas.{BestLaw, is_recorded}
+use Rattle.link_live.proofs.TakenLemmas.{is_script_part}
 
 -- ---- what the loops owe
 
@@ -147,68 +148,39 @@ module _ (laws : RunLaws) (best : BestLaw) (config : ConfigValue) (now : ℤ) (m
   abbrev setup : LiveSetup
   setup = record { config = config; events = most; blocks = blocks; quantum = quantum; apps = apps; block_commands = list }
 
-  is_full : HasEnded hub2 pass clock events published sends true → IsFull most told
-  is_full last = record {
-    all = (last.offered.no_room refl).0 ∙ most_is;
-    goes_on =
-        ap has_ended last.offered.journal
-        ∙ has_ended-append hub2.journal last.offered.taken
-        ∙ ap (λ b. b || has_ended last.offered.taken) (ap has_ended journal_is ∙ run.goes_on)
-        ∙ not_ended clock (read_events clock (machine_of hub2).audio last.last ++ app_events clock last.rest) last.offered.taken last.offered.refused
-        (last_commits clock (machine_of hub2).audio last.last last.rest).goes_on last.offered.split (last.offered.no_room refl).1;
-  }
-
-  -- the loop's journal was not full where the last turn found room
-  not_full : HasEnded hub2 pass clock events published sends false → (b : Bool) → end.full ≡ b → end.full ≡ false
-  not_full last false e = e
-  not_full last true e =
-      let len : length hub1.journal ≡ most = run.no_room e in
-      let taken : last.offered.taken ≡ (read_events clock (machine_of hub2).audio last.last ++ app_events clock last.rest) ++ End clock ∷ [] =
-      all_taken _ last.offered.taken last.offered.refused last.offered.split (last.offered.all refl) in
-      absurd (omega (
-        arith,
-        len,
-        ap length last.offered.journal,
-        length-append hub2.journal last.offered.taken,
-        ap length journal_is,
-        ap length taken,
-        length-append (read_events clock (machine_of hub2).audio last.last ++ app_events clock last.rest) (End clock ∷ []),
-        last.offered.fits,
-        most_is,
-      ))
-
-  whole : HasEnded hub2 pass clock events published sends false → HasPosted posts end.failed false p2 p3
-      → HasPlayedBlocks stored blocks list pass0 pass a0 a1 af0 af1 audio_report true → HasTakenCommands stored late apps app script_report true
-      → IsLiveRun setup late p0 p3 gates3 a0 a1 told
-  whole last posted audio script =
-      let works : end.failed ≡ false = (posted.all refl).0 in
-      let room : end.full ≡ false = not_full last end.full refl in
-      let net_is : IsNetworkRun (new_hub config now most) hub1 p0 p2 end.clock false false =
-      subst (λ (o : Option PortContents). IsNetworkRun (new_hub config now most) hub1 o p2 end.clock false false) bind_contents
-      (subst (λ (b : Bool). IsNetworkRun (new_hub config now most) hub1 p1 p2 end.clock false b) room
-      (subst (λ (b : Bool). IsNetworkRun (new_hub config now most) hub1 p1 p2 end.clock b end.full) works run)) in
-      let last_is : HasEnded (record hub1 { handed = hub1.handed ++ app ∷ [] }) pass end.clock events published sends false =
-      subst (λ (h : HubView). HasEnded h pass end.clock events published sends false) hub2_is
-      (subst (λ (n : ℤ). HasEnded hub2 pass n events published sends false) clock_is last) in
-      subst (λ (q : ℤ). IsLiveRun (record setup { quantum = q }) late p0 p3 gates3 a0 a1 told) stored_is
-      (whole_run laws config now most hub1 app pass end.clock p0 p2 events published sends net_is last_is late blocks stored apps list p3 gates3 a0 a1
-      audio_report.reads.items script_report.captures.items script_report.commits.items audio_report.commits.items (map (λ clicks. clicks.items) audio_report.plays.items)
-      best opening
-      (subst (λ (l : List SendingValue). HasPosted l false false p2 p3) posts_are (subst (λ (b : Bool). HasPosted posts b false p2 p3) works posted))
-      (post_gates ∙ net.stay ∙ bind_gates (net.cause.works works).0)
-      (subst (λ (v : AudioView). IsAudioRun stored blocks list v pass a0 a1 audio_report.reads.items audio_report.commits.items (map (λ clicks. clicks.items) audio_report.plays.items) false) pass_is audio.run)
-      script)
+  net_is : IsNetworkRun (new_hub config now most) hub1 p0 p2 end.clock end.failed end.full
+  net_is = subst (λ (o : Option PortContents). IsNetworkRun (new_hub config now most) hub1 o p2 end.clock end.failed end.full) bind_contents run
 
   pub run_ends : (captured failed played full : Bool) → HasEnded hub2 pass clock events published sends full → HasPosted posts end.failed failed p2 p3
       → (failed ≡ false → f3 ≡ f2) → (end.failed ≡ false → failed ≡ true → Rose f2 f3) → (end.failed ≡ true → f3 ≡ f2)
       → HasPlayedBlocks stored blocks list pass0 pass a0 a1 af0 af1 audio_report played → HasTakenCommands stored late apps app script_report captured
       → EndsLiveRun setup late p0 p3 gates3 f0 f3 a0 a1 af0 af1 told (first_of captured failed played full)
-  run_ends false failed played full last posted works fails unbound audio script = tt
-  run_ends true true played full last posted works fails unbound audio script = rose true fails unbound refl
-  run_ends true false false full last posted works fails unbound audio script = (stays false posted works refl, audio.cause.fails refl)
-  run_ends true false true true last posted works fails unbound audio script = (stays false posted works refl, audio.cause.works refl, is_full last)
-  run_ends true false true false last posted works fails unbound audio script =
-      (stays false posted works refl, audio.cause.works refl, whole last posted audio script)
+  run_ends captured failed played full last posted works fails unbound audio script = record {
+    course = record { captured = captured; failed = failed; played = played; full = full };
+    ended_is = refl;
+    port_works = λ e. stays failed posted works e;
+    port_fails = λ e. rose failed fails unbound e;
+    audio_works = audio.cause.works;
+    audio_fails = audio.cause.fails;
+    run = subst (λ (q : ℤ). IsLiveRun (record setup { quantum = q }) late (record { captured = captured; failed = failed; played = played; full = full }) p0 p3 gates3 a0 a1 told) stored_is
+        (record {
+          recorded =
+              is_recorded laws config now most hub1 (hub1.handed ++ app ∷ []) pass end.clock p0 p2 events published sends end.failed end.full full net_is last_is best late failed p3 gates3 told opening
+              (subst (λ (l : List SendingValue). HasPosted l end.failed failed p2 p3) posts_are posted)
+              (λ e. let before = (posted.all e).0 in post_gates ∙ net.stay ∙ bind_gates (net.cause.works before).0);
+          played =
+              is_audio_part hub2 pass clock events published sends full (record setup { quantum = stored }) played a0 a1 told last
+              (subst (λ (v : AudioView). IsAudioRun stored blocks list v pass a0 a1 audio_report.reads.items audio_report.commits.items (map (λ clicks. clicks.items) audio_report.plays.items) (not played)) pass_is audio.run);
+          taken = is_script_part hub2 app pass clock events published sends full (record setup { quantum = stored }) captured late told last only script;
+        });
+  }
+    where
+      only : hub2.handed ≡ app ∷ []
+      only = ap (λ (h : HubView). h.handed) hub2_is ∙ ap (λ (l : List AppView). l ++ app ∷ []) run.same_handed
+
+      last_is : HasEnded (record hub1 { handed = hub1.handed ++ app ∷ [] }) pass end.clock events published sends full
+      last_is = subst (λ (h : HubView). HasEnded h pass end.clock events published sends full) hub2_is
+          (subst (λ (n : ℤ). HasEnded hub2 pass n events published sends full) clock_is last)
 
 -- ---- how much was played
 

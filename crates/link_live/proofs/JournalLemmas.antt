@@ -1,5 +1,5 @@
 -- What stands in a journal, one list of events after another.
-use Rattle.std.proofs.Common.{◌≡◌, ℕ, ℤ, int_le, ◌+◌, ◌||◌, ◌⊎◌, inl, inr, Bool, true, false, List, [], ◌∷◌, ◌++◌, refl, sym, ap, subst, append_assoc, append-nil, arith}
+use Rattle.std.proofs.Common.{◌≡◌, ℕ, ℤ, int_le, ◌+◌, ◌||◌, ◌⊎◌, inl, inr, Bool, true, false, List, [], ◌∷◌, ◌++◌, refl, sym, ap, subst, ◌∙◌, append_assoc, append-nil, arith}
 use Rattle.std.specs.List.{AllByRecursion}
 use Rattle.link_node.specs.Due.{due_of}
 use Rattle.link_node.specs.Event.{EventValue, Rx, Tick, App, Audio, End, app_after, audio_after}
@@ -89,6 +89,22 @@ pub in_order-append : (opening : Machine) (before es fs : List EventValue) → A
 in_order-append opening before [] fs first second = subst (λ (l : List EventValue). AreInOrder opening l fs) (append-nil before) second
 in_order-append opening before (e ∷ es) fs first second =
     (first.0, in_order-append opening (before ++ e ∷ []) es fs first.1 (subst (λ (l : List EventValue). AreInOrder opening l fs) (sym (append_assoc before (e ∷ []) es)) second))
+
+-- a front of events in order is in order
+pub in_order-first : (opening : Machine) (before es fs : List EventValue) → AreInOrder opening before (es ++ fs) → AreInOrder opening before es
+in_order-first opening before [] fs order = tt
+in_order-first opening before (e ∷ es) fs order = (order.0, in_order-first opening (before ++ e ∷ []) es fs order.1)
+
+pub all_first : {A : Type 0} (P : A → Type 0) (xs ys : List A) → AllByRecursion P (xs ++ ys) → AllByRecursion P xs
+all_first P [] ys all = tt
+all_first P (x ∷ xs) ys all = (all.0, all_first P xs ys all.1)
+
+first_nil : {A : Type 0} (xs ys : List A) → xs ++ ys ≡ [] → xs ≡ []
+first_nil [] ys e = refl
+first_nil (x ∷ xs) ys e = absurd (cc e)
+
+pub datagrams-first : (es fs : List EventValue) → datagram_events_in (es ++ fs) ≡ [] → datagram_events_in es ≡ []
+datagrams-first es fs none = first_nil (datagram_events_in es) (datagram_events_in fs) (sym (datagram_events_in-append es fs) ∙ none)
 
 pub first_fit : (gates app audio : ℕ) (es fs : List EventValue) → AreFitting gates app audio (es ++ fs) → AreFitting gates app audio es
 first_fit gates app audio [] fs fits = tt

@@ -3,6 +3,7 @@ mod HeardLemmas
 mod GoneLemmas
 mod CountLemmas
 mod GrownLemmas
+mod DatagramLemmas
 mod TurnsLemmas
 mod RunningLemmas
 mod AskLemmas
@@ -10,7 +11,11 @@ mod PostLemmas
 mod LoopLemmas
 mod ScriptLemmas
 mod EndLemmas
+mod RecordedLemmas
+mod PlayedLemmas
+mod TakenLemmas
 mod EditLemmas
 mod CommitLemmas
 mod AudioLemmas
 mod CloseLemmas
+pub mod CourseLemmas

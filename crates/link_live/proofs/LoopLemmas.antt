@@ -1,5 +1,5 @@
 -- The network's loop: its first turn, what goes out on which gate, and its end.
-use Rattle.std.proofs.Common.{◌≡◌, ℕ, ℤ, ◌+◌, ◌<◌, ◌≤◌, ◌≤ℤ◌, ◌⊎◌, Bool, true, false, not, List, [], ◌∷◌, ◌++◌, length, Option, Some, None, refl, sym, ap, subst, ◌∙◌, inl, inr, ⊎_elim, to_z, of_z, w64, true≢false, rules, arith}
+use Rattle.std.proofs.Common.{◌≡◌, ℕ, ℤ, ◌+◌, ◌<◌, ◌≤◌, ◌≤ℤ◌, ◌⊎◌, Bool, true, false, not, List, [], ◌∷◌, ◌++◌, length, length-append, Option, Some, None, refl, sym, ap, subst, ◌∙◌, inl, inr, ⊎_elim, to_z, of_z, w64, true≢false, rules, arith}
 use Rattle.std.specs.Prelude.{IfSome}
 use Rattle.std.specs.List.{AllByRecursion}
 use Rattle.std.specs.Int.{int_min}
@@ -11,7 +11,7 @@ use Rattle.lk_outside.specs.Faults.{Rose}
 use Rattle.lk_outside.specs.Port.{PortContents}
 use Rattle.link_node.specs.Config.{ConfigValue}
 use Rattle.link_node.specs.Due.{due_of, earliest_of}
-use Rattle.link_node.specs.Event.{EventValue, SendingValue}
+use Rattle.link_node.specs.Event.{EventValue, Rx, SendingValue}
 use Rattle.link_node.specs.Machine.{Machine}
 use Rattle.link_node.specs.Opening.{opened}
 use Rattle.link_node.specs.Runs.{machine_after, sent_by, sent_of, AreFitting}
@@ -121,6 +121,7 @@ has_begun hub told clock failed empty moment is = record {
   sent = λ _. sym (ap posts_of (ap (λ l. sent_of hub.config hub.opened_at l) empty ∙ nothing_sent hub.config hub.opened_at));
   unsent = [];
   some_sent = ap posts_of (ap (λ l. sent_of hub.config hub.opened_at l) empty ∙ nothing_sent hub.config hub.opened_at);
+  before_each = λ before after gate from bytes at is. absurd (omega (arith, ap length empty, ap length is, length-append before (Rx gate from bytes at ∷ after)));
   closed = λ e. absurd (true≢false (sym e));
   counted = λ _ _ _. subst (λ (l : List EventValue). length (app_commits_in l) + 0 ≤ 0 + ticks_in l) (sym empty) (omega arith);
 }
@@ -176,6 +177,7 @@ has_ended_run first hub told told_then line run = record {
   sent = run.sent;
   unsent = run.unsent;
   some_sent = run.some_sent;
+  before_each = run.before_each;
   outnumbered = λ more works room. fewer (length (app_commits_in hub.journal)) (length run.arrivals + ticks_in hub.journal) (run.counted works (still_open told_then line.closed more run.closed) room);
 }
   where

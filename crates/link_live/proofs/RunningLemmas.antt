@@ -1,13 +1,15 @@
 -- One turn of the network's loop: what held of the run before it holds of the run with it.
-use Rattle.std.proofs.Common.{◌≡◌, ℕ, ℤ, ◌+◌, ◌<◌, ◌≤◌, ◌≤ℤ◌, ◌<ℤ◌, ◌⊎◌, ◌||◌, Bool, true, false, if◌then◌else◌, List, [], ◌∷◌, ◌++◌, length, Option, refl, sym, ap, subst, ◌∙◌, inl, inr, ⊎_elim, append-nil, length-append, to_z, of_z, w64, true≢false, arith}
+use Rattle.std.proofs.Common.{◌≡◌, ℕ, ℤ, ◌+◌, ◌<◌, ◌≤◌, ◌≤ℤ◌, ◌<ℤ◌, ◌⊎◌, ◌||◌, Bool, true, false, if◌then◌else◌, List, [], ◌∷◌, ◌++◌, length, Option, refl, sym, ap, subst, ◌∙◌, inl, inr, ⊎_elim, append-nil, append_assoc, length-append, to_z, of_z, w64, true≢false, arith}
 use Rattle.std.specs.Prelude.{IfSome}
 use Rattle.std.proofs.lemmas.Int.{ints, to_z-of_z}
 use Rattle.lk_base.specs.Ranges.{IsMoment}
+use Rattle.lk_base.specs.declared.endpoint.Endpoint.{Endpoint}
+use Rattle.lk_base.specs.declared.endpoint.Gate.{Gate}
 use Rattle.lk_outside.specs.Arrivals.{ArrivalValue, PostValue}
 use Rattle.lk_outside.specs.Port.{PortContents}
 use Rattle.link_node.specs.Config.{ConfigValue, IsConfig}
 use Rattle.link_node.specs.Due.{due_of}
-use Rattle.link_node.specs.Event.{EventValue, SendingValue}
+use Rattle.link_node.specs.Event.{EventValue, Rx, SendingValue}
 use Rattle.link_node.specs.Machine.{Machine}
 use Rattle.link_node.specs.Opening.{opened}
 use Rattle.link_node.specs.Runs.{machine_after, sent_by, sent_of, AreFitting}
@@ -17,10 +19,11 @@ use Rattle.link_shared.specs.Journal.{IsOffered, app_commits_in}
 use Rattle.link_shared.specs.declared.got.Got.{Got}
 use Rattle.link_shared.specs.declared.got.Got.TheVariants as got
 use Rattle.link_live.specs.Journal.{AreInOrder, AreAt, AreHeard, IsHeard, clock_after, brought_by, datagram_events_in, owes_tick, ticks_in}
-use Rattle.link_live.specs.Network.{posts_of}
+use Rattle.link_live.specs.Network.{ArePostedBefore, posts_of}
 use Rattle.link_live.specs.Running.{RunLaws, IsRunning, HasAsked, HasPosted, IsTimely}
 use Rattle.link_live.specs.declared.network.Line.{Line}
 use Rattle.link_live.proofs.AskLemmas.{moment_fits}
+use Rattle.link_live.proofs.DatagramLemmas.{AreSilent, cut_datagram, grows_more, nothing_sent_by, silent_before, some_datagram}
 use Rattle.link_live.proofs.CountLemmas.{few_commits, all_taken, offered_ticks, taken_datagrams}
 use Rattle.link_live.proofs.GoneLemmas.{IsUpTo, HasGone, IsReadyFor, turn_gone}
 use Rattle.link_live.proofs.GrownLemmas.{grown_turn, sent_turn, some_sent_turn, still_none_left, still_none_given}
@@ -110,6 +113,7 @@ record HasDone (first hub after : HubView) (clock : ℤ) (brought : Got) (sends 
   pub commits : length (app_commits_in taken) + (if quit then 1 else 0) ≤ 1
   pub ticks : full ≡ false → ticks_in taken ≡ ticks_in (got_events clock brought)
   pub datagrams : (datagram_events_in taken ≡ datagram_events_in (got_events clock brought)) ⊎ ((full ≡ true) × (datagram_events_in taken ≡ []))
+  pub silent : (gate : Gate) (from : Endpoint) (bytes : List ℕ) (at : ℤ) (part rest : List EventValue) → taken ≡ part ++ Rx gate from bytes at ∷ rest → AreSilent part
   pub config : after.config ≡ first.config
   pub opening : after.opened_at ≡ first.opened_at
   pub most : after.most ≡ first.most
@@ -135,6 +139,9 @@ has_done laws first hub after told told_now line clock due brought sends quit fu
       commits = few_commits clock (machine_after (opening_of first) hub.journal).audio turned.popped_item turned.pair brought offered.taken offered.refused quit offered.split turned.quit_is;
       ticks = λ e. ap ticks_in (all_taken ((item_events clock turned.popped_item ++ read_events clock (machine_after (opening_of first) hub.journal).audio turned.pair) ++ got_events clock brought) offered.taken offered.refused offered.split (offered.all e)) ∙ offered_ticks clock (machine_after (opening_of first) hub.journal).audio turned.popped_item turned.pair brought;
       datagrams = taken_datagrams clock (machine_after (opening_of first) hub.journal).audio turned.popped_item turned.pair brought offered.taken offered.refused full offered.split offered.all;
+      silent = λ gate from bytes at part rest is.
+          silent_before laws gate from bytes at clock (machine_after (opening_of first) hub.journal).audio turned.popped_item turned.pair brought part (rest ++ offered.refused)
+          (offered.split ∙ ap (λ l. l ++ offered.refused) is ∙ append_assoc part (Rx gate from bytes at ∷ rest) offered.refused);
       config = ap (λ (h : HubView). h.config) turned.others_stay ∙ run.same_config;
       opening = ap (λ (h : HubView). h.opened_at) turned.others_stay ∙ run.same_opening;
       most = ap (λ (h : HubView). h.most) turned.others_stay ∙ run.same_most;
@@ -236,6 +243,7 @@ run_turn_at laws first hub after told one two three line asked failed full full_
           sent_grows posted sent_before works;
       unsent = some.0;
       some_sent = some.1;
+      before_each = before_then;
       closed = closed_then;
       counted = λ works comes room.
           subst (λ (l : List EventValue). length (app_commits_in l) + (if quit then 1 else 0) ≤ length (run.arrivals ++ ask.arrivals) + ticks_in l) (sym done.journal)
@@ -313,6 +321,31 @@ run_turn_at laws first hub after told one two three line asked failed full full_
     some : (rest : List PostValue) × (posts_of (sent_of first.config first.opened_at after.journal) ≡ (run.posts ++ posted.posts) ++ rest)
     some = some_sent_turn run.posts run.unsent (sent_of first.config first.opened_at hub.journal) sends (sent_of first.config first.opened_at after.journal) asked.failed failed two three
         sent_grows posted sent_before run.some_sent
+
+    before_then : ArePostedBefore first.config first.opened_at after.journal (run.posts ++ posted.posts)
+    before_then before later gate from bytes at is =
+        ⊎_elim
+        (λ (t : (more : List EventValue) × (hub.journal ≡ before ++ Rx gate from bytes at ∷ more)).
+        grows_more (posts_of (sent_of first.config first.opened_at before)) run.posts posted.posts (run.before_each before t.0 gate from bytes at t.1))
+        (λ (t : (part : List EventValue) × (before ≡ hub.journal ++ part) × (done.taken ≡ part ++ Rx gate from bytes at ∷ later)).
+        let nothing : sent_of first.config first.opened_at before ≡ sent_of first.config first.opened_at hub.journal =
+        ap (λ l. sent_by (opening_of first) l) t.1 ∙ laws.sent (opening_of first) hub.journal t.0
+        ∙ ap (λ l. sent_by (opening_of first) hub.journal ++ l) (nothing_sent_by t.0 (machine_after (opening_of first) hub.journal) (done.silent gate from bytes at t.0 later t.2))
+        ∙ append-nil (sent_by (opening_of first) hub.journal) in
+        (posted.posts, ap (λ l. l ++ posted.posts) (run.sent (works_then gate from bytes at t.0 later t.2) ∙ ap posts_of (sym nothing))))
+        (cut_datagram gate from bytes at hub.journal done.taken before later (sym done.journal ∙ is))
+      where
+        -- an arrival came, so the port worked
+        works_then : (gate : Gate) (from : Endpoint) (bytes : List ℕ) (at : ℤ) (part rest : List EventValue) → done.taken ≡ part ++ Rx gate from bytes at ∷ rest → line.failed ≡ false
+        works_then gate from bytes at part rest is = by_arrivals ask.arrivals refl
+          where
+            by_arrivals : (l : List ArrivalValue) → ask.arrivals ≡ l → line.failed ≡ false
+            by_arrivals [] none =
+                absurd (some_datagram gate from bytes at part rest
+                (ap datagram_events_in (sym is)
+                ∙ ⊎_elim (λ (same : datagram_events_in done.taken ≡ datagram_events_in (got_events asked.clock brought)). same ∙ ask.brings_none none)
+                (λ (t : (full_turn ≡ true) × (datagram_events_in done.taken ≡ [])). t.1) done.datagrams))
+            by_arrivals (x ∷ l) some = (ask.early (omega (arith, ap length some))).2
 
     closed_then : asked.closed ≡ true → IfSome three (λ contents. contents.left ≡ [])
     closed_then comes = still_none_left posted.posts two three posted.grown (by_closed line.closed refl)

@@ -1,10 +1,11 @@
--- What a live run promises that ended well.
-use Rattle.std.specs.Prelude.{◌≡◌, ◌≤◌, ◌<◌, ℕ, ℤ, pos, true, false, List, [], ◌∷◌, ◌++◌, length, All, Option}
+-- What a live run promises, however it ends: what is recorded, published and sent, what the audio thread did, and what the application did.
+use Rattle.std.specs.Prelude.{◌≡◌, ◌≤◌, ◌<◌, ℕ, ℤ, pos, Bool, true, false, not, List, [], ◌∷◌, ◌++◌, length, All, Option}
 use Rattle.std.specs.List.{AllByRecursion}
 use mathlib.Core.Option.{some}
 use lib.ListN.{get_elem?}
+use Rattle.audio_handoff.specs.Cell.{Grows}
 use Rattle.lk_base.specs.declared.endpoint.Endpoint.{Endpoint}
-use Rattle.lk_outside.specs.Arrivals.{ArrivalValue}
+use Rattle.lk_outside.specs.Arrivals.{ArrivalValue, PostValue}
 use Rattle.lk_outside.specs.Audio.{AudioContents}
 use Rattle.lk_outside.specs.Contents.{BothTell}
 use Rattle.lk_outside.specs.Pace.{IsPaced}
@@ -17,6 +18,7 @@ use Rattle.link_node.specs.Event.{EventValue}
 use Rattle.link_node.specs.Machine.{Machine, timeline_in}
 use Rattle.link_node.specs.Opening.{opened}
 use Rattle.link_node.specs.Runs.{machine_after, published_of, sent_of}
+use Rattle.link_node.specs.Staying.{ShowsBest}
 use Rattle.link_node.specs.Step.{sends_of}
 use Rattle.link_shared.specs.Audio.{AudioView}
 use Rattle.link_shared.specs.Journal.{app_commits_in, last_audio_in, AreCarried}
@@ -26,7 +28,7 @@ use Rattle.link_text.specs.declared.live_script.AppCommand.{AppCommand}
 use Rattle.link_text.specs.declared.live_script.BlockCommand.{BlockCommand}
 use Rattle.link_live.specs.AudioRun.{IsAudioRun}
 use Rattle.link_live.specs.Journal.{AreInOrder, IsHeard, ticks_in, has_ended}
-use Rattle.link_live.specs.Network.{HasGrown, locals_of, posts_of}
+use Rattle.link_live.specs.Network.{ArePostedBefore, HasGrown, locals_of, posts_of}
 use Rattle.link_live.specs.Report.{ReportValue}
 use Rattle.link_live.specs.ScriptRun.{IsScriptRun}
 
@@ -40,20 +42,34 @@ pub record LiveSetup : Type 0 where
   pub apps : List AppCommand
   pub block_commands : List BlockCommand
 
--- the events are in the one order, begin with a tick as far as they are datagrams and ticks, and end with the end
-pub record IsJournal (opening : Machine) (most : ℕ) (events : List EventValue) : Type 0 where
+-- what a run met: whether memory sufficed for each capture, whether the port failed, whether the device worked, and whether an event found
+-- no room
+pub record Course : Type 0 where
+  pub captured : Bool
+  pub failed : Bool
+  pub played : Bool
+  pub full : Bool
+
+-- The events are in the one order, begin with a tick as far as they are datagrams and ticks, and end with the end; where an event found no
+-- room, there are as many as may be, and no end.
+pub record IsJournal (opening : Machine) (most : ℕ) (full : Bool) (events : List EventValue) : Type 0 where
   pub in_order : AreInOrder opening [] events
-  pub ticked : 0 < ticks_in events
-  pub ended : has_ended events ≡ true
+  pub ticked : full ≡ false → 0 < ticks_in events
+  pub ended : full ≡ false → has_ended events ≡ true
+  pub cut : full ≡ true → (length events ≡ most) × (has_ended events ≡ false)
   pub fits : length events ≤ most
 
--- What came was heard, and all that the machine sends for the events was posted, in order; where the port tells it, on the gates of the
--- config.
-pub record WasSent (config : ConfigValue) (now : ℤ) (events : List EventValue) (port port_then : Option PortContents) (gates : List Endpoint) : Type 0 where
+-- What came was heard, and all that the machine sends for the events was posted, in order, on the gates of the config; or the first of it
+-- where the port failed, and no less than what was sent for the events before each datagram.
+pub record WasSent (config : ConfigValue) (now : ℤ) (failed full : Bool) (events : List EventValue) (port port_then : Option PortContents) (gates : List Endpoint) : Type 0 where
   pub arrivals : List ArrivalValue
-  pub heard : IsHeard false config now arrivals events
-  pub posted : BothTell (HasGrown arrivals (posts_of (sent_of config now events))) port port_then
-  pub bound : gates ≡ locals_of config
+  pub heard : IsHeard full config now arrivals events
+  pub posts : List PostValue
+  pub posted : BothTell (HasGrown arrivals posts) port port_then
+  pub all : failed ≡ false → posts ≡ posts_of (sent_of config now events)
+  pub first : Grows posts (posts_of (sent_of config now events))
+  pub before : ArePostedBefore config now events posts
+  pub bound : failed ≡ false → gates ≡ locals_of config
 
 -- each state that was captured is the one published under its number
 abbrev pub ArePublished : List State → List Capture → Type 0
@@ -63,15 +79,15 @@ abbrev pub new_audio : AudioView
 new_audio = record { seen = []; looks = []; made = [] }
 
 -- what was read, shown and played for each block
-pub record WerePlayed (setup : LiveSetup) (audio audio_then : Option AudioContents) (report : ReportValue) : Type 0 where
+pub record WerePlayed (setup : LiveSetup) (played : Bool) (audio audio_then : Option AudioContents) (report : ReportValue) : Type 0 where
   pub pass : AudioView
-  pub run : IsAudioRun setup.quantum setup.blocks setup.block_commands new_audio pass audio audio_then report.reads report.audio_commits report.plays false
+  pub run : IsAudioRun setup.quantum setup.blocks setup.block_commands new_audio pass audio audio_then report.reads report.audio_commits report.plays (not played)
   pub published : ArePublished report.published report.reads
 
 -- what was captured and shown for each command
-pub record WereCaptured (setup : LiveSetup) (late : Option ℤ) (report : ReportValue) : Type 0 where
+pub record WereCaptured (setup : LiveSetup) (captured : Bool) (late : Option ℤ) (report : ReportValue) : Type 0 where
   pub pass : AppView
-  pub run : IsScriptRun setup.quantum late setup.apps pass report.captures report.app_commits true
+  pub run : IsScriptRun setup.quantum late setup.apps pass report.captures report.app_commits captured
   pub published : ArePublished report.published report.captures
 
 -- each timeline that is sent is the first of greatest beat origin that its session has taken
@@ -83,18 +99,48 @@ AreBest opening events =
     ((machine_after opening before).sessions.current.first ∷ (machine_after opening before).sessions.current.later)
     (timeline_in (machine_after opening before))
 
+-- at the opening and after each event the state published last shows a client's timeline that follows its session's first of greatest
+-- beat origin
+abbrev pub ShowBest : Machine → List EventValue → Type 0
+ShowBest opening events =
+    (before after : List EventValue) → events ≡ before ++ after → ShowsBest (machine_after opening before)
+
+-- ---- what is recorded
+
+-- What is recorded of the node, published and sent, whatever applications there were: the journal has the events in the one order taken,
+-- what was published and sent is what a replay of it gives, and each session's timeline, which clients are shown, is the first of greatest
+-- beat origin taken.
+pub record IsRecorded (given : ConfigValue) (most : ℕ) (late : Option ℤ) (failed full : Bool) (port port_then : Option PortContents) (gates : List Endpoint) (report : ReportValue) : Type 0 where
+  pub config : report.config ≡ given
+  pub opening : IsPaced late (pos 0) report.now
+  pub journal : IsJournal (opened report.config report.now) most full report.events
+  pub published : report.published ≡ published_of report.config report.now report.events
+  pub sent : WasSent report.config report.now failed full report.events port port_then gates
+  pub timelines : AreBest (opened report.config report.now) report.events
+  pub clients : ShowBest (opened report.config report.now) report.events
+
+-- ---- what the audio thread and the application did
+
+-- What was read and played. Of the audio thread's commits, those that stand in the journal carry what was made under their numbers, which
+-- rise; the last one made is among them, unless an event found no room.
+pub record IsAudioPart (setup : LiveSetup) (played full : Bool) (audio audio_then : Option AudioContents) (report : ReportValue) : Type 0 where
+  pub reads : WerePlayed setup played audio audio_then report
+  pub audio_commits : AreCarried report.audio_commits report.events
+  pub last_audio_commit : full ≡ false → last_audio_in 0 report.events ≡ length report.audio_commits
+
+-- What was captured. Of the application's commits the first stand in the journal, each once and in order; all of them, unless an event
+-- found no room.
+pub record IsScriptPart (setup : LiveSetup) (captured full : Bool) (late : Option ℤ) (report : ReportValue) : Type 0 where
+  pub captures : WereCaptured setup captured late report
+  pub app_begin : Grows (app_commits_in report.events) report.app_commits
+  pub app_commits : full ≡ false → app_commits_in report.events ≡ report.app_commits
+
+-- ---- the whole
+
 -- A live run sends and publishes what replay gives for its journal, its events in the one order taken; however the threads step, every
 -- audio read and every capture is one whole published state, never older than one already read or told of; application commits stand in
 -- the journal once and in order, audio commits by rising number; each session's timeline is the first of greatest beat origin taken.
-pub record IsLiveRun (setup : LiveSetup) (late : Option ℤ) (port port_then : Option PortContents) (gates : List Endpoint) (audio audio_then : Option AudioContents) (report : ReportValue) : Type 0 where
-  pub config : report.config ≡ setup.config
-  pub opening : IsPaced late (pos 0) report.now
-  pub journal : IsJournal (opened report.config report.now) setup.events report.events
-  pub published : report.published ≡ published_of report.config report.now report.events
-  pub sent : WasSent report.config report.now report.events port port_then gates
-  pub reads : WerePlayed setup audio audio_then report
-  pub captures : WereCaptured setup late report
-  pub app_commits : app_commits_in report.events ≡ report.app_commits
-  pub audio_commits : AreCarried report.audio_commits report.events
-  pub last_audio_commit : last_audio_in 0 report.events ≡ length report.audio_commits
-  pub timelines : AreBest (opened report.config report.now) report.events
+pub record IsLiveRun (setup : LiveSetup) (late : Option ℤ) (course : Course) (port port_then : Option PortContents) (gates : List Endpoint) (audio audio_then : Option AudioContents) (report : ReportValue) : Type 0 where
+  pub recorded : IsRecorded setup.config setup.events late course.failed course.full port port_then gates report
+  pub played : IsAudioPart setup course.played course.full audio audio_then report
+  pub taken : IsScriptPart setup course.captured course.full late report

@@ -1,5 +1,5 @@
 -- How a live run ends.
-use Rattle.std.specs.Prelude.{◌≡◌, ◌≤◌, ◌<◌, ◌^◌, ℕ, ℤ, Bool, false, if◌then◌else◌, List, [], length, map, All, Option}
+use Rattle.std.specs.Prelude.{◌≡◌, ◌≤◌, ◌<◌, ◌^◌, ℕ, ℤ, Bool, true, false, if◌then◌else◌, List, [], length, map, All, Option}
 use Rattle.std.specs.Vec.{vec_capacity}
 use Rattle.lk_base.specs.declared.endpoint.Endpoint.{Endpoint}
 use Rattle.lk_outside.specs.Audio.{AudioContents}
@@ -11,8 +11,7 @@ use Rattle.link_text.specs.LiveScript.{IsCommand, IsLiveText, app, block}
 use Rattle.link_text.specs.declared.live_script.AppCommand.{AppCommand}
 use Rattle.link_text.specs.declared.live_script.BlockCommand.{BlockCommand}
 use Rattle.link_text.specs.declared.live_script.LiveScript.{LiveScript}
-use Rattle.link_live.specs.Headline.{LiveSetup, IsLiveRun}
-use Rattle.link_live.specs.Journal.{has_ended}
+use Rattle.link_live.specs.Headline.{Course, LiveSetup, IsLiveRun}
 use Rattle.link_live.specs.Report.{ReportValue}
 use Rattle.link_live.specs.declared.run.LiveEnd.{LiveEnd}
 use Rattle.link_live.specs.declared.run.LiveEnd.TheVariants as end
@@ -54,29 +53,20 @@ pub record IsReady (script : LiveScript) (blocks : ℕ) (room : Room) : Type 0 w
   pub captures : (room.script.captures.items ≡ []) × (length script.apps.items ≤ vec_capacity room.script.captures)
   pub app_commits : (room.script.commits.items ≡ []) × (length script.apps.items ≤ vec_capacity room.script.commits)
 
--- the journal is full and hasn't ended
-pub record IsFull (most : ℕ) (report : ReportValue) : Type 0 where
-  pub all : length report.events ≡ most
-  pub goes_on : has_ended report.events ≡ false
-
 -- the first cause that holds: memory was wanting for a capture, the port failed, the audio device did, or the journal was full
 abbrev pub first_of : Bool → Bool → Bool → Bool → LiveEnd
 first_of captured failed played full =
     if captured then (if failed then end.Port else (if played then (if full then end.Events else end.Well) else end.Audio)) else end.Memory
 
--- By the first cause that holds: memory was wanting, the port's count of failures rose, the audio device's did, or an event found the
--- journal full; and where none of them does, all that a live run promises.
-abbrev pub EndsLiveRun : LiveSetup → Option ℤ → Option PortContents → Option PortContents → List Endpoint → ℕ → ℕ → Option AudioContents → Option AudioContents → ℕ → ℕ → ReportValue → LiveEnd → Type 0
-EndsLiveRun setup late port port_then gates port_faults port_faults_then audio audio_then audio_faults audio_faults_then report end.Memory = Unit {0}
-EndsLiveRun setup late port port_then gates port_faults port_faults_then audio audio_then audio_faults audio_faults_then report end.Port =
-    Rose port_faults port_faults_then
-EndsLiveRun setup late port port_then gates port_faults port_faults_then audio audio_then audio_faults audio_faults_then report end.Audio =
-    (port_faults_then ≡ port_faults) × Rose audio_faults audio_faults_then
-EndsLiveRun setup late port port_then gates port_faults port_faults_then audio audio_then audio_faults audio_faults_then report end.Events =
-    (port_faults_then ≡ port_faults) × (audio_faults_then ≡ audio_faults) × IsFull setup.events report
-EndsLiveRun setup late port port_then gates port_faults port_faults_then audio audio_then audio_faults audio_faults_then report end.Well =
-    (port_faults_then ≡ port_faults) × (audio_faults_then ≡ audio_faults)
-    × IsLiveRun setup late port port_then gates audio audio_then report
+-- What the run met, by which its end goes, with the causes; and what is promised of it then.
+pub record EndsLiveRun (setup : LiveSetup) (late : Option ℤ) (port port_then : Option PortContents) (gates : List Endpoint) (port_faults port_faults_then : ℕ) (audio audio_then : Option AudioContents) (audio_faults audio_faults_then : ℕ) (report : ReportValue) (ended : LiveEnd) : Type 0 where
+  pub course : Course
+  pub ended_is : ended ≡ first_of course.captured course.failed course.played course.full
+  pub port_works : course.failed ≡ false → port_faults_then ≡ port_faults
+  pub port_fails : course.failed ≡ true → Rose port_faults port_faults_then
+  pub audio_works : course.played ≡ true → audio_faults_then ≡ audio_faults
+  pub audio_fails : course.played ≡ false → Rose audio_faults audio_faults_then
+  pub run : IsLiveRun setup late course port port_then gates audio audio_then report
 
 -- each command that a live script says is one that a run can take
 abbrev pub ScriptsHaveCommands : Type 0

@@ -1,13 +1,15 @@
 -- What the loop that owns the network promises.
-use Rattle.std.specs.Prelude.{◌≡◌, ◌≤◌, ◌<◌, ◌⊎◌, ℕ, ℤ, ◌+◌, ◌≤ℤ◌, Bool, true, false, List, [], ◌++◌, length, map, Option, None, IfSome}
+use Rattle.std.specs.Prelude.{◌≡◌, ◌≤◌, ◌<◌, ◌⊎◌, ℕ, ℤ, ◌+◌, ◌≤ℤ◌, Bool, true, false, List, [], ◌∷◌, ◌++◌, length, map, Option, None, IfSome}
 use Rattle.lk_base.specs.Ranges.{IsMoment}
+use Rattle.audio_handoff.specs.Cell.{Grows}
 use Rattle.lk_base.specs.declared.endpoint.Endpoint.{Endpoint}
+use Rattle.lk_base.specs.declared.endpoint.Gate.{Gate}
 use Rattle.lk_outside.specs.Arrivals.{ArrivalValue, PostValue}
 use Rattle.lk_outside.specs.Contents.{BothTell}
 use Rattle.lk_outside.specs.Faults.{Rose}
 use Rattle.lk_outside.specs.Port.{PortContents}
 use Rattle.link_node.specs.Config.{ConfigValue}
-use Rattle.link_node.specs.Event.{SendingValue}
+use Rattle.link_node.specs.Event.{EventValue, Rx, SendingValue}
 use Rattle.link_node.specs.Runs.{machine_after, sent_of}
 use Rattle.link_shared.specs.Hub.{HubView, opening_of}
 use Rattle.link_shared.specs.Journal.{app_commits_in}
@@ -30,6 +32,12 @@ pub record HasGrown (arrivals : List ArrivalValue) (posts : List PostValue) (bef
   pub left : before.left ≡ arrivals ++ after.left
   pub given : after.given ≡ before.given ++ arrivals
   pub posted : after.posted ≡ before.posted ++ posts
+
+-- what was sent for the events before each datagram was posted
+abbrev pub ArePostedBefore : ConfigValue → ℤ → List EventValue → List PostValue → Type 0
+ArePostedBefore config now events posts =
+    (before after : List EventValue) (gate : Gate) (from : Endpoint) (bytes : List ℕ) (at : ℤ)
+    → events ≡ before ++ Rx gate from bytes at ∷ after → Grows (posts_of (sent_of config now before)) posts
 
 -- the port tells what comes, and something is left
 abbrev pub HasMore : Option PortContents → Type 0
@@ -67,6 +75,7 @@ pub record IsNetworkRun (before after : HubView) (told told_then : Option PortCo
   pub sent : failed ≡ false → posts ≡ posts_of (sent_of before.config before.opened_at after.journal)
   pub unsent : List PostValue
   pub some_sent : posts_of (sent_of before.config before.opened_at after.journal) ≡ posts ++ unsent
+  pub before_each : ArePostedBefore before.config before.opened_at after.journal posts
   -- where something is left to come, each turn took an arrival or a tick, and at most one commit of an application; the last took none
   pub outnumbered : HasMore told_then → failed ≡ false → full ≡ false
       → length (app_commits_in after.journal) < length arrivals + ticks_in after.journal

@@ -11,14 +11,14 @@ use Rattle.link_node.specs.Event.{EventValue, App, Audio, SendingValue, moment_o
 use Rattle.link_node.specs.Machine.{Machine}
 use Rattle.link_node.specs.Opening.{opened}
 use Rattle.link_node.specs.Runs.{machine_after, sent_by, sent_of, AreFitting}
-use Rattle.link_node.specs.Step.{step_of}
+use Rattle.link_node.specs.Step.{sends_of, step_of}
 use Rattle.link_node.specs.WellFormed.{IsMachine}
 use Rattle.link_shared.specs.Hub.{HubView, IsOnGate, got_events, opening_of}
 use Rattle.link_shared.specs.Journal.{app_commits_in}
 use Rattle.link_shared.specs.declared.got.Got.{Got}
 use Rattle.link_shared.specs.declared.got.Got.TheVariants as got
 use Rattle.link_live.specs.Journal.{AreInOrder, IsHeard, clock_after, brought_by, datagram_events_in, owes_tick, ticks_in, has_ended}
-use Rattle.link_live.specs.Network.{HasGrown, posts_of}
+use Rattle.link_live.specs.Network.{ArePostedBefore, HasGrown, posts_of}
 use Rattle.link_live.specs.Turns.{TurnValue, HaveTurned, is_full_in, NoneQuits, LastQuits}
 use Rattle.link_live.specs.declared.network.Line.{Line}
 
@@ -32,6 +32,8 @@ pub record RunLaws : Type 0 where
   pub audio_puts_off : (m : Machine) (number : ℕ) (commit : Commit) (now : ℤ) → IsMachine m → due_of m ≤ℤ now → due_of (step_of m (Audio number commit now)) ≤ℤ now
   pub machine : (m : Machine) (es fs : List EventValue) → machine_after m (es ++ fs) ≡ machine_after (machine_after m es) fs
   pub sent : (m : Machine) (es fs : List EventValue) → sent_by m (es ++ fs) ≡ sent_by m es ++ sent_by (machine_after m es) fs
+  pub app_sends : (m : Machine) (commit : Commit) (now : ℤ) → sends_of m (App commit now) ≡ []
+  pub audio_sends : (m : Machine) (number : ℕ) (commit : Commit) (now : ℤ) → sends_of m (Audio number commit now) ≡ []
   pub opening : (config : ConfigValue) (now : ℤ) → IsConfig config → IsMoment now → IsMachine (opened config now)
   pub run : (m : Machine) (es : List EventValue) → IsMachine m → AreFitting (length m.config.gates) m.app m.audio es → IsMachine (machine_after m es)
 
@@ -109,6 +111,7 @@ pub record IsRunning (first hub : HubView) (told told_then : Option PortContents
   pub sent : line.failed ≡ false → posts ≡ posts_of (sent_of first.config first.opened_at hub.journal)
   pub unsent : List PostValue
   pub some_sent : posts_of (sent_of first.config first.opened_at hub.journal) ≡ posts ++ unsent
+  pub before_each : ArePostedBefore first.config first.opened_at hub.journal posts
   pub closed : line.closed ≡ true → IfSome told_then (λ contents. contents.left ≡ [])
   pub counted : line.failed ≡ false → line.closed ≡ false → line.full ≡ false
       → length (app_commits_in hub.journal) + (if quit then 1 else 0) ≤ length arrivals + ticks_in hub.journal

@@ -12,7 +12,8 @@ use Rattle.link_text.specs.declared.live_script.Act.TheVariants.{Tempo, Force, R
 use Rattle.link_text.specs.declared.live_script.AppCommand.{AppCommand}
 use Rattle.link_live.specs.Clients.{capture_of, commit_of_act, apps_taken}
 
--- a command that was taken: the moment that the pace answered, and the pair of number and row that was captured then
+-- a command that was taken: the moment that the pace answered, which its commit carries, and the pair of number and row that was captured
+-- for it
 pub record Taken : Type 0 where
   pub at : ℤ
   pub pair : Pair

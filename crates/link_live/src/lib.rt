@@ -1,13 +1,14 @@
 //! A live run: three threads over one link, and what they tell of it.
 //!
-//! In reading order: `network` (the loop that owns the network), `edit`, `audio` and `script` (the loops of the audio thread and of an
-//! application), `sides` (what joins them), `room`, `run` (the three beside one another, and the end), `report`.
+//! In reading order: `network` (the loop that owns the network), `rest`, `edit`, `audio` and `script` (the loops of the audio thread and of
+//! an application), `sides` (what joins them), `room`, `run` (the three beside one another, and the end), `report`.
 #![tactic(auto)]
 
 mod audio;
 mod edit;
 mod network;
 mod report;
+mod rest;
 mod room;
 mod run;
 mod script;
@@ -18,5 +19,5 @@ pub use edit::commit_of;
 pub use network::{NetEnd, network_loop};
 pub use report::Report;
 pub use room::{Room, scripts_have_commands};
-pub use run::{LiveEnd, LiveRun, live_run};
+pub use run::{LiveEnd, LiveRun, ends_tell_courses, live_run};
 pub use script::{ScriptReport, script_loop};

@@ -12,10 +12,11 @@ ghost use Rattle.link_shared.specs.declared.got.Got.TheVariants as got;
 ghost use Rattle.link_live.specs.Network.{HasCause, IsNetworkRun, locals_of, post_of};
 ghost use Rattle.link_live.specs.Running.{HasAsked, HasPosted, IsRunning, RunLaws};
 
+use crate::rest::rest;
 use audio_handoff::StateCell;
 use link_node::{
-    Sending, Sends, commits_are_counted, commits_put_off_nothing, datagrams_go_out_on_gates,
-    moments_never_fall, nodes_are_well_formed, runs_go_on,
+    Sending, Sends, commits_are_counted, commits_put_off_nothing, commits_send_nothing,
+    datagrams_go_out_on_gates, moments_never_fall, nodes_are_well_formed, runs_go_on,
 };
 use link_shared::{Got, Hub, Link, LinkName};
 use lk_outside::{Arrival, Port, Posted};
@@ -51,9 +52,9 @@ struct Line {
 /// Makes turns of the hub until one pops a quit: each with a tick where one is due at the greatest moment heard, and else with what
 /// the port receives within 5 milliseconds, at most until a tick is due. What a turn sends goes out at once, in order. Once a call of
 /// the port has failed, or where its gates aren't bound, the port isn't called (again); once it is closed, or an event found the
-/// journal full, it isn't asked to receive.
+/// journal full, it isn't asked to receive. A turn that then takes no event is followed by a rest, as the next one would come at once.
 ///
-/// Waits: in the port, for a place's last user in the queue, and by the way. Memory: none.
+/// Waits: in the port, for a place's last user in the queue, by the way, and in a rest. Memory: none.
 pub fn network_loop<C: StateCell<9>, N: LinkName, P: Port, R: Wait>(
     rt: &R,
     hub: &mut Hub<C, N>,
@@ -88,7 +89,7 @@ pub fn network_loop<C: StateCell<9>, N: LinkName, P: Port, R: Wait>(
 }
 
 // One turn of the hub, with what is due or what the port answers, and what it sends. Answers whether it popped a quit.
-// Waits: in the port, for a place's last user in the queue, and by the way. Memory: none.
+// Waits: in the port, for a place's last user in the queue, by the way, and in a rest. Memory: none.
 fn network_turn<C: StateCell<9>, N: LinkName, P: Port, R: Wait>(
     rt: &R,
     hub: &mut Hub<C, N>,
@@ -113,12 +114,23 @@ fn network_turn<C: StateCell<9>, N: LinkName, P: Port, R: Wait>(
     datagrams_go_out_on_gates();
     let due = hub.due();
     let _opening = hub.moment();
+    let before = hub.journal().len();
     let got = ask(port, due, line);
     let turned = hub.turn(rt, link, way, line.clock, got, sends);
-    let _taken = hub.journal();
+    let taken = hub.journal();
+    let grew = before < taken.len();
     line.failed = post(port, sends.list(), line.failed);
     line.full = either(line.full, turned.full);
+    rest_where_idle(rt, *line, turned.quit, grew);
     turned.quit
+}
+
+// Rests where the port can't be asked any more, no quit was popped and the journal didn't grow.
+// Waits: a millisecond at most. Memory: none.
+fn rest_where_idle<R: Wait>(rt: &R, line: Line, quit: bool, grew: bool) {
+    if !grew && !quit && (line.failed || line.closed || line.full) {
+        rest(rt);
+    }
 }
 
 // What a turn is given: a tick where one is due, and else what the port answers, where it can be asked.
@@ -224,6 +236,7 @@ pub fn run_laws()
     moments_never_fall();
     commits_are_counted();
     commits_put_off_nothing();
+    commits_send_nothing();
     runs_go_on();
     nodes_are_well_formed();
 }

@@ -1,6 +1,6 @@
 //! A live run: three threads over one link, and its end.
 
-ghost use Rattle.std.specs.Prelude.{◌≡◌, ◌≤◌, ◌<◌, ◌^◌, ◌+◌, pos, [], None, true, false, length, map, not, All, vec_capacity};
+ghost use Rattle.std.specs.Prelude.{◌≡◌, ◌≤◌, ◌<◌, ◌^◌, ◌+◌, pos, [], None, Bool, true, false, length, map, not, All, vec_capacity};
 ghost use Rattle.lk_base.specs.Ranges.{IsQuantum};
 ghost use Rattle.lk_outside.specs.Faults.{Rose};
 ghost use Rattle.lk_outside.specs.Pace.{IsPaced};
@@ -17,7 +17,10 @@ use crate::script::ScriptReport;
 use crate::sides::run_loops;
 use arrayvec::ArrayVec;
 use client_state::State;
-use link_node::{Config, Event, GateSetup, best_timelines_are_told, datagrams_go_out_on_gates};
+use link_node::{
+    Config, Event, GateSetup, best_timelines_are_told, clients_follow_sessions,
+    datagrams_go_out_on_gates,
+};
 use link_shared::{Link, LinkName, Opened, Parts};
 use link_text::LiveScript;
 use lk_base::Endpoint;
@@ -92,6 +95,7 @@ pub fn live_run<
     // Laws, for the proof.
     run_laws();
     best_timelines_are_told();
+    clients_follow_sessions();
     datagrams_go_out_on_gates();
     let Room {
         mut sends,
@@ -153,6 +157,18 @@ fn end_of(captured: bool, failed: bool, played: bool, full: bool) -> LiveEnd
     }
     LiveEnd::Well
 }
+
+/// A law: by how a run ended, what it met.
+pub fn ends_tell_courses()
+    ensures well { (captured failed played full : Bool) → LiveEnd.Well ≡ first_of captured failed played full
+        → (captured ≡ true) × (failed ≡ false) × (played ≡ true) × (full ≡ false) }
+    ensures events { (captured failed played full : Bool) → LiveEnd.Events ≡ first_of captured failed played full
+        → (captured ≡ true) × (failed ≡ false) × (played ≡ true) × (full ≡ true) }
+    ensures audio { (captured failed played full : Bool) → LiveEnd.Audio ≡ first_of captured failed played full
+        → (captured ≡ true) × (failed ≡ false) × (played ≡ false) }
+    ensures port { (captured failed played full : Bool) → LiveEnd.Port ≡ first_of captured failed played full
+        → (captured ≡ true) × (failed ≡ true) }
+{}
 
 // Binds the config's gates. Answers whether the port did. Waits: in the port. Memory: none.
 fn bind<P: Port>(port: &mut P, config: &Config) -> bool

@@ -10,6 +10,7 @@ ghost use Rattle.link_live.specs.ScriptRun.{IsScriptRun, is_look};
 ghost use Rattle.link_live.specs.TakingRun.{IsCommandAt, IsTaking};
 
 use crate::edit::commit_of;
+use crate::rest::rest;
 use audio_handoff::StateCell;
 use client_state::Commit;
 use link_shared::{AppPass, Capture, Link, LinkName};
@@ -144,7 +145,7 @@ fn looks(act: Act) -> bool
 }
 
 // Hands a commit over, as soon as the queue has room. Answers its number.
-// Waits: for the desk, and for room in the queue. Memory: none.
+// Waits: for the desk, and for room in the queue, a rest at a time. Memory: none.
 fn hand_over<C: StateCell<9>, N: LinkName, R: Wait>(
     rt: &R,
     link: &Link<C, N>,
@@ -158,16 +159,19 @@ fn hand_over<C: StateCell<9>, N: LinkName, R: Wait>(
         if let Ok(number) = link.commit(rt, pass, commit) {
             return number;
         }
+        rest(rt);
     }
     unreachable!()
 }
 
-// Asks the network's loop to end, as soon as the queue has room. Waits: for the desk, and for room in the queue. Memory: none.
+// Asks the network's loop to end, as soon as the queue has room.
+// Waits: for the desk, and for room in the queue, a rest at a time. Memory: none.
 fn ask_to_end<C: StateCell<9>, N: LinkName, R: Wait>(rt: &R, link: &Link<C, N>) {
     for _ in rt.forever() {
         if link.quit(rt).is_ok() {
             return;
         }
+        rest(rt);
     }
     unreachable!()
 }

@@ -46,7 +46,12 @@ returns g c = record {
       }))
       e)
       (sym c.end_of.ensures)
-      (run_ends c.run_laws.ensures (record { told = c.best_timelines_are_told.ensures.told; best = c.best_timelines_are_told.ensures.best })
+      (run_ends c.run_laws.ensures
+      (record {
+        told = c.best_timelines_are_told.ensures.told;
+        best = c.best_timelines_are_told.ensures.best;
+        shows = c.clients_follow_sessions.ensures.run;
+      })
       _ _ _ _ c.args.quantum _ _ _ _ _ _ _ _ _ _ _ _ _ _ _ _ _ _ _ _ _ _ _ _ _ _ _ _ c.run_loops-ends.new.script_report _ _ _ _ _
       c.make-link.ensures.hub c.run_loops-ends.ensures.network (λ yes. c.bind-bound.ensures.gates yes ∙ ap locals_of (sym c.requires.config.0)) c.bind-bound.ensures.works c.bind-bound.ensures.fails
       c.bind-bound.ensures.contents c.make-link.ensures.audio c.hand_in.ensures (to_z-of_z w64 _ (moment_fits _ c.run_loops-ends.ensures.network.run.moment))
