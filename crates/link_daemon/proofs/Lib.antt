@@ -2,6 +2,7 @@ mod ReportLemmas
 mod StatusLemmas
 mod FaultLineLemmas
 mod CauseLemmas
+mod CourseLemmas
 mod LiveStatusLemmas
 mod OneStatusLemmas
 mod ValidInputLemmas

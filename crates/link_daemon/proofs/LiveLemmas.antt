@@ -1,5 +1,5 @@
 -- How a call of `live` ends, from how its parts end.
-use Rattle.std.proofs.Common.{◌≡◌, ◌≤◌, ◌<◌, ◌+◌, ◌^◌, inl, inr, ℕ, ℤ, Bool, true, false, List, [], length, map, Option, Some, None, Result, Ok, Err, refl, sym, ap, subst, ◌∙◌, w64, FitsSigned, arith}
+use Rattle.std.proofs.Common.{◌≡◌, ◌<◌, ◌^◌, inl, inr, ℕ, ℤ, Bool, true, false, List, length, map, Option, Result, Ok, Err, refl, sym, ap, subst, ◌∙◌, w64, FitsSigned, arith}
 use Rattle.std.specs.Prelude.{OnErr, OnOk, is_ok}
 use Rattle.std.proofs.lemmas.Int.{ints}
 use Rattle.std.specs.declared.alloc.Global.{Global}

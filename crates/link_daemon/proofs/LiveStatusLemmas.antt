@@ -18,6 +18,7 @@ use Rattle.link_commands.specs.declared.status.Status.{Status}
 use Rattle.link_commands.specs.declared.status.Status.TheVariants as status
 use Rattle.link_commands.specs.Statuses.{Stream, WasRead}
 use Rattle.link_daemon.specs.OneStatus.{CanFail, End, end_of, IsTold, HasOneLiveFaultLine}
+use Rattle.link_daemon.proofs.CourseLemmas.{CourseLaws, audio_met, events_met, port_met, well_met}
 use Rattle.link_daemon.proofs.CauseLemmas.{First, here, later, IsOne, first_is_one, rose_and_quiet, one_read, more_and_whole}
 
 -- ---- what excludes what
@@ -107,27 +108,31 @@ one_live_end once words input input' before after tells =
 
 -- ---- each status has its cause
 
-run_cause : (setup : LiveSetup) (recorded : Bool) (before after : Outside) (end : Status) → CanFail before → end ≢ status.Memory
+run_cause : CourseLaws → (setup : LiveSetup) (recorded : Bool) (before after : Outside) (end : Status) → CanFail before → end ≢ status.Memory
     → EndsRun setup recorded before after end → RunCauses before after (end_of end)
-run_cause setup recorded before after status.Port can some_memory ended = here ended.run refl
-run_cause setup recorded before after status.Audio can some_memory ended =
-    later (λ rose. rose_and_quiet _ _ can.port_counts rose ended.run.0) (here ended.run.1 refl)
-run_cause setup recorded before after status.Events can some_memory ended =
-    later (λ rose. rose_and_quiet _ _ can.port_counts rose ended.run.0)
-    (later (λ rose. rose_and_quiet _ _ can.audio_counts rose ended.run.1) (here ended.run.2.goes_on refl))
-run_cause setup recorded before after status.Sink can some_memory ended =
-    later (λ rose. rose_and_quiet _ _ can.port_counts rose ended.run.0)
-    (later (λ rose. rose_and_quiet _ _ can.audio_counts rose ended.run.1)
-    (later (λ goes_on. ended_and_not (has_ended after.report.events) ended.run.2.journal.ended goes_on) (here ended.written.rose refl)))
-run_cause setup recorded before after status.Done can some_memory ended =
-    later (λ rose. rose_and_quiet _ _ can.port_counts rose ended.run.0)
-    (later (λ rose. rose_and_quiet _ _ can.audio_counts rose ended.run.1)
-    (later (λ goes_on. ended_and_not (has_ended after.report.events) ended.run.2.journal.ended goes_on)
+run_cause laws setup recorded before after status.Port can some_memory ended = here (port_met laws ended.run) refl
+run_cause laws setup recorded before after status.Audio can some_memory ended =
+    let met = audio_met laws ended.run in
+    later (λ rose. rose_and_quiet _ _ can.port_counts rose met.0) (here met.1 refl)
+run_cause laws setup recorded before after status.Events can some_memory ended =
+    let met = events_met laws ended.run in
+    later (λ rose. rose_and_quiet _ _ can.port_counts rose met.0)
+    (later (λ rose. rose_and_quiet _ _ can.audio_counts rose met.1) (here met.2 refl))
+run_cause laws setup recorded before after status.Sink can some_memory ended =
+    let met = well_met laws ended.run in
+    later (λ rose. rose_and_quiet _ _ can.port_counts rose met.0)
+    (later (λ rose. rose_and_quiet _ _ can.audio_counts rose met.1)
+    (later (λ goes_on. ended_and_not (has_ended after.report.events) met.2 goes_on) (here ended.written.rose refl)))
+run_cause laws setup recorded before after status.Done can some_memory ended =
+    let met = well_met laws ended.run in
+    later (λ rose. rose_and_quiet _ _ can.port_counts rose met.0)
+    (later (λ rose. rose_and_quiet _ _ can.audio_counts rose met.1)
+    (later (λ goes_on. ended_and_not (has_ended after.report.events) met.2 goes_on)
     (later (λ rose. rose_and_quiet _ _ can.out_counts rose ended.written.quiet) refl)))
-run_cause setup recorded before after status.Memory can some_memory ended = absurd (some_memory refl)
-run_cause setup recorded before after other can some_memory never = absurd never
+run_cause laws setup recorded before after status.Memory can some_memory ended = absurd (some_memory refl)
+run_cause laws setup recorded before after other can some_memory never = absurd never
 
-module _ (words : List (String Global)) (seed : ℕ) (input input' : Stream) (before after : Outside) (tells : IsTold input)
+module _ (laws : CourseLaws) (words : List (String Global)) (seed : ℕ) (input input' : Stream) (before after : Outside) (tells : IsTold input)
     (can : CanFail before) where
   -- what follows a text that was read to its end
   read_so : (bytes : List ℕ) (end : End) → IsLive words → WasRead 16_777_216 input input' bytes → ReadCauses input input' before after end
@@ -150,7 +155,7 @@ module _ (words : List (String Global)) (seed : ℕ) (input input' : Stream) (be
       → LiveCauses words input input' before after (end_of end)
   runs_so end some_memory runs =
       set_up_so runs.options runs.setup (end_of end) runs.set_up
-      (run_cause runs.setup runs.options.«record» before after end can some_memory runs.ends)
+      (run_cause laws runs.setup runs.options.«record» before after end can some_memory runs.ends)
 
   live_cause : (end : Status) → end ≢ status.Memory → EndsLive words seed input input' before after end
       → LiveCauses words input input' before after (end_of end)
@@ -170,11 +175,11 @@ module _ (words : List (String Global)) (seed : ℕ) (input input' : Stream) (be
   live_cause end some_memory runs = runs_so end some_memory runs
 
 -- one live run
-pub one_live : HasOneLiveFaultLine → (words : List (String Global)) (seed : ℕ) (input input' : Stream) (before after : Outside)
+pub one_live : CourseLaws → HasOneLiveFaultLine → (words : List (String Global)) (seed : ℕ) (input input' : Stream) (before after : Outside)
     (one other : Status) → IsTold input → CanFail before → one ≢ status.Memory → other ≢ status.Memory
     → EndsLive words seed input input' before after one → EndsLive words seed input input' before after other
     → end_of one ≡ end_of other
-one_live once words seed input input' before after one other tells can not_one not_other ends ends' =
+one_live laws once words seed input input' before after one other tells can not_one not_other ends ends' =
     one_live_end once words input input' before after tells.told (end_of one) (end_of other)
-    (live_cause words seed input input' before after tells can one not_one ends)
-    (live_cause words seed input input' before after tells can other not_other ends')
+    (live_cause laws words seed input input' before after tells can one not_one ends)
+    (live_cause laws words seed input input' before after tells can other not_other ends')

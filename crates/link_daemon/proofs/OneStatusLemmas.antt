@@ -15,6 +15,7 @@ use Rattle.link_commands.specs.declared.status.Status.{Status}
 use Rattle.link_commands.specs.declared.status.Status.TheVariants as status
 use Rattle.link_commands.specs.Statuses.{Command, Stream, ReadsText, ReadsFault, EndsBy, EndsInput, EndsLoad, replay_command, decode_command, filter_command}
 use Rattle.link_daemon.specs.OneStatus.{CanFail, End, end_of, IsTold, HasOneStatus, HasOneFaultLine, HasOneLiveFaultLine}
+use Rattle.link_daemon.proofs.CourseLemmas.{CourseLaws}
 use Rattle.link_daemon.proofs.CauseLemmas.{First, here, later, IsOne, first_is_one, rose_and_quiet, one_read, more_and_whole}
 use Rattle.link_commands.proofs.HexLineLemmas.{bad_and_decoded}
 use Rattle.link_commands.proofs.FilterLemmas.{bad_and_filtered}
@@ -165,7 +166,7 @@ one_load words out out' one other counts not_one not_other ends ends' =
 
 -- ---- the program
 
-module _ (law : IsFaultOnce) (live_law : HasOneLiveFaultLine) (words : List (String Global)) (seed : ℕ) (input input' : Stream)
+module _ (courses : CourseLaws) (law : IsFaultOnce) (live_law : HasOneLiveFaultLine) (words : List (String Global)) (seed : ℕ) (input input' : Stream)
     (before after : Outside) (one other : Status) (tells : IsTold input) (can : CanFail before) (not_one : one ≢ status.Memory)
     (not_other : other ≢ status.Memory) where
   one_end : (found : Option CommandName) → EndsNamed found words seed input input' before after one
@@ -181,9 +182,9 @@ module _ (law : IsFaultOnce) (live_law : HasOneLiveFaultLine) (words : List (Str
       can.out_counts not_one not_other ends ends'
   one_end (Some name.Load) (ends, unread, aside) (ends', unread', aside') =
       one_load words before.out after.out one other can.out_counts not_one not_other ends ends'
-  one_end (Some name.Live) ends ends' = one_live live_law words seed input input' before after one other tells can not_one not_other ends ends'
+  one_end (Some name.Live) ends ends' = one_live courses live_law words seed input input' before after one other tells can not_one not_other ends ends'
   one_end None ends ends' = ap end_of (ends.words_at_fault ∙ sym ends'.words_at_fault)
 
-pub one_status : IsFaultOnce → HasOneLiveFaultLine → HasOneStatus
-one_status law live_law words seed input input' before after one other tells can not_one not_other =
-    one_end law live_law words seed input input' before after one other tells can not_one not_other (named_by words)
+pub one_status : CourseLaws → IsFaultOnce → HasOneLiveFaultLine → HasOneStatus
+one_status courses law live_law words seed input input' before after one other tells can not_one not_other =
+    one_end courses law live_law words seed input input' before after one other tells can not_one not_other (named_by words)

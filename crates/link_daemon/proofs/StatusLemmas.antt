@@ -1,11 +1,10 @@
 -- How the program ends, from how the command ends that its words name.
-use Rattle.std.proofs.Common.{◌≡◌, List, ℕ, ℤ, Option, Some, None, Global, refl, sym, subst}
+use Rattle.std.proofs.Common.{◌≡◌, List, ℕ, ℤ, Option, Some, Global, refl, subst}
 use Rattle.std.specs.declared.string.String.{String}
 use Rattle.link_words.specs.CommandNames.{BeginsBy, named_by}
 use Rattle.link_words.proofs.NameLemmas.{begun_is}
 use Rattle.link_words.specs.declared.command_name.CommandName.{CommandName}
-use Rattle.link_words.specs.declared.command_name.CommandName.TheVariants as name
-use Rattle.link_commands.specs.Statuses.{Stream, EndsReplay, EndsDecode, EndsLoad}
+use Rattle.link_commands.specs.Statuses.{Stream, IfNothingWritten}
 use Rattle.link_commands.specs.declared.status.Status.{Status}
 use Rattle.link_commands.specs.declared.status.Status.TheVariants as status
 use Rattle.link_live.specs.Report.{ReportValue}
@@ -31,3 +30,7 @@ writing port audio late report out = record { port = port; audio = audio; late =
 pub aside : (port : PortSeen) (audio : AudioSeen) (late : Option ℤ) (report : ReportValue) (out out' : Stream)
     → IsAside (writing port audio late report out) (writing port audio late report out')
 aside port audio late report out out' = record { port_stays = refl; audio_stays = refl; late_stays = refl; report_stays = refl }
+
+-- where memory was wanting nothing is written
+pub none_for_memory : (P : Type 0) (end : Status) → end ≡ status.Memory → IfNothingWritten end P → P
+none_for_memory P end is holds = subst (λ (how : Status). IfNothingWritten how P) is holds

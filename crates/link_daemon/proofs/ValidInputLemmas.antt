@@ -1,5 +1,5 @@
 -- A valid input is answered by its output, unless there is no memory.
-use Rattle.std.proofs.Common.{◌≡◌, ◌⊎◌, inl, inr, ◌++◌, ◌<◌, ◌≤◌, length, List, [], ℕ, Option, Some, None, refl, subst, ap, arith, length-append}
+use Rattle.std.proofs.Common.{◌≡◌, ◌⊎◌, inl, inr, ◌++◌, ◌<◌, ◌≤◌, length, true, List, [], ℕ, Option, Some, None, refl, sym, subst, ap, ◌∙◌, true≢false, arith, length-append}
 use Rattle.std.specs.declared.alloc.Global.{Global}
 use Rattle.std.specs.declared.string.String.{String}
 use Rattle.lk_outside.specs.Faults.{Rose}
@@ -7,6 +7,7 @@ use Rattle.lk_outside.specs.Source.{Takes}
 use Rattle.lk_outside.specs.Transfer.{TakesOver}
 use Rattle.link_text.specs.Lines.{lines_of}
 use Rattle.link_text.specs.LiveScript.{IsSomeLiveScript, commands_told}
+use Rattle.link_live.specs.Journal.{has_ended}
 use Rattle.link_daemon.specs.LiveEnds.{EndsLive, ReadsLiveFault, ReadsTooMany}
 use Rattle.link_words.specs.LiveWords.{IsLive}
 use Rattle.link_words.specs.LoadWords.{IsLoad}
@@ -19,6 +20,7 @@ use Rattle.link_words.specs.declared.command_name.CommandName.{CommandName}
 use Rattle.link_words.specs.declared.command_name.CommandName.TheVariants as name
 use Rattle.link_daemon.specs.ValidInput.{IsValidFor, IsValidLive, CompletesLive, CompletesLoad, CompletesValid, CompleteValid}
 use Rattle.link_daemon.proofs.CauseLemmas.{told_is_read}
+use Rattle.link_daemon.proofs.CourseLemmas.{CourseLaws, audio_met, events_met, port_met}
 use Rattle.link_daemon.proofs.StatusLemmas.{as_named}
 use Rattle.link_daemon.proofs.OneStatusLemmas.{AreExclusive, replay_exclusive, decode_exclusive, filter_exclusive}
 
@@ -108,14 +110,13 @@ valid_and_live_fault input input' line valid faulty =
     let same : valid.bytes ≡ faulty.bytes = told_is_read 16_777_216 input input' valid.bytes faulty.bytes valid.told faulty.read in
     faulty.fault.none (subst (λ (text : List ℕ). IsSomeLiveScript (lines_of text)) same valid.script)
 
-module _ (words : List (String Global)) (seed : ℕ) (input input' : Stream) (before after : Outside) (live : IsLive words)
-    (valid : IsValidLive input) (reads : Rose input.faults input'.faults → ⊥) (posts : Rose before.port.faults after.port.faults → ⊥)
-    (plays : Rose before.audio.faults after.audio.faults → ⊥) (writes : Rose before.out.faults after.out.faults → ⊥) where
-  live_ends : (end : Status) → EndsLive words seed input input' before after end
-      → (end ≡ status.Done) ⊎ ((end ≡ status.Memory) ⊎ (end ≡ status.Events))
+module _ (laws : CourseLaws) (words : List (String Global)) (seed : ℕ) (input input' : Stream) (before after : Outside) (live : IsLive words)
+    (valid : IsValidLive input) (fits : has_ended after.report.events ≡ true) (reads : Rose input.faults input'.faults → ⊥)
+    (posts : Rose before.port.faults after.port.faults → ⊥) (plays : Rose before.audio.faults after.audio.faults → ⊥)
+    (writes : Rose before.out.faults after.out.faults → ⊥) where
+  live_ends : (end : Status) → EndsLive words seed input input' before after end → (end ≡ status.Done) ⊎ (end ≡ status.Memory)
   live_ends status.Done ends = inl refl
-  live_ends status.Memory ends = inr (inl refl)
-  live_ends status.Events ends = inr (inr refl)
+  live_ends status.Memory ends = inr refl
   live_ends status.Words (other, unread, not_begun) = absurd (other live)
   live_ends status.Input (live', (rose, few), not_begun) = absurd (reads rose)
   live_ends (status.TooLong limit) (live', (same_limit, over, quiet), not_begun) =
@@ -123,14 +124,15 @@ module _ (words : List (String Global)) (seed : ℕ) (input input' : Stream) (be
   live_ends (status.TooMany limit) (live', (same_limit, many), not_begun) = absurd (valid_and_many input input' valid many)
   live_ends (status.Script g line reason) (live', (same_grammar, faulty), not_begun) =
       absurd (valid_and_live_fault input input' line valid faulty)
-  live_ends status.Port runs = absurd (posts runs.ends.run)
-  live_ends status.Audio runs = absurd (plays runs.ends.run.1)
+  live_ends status.Port runs = absurd (posts (port_met laws runs.ends.run))
+  live_ends status.Audio runs = absurd (plays (audio_met laws runs.ends.run).1)
+  live_ends status.Events runs = absurd (true≢false (sym fits ∙ (events_met laws runs.ends.run).2))
   live_ends status.Sink runs = absurd (writes runs.ends.written.rose)
 
-completes_live : CompletesLive
-completes_live words seed input input' before after end live valid reads posts plays writes ends =
-    live_ends words seed input input' before after live valid reads posts plays writes end
+completes_live : CourseLaws → CompletesLive
+completes_live laws words seed input input' before after end live valid fits reads posts plays writes ends =
+    live_ends laws words seed input input' before after live valid fits reads posts plays writes end
     (as_named words name.Live seed input input' before after end live.0 ends)
 
-pub complete_valid : CompleteValid
-complete_valid = (completes_replay, (completes_decode, (completes_filter, (completes_load, completes_live))))
+pub complete_valid : CourseLaws → CompleteValid
+complete_valid laws = (completes_replay, (completes_decode, (completes_filter, (completes_load, completes_live laws))))

@@ -1,8 +1,9 @@
 -- A valid input is answered by its output, unless there is no memory.
-use Rattle.std.specs.Prelude.{◌≡◌, ◌≤◌, ◌⊎◌, ℕ, List, length, Some}
+use Rattle.std.specs.Prelude.{◌≡◌, ◌≤◌, ◌⊎◌, ℕ, true, List, length, Some}
 use Rattle.std.specs.declared.alloc.Global.{Global}
 use Rattle.std.specs.declared.string.String.{String}
 use Rattle.lk_outside.specs.Faults.{Rose}
+use Rattle.link_live.specs.Journal.{has_ended}
 use Rattle.link_text.specs.Lines.{lines_of}
 use Rattle.link_text.specs.LiveScript.{IsSomeLiveScript, commands_told}
 use Rattle.link_words.specs.LoadWords.{IsLoad}
@@ -49,16 +50,16 @@ pub record IsValidLive (input : Stream) : Type 0 where
   pub few : commands_told bytes ≤ 4_096
   pub script : IsSomeLiveScript (lines_of bytes)
 
--- Where the words are those of a live run, the input is valid and no count rose, all is done, or there was no memory, or the journal was
--- full.
+-- Where the words are those of a live run, the input is valid, no count rose, and all events that were offered found room in the journal,
+-- the end last (where one finds none the journal has no end), all is done, or there was no memory.
 abbrev pub CompletesLive : Type 0
 CompletesLive =
     (words : List (String Global)) (seed : ℕ) (input input' : Stream) (before after : Outside) (end : Status)
-    → IsLive words → IsValidLive input
+    → IsLive words → IsValidLive input → has_ended after.report.events ≡ true
     → (Rose input.faults input'.faults → ⊥) → (Rose before.port.faults after.port.faults → ⊥)
     → (Rose before.audio.faults after.audio.faults → ⊥) → (Rose before.out.faults after.out.faults → ⊥)
     → Ends words seed input input' before after end
-    → (end ≡ status.Done) ⊎ ((end ≡ status.Memory) ⊎ (end ≡ status.Events))
+    → (end ≡ status.Done) ⊎ (end ≡ status.Memory)
 
 abbrev pub CompleteValid : Type 0
 CompleteValid =

@@ -3,6 +3,7 @@
 ghost use Rattle.link_daemon.specs.OneStatus.{HasOneStatus, HaveOneFaultLine};
 ghost use Rattle.link_daemon.specs.ValidInput.{CompleteValid};
 
+use link_live::ends_tell_courses;
 use link_text::{one_live_script, one_script};
 
 /// The causes of two statuses never hold together: what a run did names its status, with the line at fault. Want of memory is the
@@ -10,9 +11,10 @@ use link_text::{one_live_script, one_script};
 pub fn one_status()
     ensures { HasOneStatus }
 {
-    // Laws, for the proof: a script has one first line at fault.
+    // Laws, for the proof: a script has one first line at fault, and the end of a live run tells what it met.
     one_script();
     one_live_script();
+    ends_tell_courses();
 }
 
 /// The first line at fault of a script of either kind, and of a text of datagrams or of pairs, is one line.
@@ -24,8 +26,11 @@ pub fn one_fault_line()
     one_live_script();
 }
 
-/// A run of a command over a valid input, or of a load, is done, or there was no memory, unless a count of failures rose. A live run may
-/// also end with a full journal.
+/// A run of a command over a valid input, or of a load, is done, or there was no memory, unless a count of failures rose; so is a live run
+/// whose events found room in the journal, the end last.
 pub fn valid_is_done()
     ensures { CompleteValid }
-{}
+{
+    // A law, for the proof: the end of a live run tells what it met.
+    ends_tell_courses();
+}

@@ -71,6 +71,10 @@ pub fn live_main<
     // No object is called, or the input alone.
     ensures untouched { result ≡ Status.Words → input.new ≡ input.old }
     ensures not_begun { IfNotBegun result ((port.new ≡ port.old) × (audio.new ≡ audio.old) × (pace.new ≡ pace.old) × (out.new ≡ out.old)) }
+
+    // Memory was wanting before a run was begun: one that was begun tells its opening state. The pace may have been asked for a moment.
+    ensures unbegun { result ≡ Status.Memory → report.new.published.items ≡ []
+        → (port.new ≡ port.old) × (audio.new ≡ audio.old) × (out.new ≡ out.old) }
 {
     report.clear();
     let options = match live_options(alloc, words) {
@@ -135,6 +139,8 @@ fn run_script<P: Port + Send, A: Audio + Send, T: Pace + Send, K: Sink, R: Threa
         (outside_of P.contents P.bound P.faults A.contents A.faults T.late K.written K.faults port.old audio.old pace.old out.old (report_value report.old))
         (outside_of P.contents P.bound P.faults A.contents A.faults T.late K.written K.faults port.new audio.new pace.new out.new (report_value report.new))
         result }
+    ensures unbegun { result ≡ Status.Memory → report.new.published.items ≡ []
+        → (port.new ≡ port.old) × (audio.new ≡ audio.old) × (out.new ≡ out.old) }
 {
     let now = pace.until(0);
     let config = config_of(seed, &mut script);

@@ -1,6 +1,6 @@
 //! The top call: the command that the first word names.
 
-ghost use Rattle.std.specs.Prelude.{◌≡◌};
+ghost use Rattle.std.specs.Prelude.{◌≡◌, []};
 ghost use Rattle.link_daemon.specs.Ends.{Ends};
 ghost use Rattle.link_daemon.specs.LiveEnds.{IfNotBegun};
 ghost use Rattle.link_words.specs.LiveWords.{BeginsLive};
@@ -49,6 +49,9 @@ pub fn link_main<
     // No object is called, or just those of the command.
     ensures untouched { result ≡ Status.Words → (input.new ≡ input.old) × (pace.new ≡ pace.old) × (out.new ≡ out.old) }
     ensures not_begun { IfNotBegun result ((port.new ≡ port.old) × (audio.new ≡ audio.old) × (pace.new ≡ pace.old) × (out.new ≡ out.old)) }
+    // Memory was wanting before a run was begun: one that was begun tells its opening state.
+    ensures unbegun { result ≡ Status.Memory → report.new.published.items ≡ []
+        → (port.new ≡ port.old) × (audio.new ≡ audio.old) × (out.new ≡ out.old) }
     ensures unwritten { (BeginsLive words.now → ⊥) → IfNothingWritten result (out.new ≡ out.old) }
     ensures load_reads_nothing { BeginsLoad words.now → input.new ≡ input.old }
     ensures aside { (BeginsLive words.now → ⊥)

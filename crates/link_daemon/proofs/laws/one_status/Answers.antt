@@ -3,4 +3,7 @@ use Rattle.link_daemon.proofs.OneStatusLemmas.{one_status}
 use Rattle.link_daemon.proofs.laws.one_status.Goals as goal
 
 pub returns : goal.returns
-returns c = one_status c.one_script.ensures.fault (one_live_fault c.one_live_script.ensures.fault)
+returns c =
+    let laws = c.ends_tell_courses.ensures in
+    one_status (record { well = laws.well; events = laws.events; audio = laws.audio; port = laws.port })
+    c.one_script.ensures.fault (one_live_fault c.one_live_script.ensures.fault)

@@ -8,6 +8,7 @@ use Rattle.link_text.specs.declared.live_script.AppCommand.{AppCommand}
 use Rattle.link_text.specs.declared.live_script.BlockCommand.{BlockCommand}
 use Rattle.link_live.specs.LiveRun.{told_of}
 use Rattle.link_live.specs.Report.{ReportValue, report_value}
+use Rattle.link_daemon.proofs.CourseLemmas.{has_published}
 use Rattle.link_daemon.proofs.LiveLemmas.{moment_fits, quantum_fits, replays, run_of_script, where_done, where_failed}
 use Rattle.link_daemon.proofs.live.run_script.Goals as goal
 
@@ -55,4 +56,7 @@ returns g c =
           c.requires.script.2 c.config_of-config.ensures.config c.ranges.seed.fits c.config_of-config.ensures.visible c.until-now.ensures.answer.range given.0
           c.live_run-run.ensures.fitting (rw c.deref.ensures.value at say) kept)
           c.status_of.ensures;
+      unbegun = λ memory none.
+          absurd (has_published c.live_run-run.result.end c.live_run-run.ensures.ends
+          (sym (ap (λ (report : ReportValue). report.published) c.keep.ensures) ∙ none));
     }
