@@ -3,8 +3,9 @@
 
 Each lists the other as a destination; one changes the tempo, and the audio thread of the other starts to play. Looked at are, of each run,
 its status, its clicks, what else it tells on standard error, and what its summary counts; its record, which the program and the plain
-reading of checks/node.py replay to what the summary tells; and of both, that what one heard is what the other's replayed record sends, and
-that they end with one tempo, both playing, in the session that both told before one said goodbye.
+reading of checks/node.py replay to what the summary tells; and of both, that each has an id of its own, drawn from a seed of its own, that
+what one heard is what the other's replayed record sends, and that they end with one tempo, both playing, in the session that both told
+before one said goodbye.
 Further runs: one finds its gate's port taken, one has a destination that the system refuses, one has no `at` command, one counts its
 accents in four microbeats, and one has a command for a block past its last one.
 The last line is 'N passed, N failed'.
@@ -127,6 +128,12 @@ class Run:
         want("the last event", self.lines[-1].split(" ")[0], "end")
         self.sent = [line.split(" ") for line in lines if line.startswith("tx ")]
 
+    def id_and_seed(self):
+        """Those of the node, which the head of the record tells. The id is the first one that the seed gives."""
+        [(name, seed)] = [line.split(" ")[1:3] for line in self.lines if line.startswith("node ")]
+        want("the id", name, node.Ids(int(seed), 1).draw().decode())
+        return name, seed
+
     def gates(self, text):
         return "".join(line + "\n" for line in text.splitlines() if line.startswith(("gate ", "to ")))
 
@@ -181,6 +188,13 @@ def kinds_heard(run, other):
     sent = iter(words[4] for words in other.sent if words[3] == f"127.0.0.1:{run.port}")
     want("what came and was not sent", [digits for digits in heard if digits not in sent][:1], [])
     return {words[0] for words in run.spoken(heard)}
+
+
+def two_ids(one, other):
+    """Neither the ids nor the seeds are the same."""
+    for what, first, second in zip(("id", "seed"), one.id_and_seed(), other.id_and_seed()):
+        if first == second:
+            raise Differs(f"both runs have the {what} {first}")
 
 
 def both_runs(one, other):
@@ -274,6 +288,7 @@ def main(program):
     checks = [
         ("the run that changes the tempo", each_run, one, 1, 0),
         ("the run that starts to play", each_run, other, 0, 1),
+        ("the ids of both runs", two_ids, one, other),
         ("both runs", both_runs, one, other),
         ("a run whose port is taken", taken_port, program),
         ("a run with a destination that the system refuses", refused, program),

@@ -61,7 +61,7 @@ struct Case {
 const CASES: &[Case] = &[
     Case {
         words: &["replay"],
-        input: "=",
+        input: "=rx 1000100 0 127.0.0.1:20808 @\n",
         bad_read: 1,
         bad_write: 0,
         status: 5,
@@ -85,7 +85,7 @@ const CASES: &[Case] = &[
     },
     Case {
         words: &["replay"],
-        input: "=",
+        input: "=rx 1000100 0 127.0.0.1:20808 @\n",
         bad_read: 0,
         bad_write: 1,
         status: 7,

@@ -1,6 +1,7 @@
 //! The command `live`: whole runs through the top call, over objects in memory.
 
 mod blocks;
+mod counts;
 mod events;
 mod failed;
 mod flags;

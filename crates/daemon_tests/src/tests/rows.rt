@@ -164,6 +164,15 @@ const ROWS: &[Row] = &[
         status: 0,
         line: 0,
     },
+    // A clock that goes back: the broadcast of its later moment isn't due again.
+    Row {
+        words: &["replay"],
+        input: "=to 127.0.0.1:20808\ntick 999000\ntick 5\n",
+        output: "%tx 999000 0 127.0.0.1:20808 5f617364705f7601010500005152535455565758746d6c6e00000018000000000007a1200000000000000000000000000000000073657373000000085152535455565758737473740000001100000000000000000000000000000000006d657034000000067f0000015149\n\
+            done 2 1 1\n",
+        status: 0,
+        line: 0,
+    },
     // A tempo of 250000 from half a second on, then the first one again; the response tells the session's timeline, whose beat
     // origin has grown twice.
     Row {

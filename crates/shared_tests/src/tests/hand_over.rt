@@ -14,10 +14,16 @@ use std::thread::{Threads, yield_now};
 use triple_buffer::Triple;
 
 /// How many rows one thread makes beside another that reads them.
-const ROWS: u64 = 40_000;
+const ROWS: u64 = 10_000;
 
-/// After how many rows it waits until the last one was read.
-const PHASE: u64 = 4_000;
+/// How often the other one reads at least.
+const READS: u64 = 10_000;
+
+/// After how many rows the first one waits until the last one was read.
+const PHASE: u64 = 1_000;
+
+/// How often rows are handed over so, of each number of words and by each cell.
+const TIMES: u32 = 4;
 
 /// How often a thread looks for what another is to do. It lets others run after each look.
 const LOOKS: u64 = 10_000_000;
@@ -86,7 +92,7 @@ fn publish_all<C: StateCell<W>, const W: usize>(
     writer
 }
 
-/// Reads until the last row, and tells the other thread each number.
+/// Reads that often, and until the last row, and tells the other thread each number.
 fn read_all<C: StateCell<W>, const W: usize>(
     cell: &C,
     way: &C::Way,
@@ -103,7 +109,7 @@ fn read_all<C: StateCell<W>, const W: usize>(
     };
     let mut newest = 0;
     meet(marks);
-    for _read in 0..LOOKS {
+    for read in 1..LOOKS {
         let Read { number, row } = cell.read(way, &mut reader);
         found.whole = found.whole && number >= newest && row.iter().all(|word| *word == number);
         if number != newest {
@@ -113,7 +119,7 @@ fn read_all<C: StateCell<W>, const W: usize>(
             yield_now();
         }
         newest = number;
-        if number >= ROWS {
+        if number >= ROWS && read >= READS {
             break;
         }
     }
@@ -199,9 +205,11 @@ fn check_threads<R: Threads + Wait + Sync + Abort, const W: usize>(
 fn rows_that_one_thread_makes_are_read_whole_and_in_order_by_another(
     rt: HostRuntime,
 ) -> Result<(), Fail> {
-    check_threads::<HostRuntime, 1>(&rt, rt.alloc())?;
-    check_threads::<HostRuntime, 9>(&rt, rt.alloc())?;
-    check_threads::<HostRuntime, 11>(&rt, rt.alloc())?;
-    check_threads::<HostRuntime, 15>(&rt, rt.alloc())?;
+    for _ in 0..TIMES {
+        check_threads::<HostRuntime, 1>(&rt, rt.alloc())?;
+        check_threads::<HostRuntime, 9>(&rt, rt.alloc())?;
+        check_threads::<HostRuntime, 11>(&rt, rt.alloc())?;
+        check_threads::<HostRuntime, 15>(&rt, rt.alloc())?;
+    }
     Ok(())
 }

@@ -4,7 +4,7 @@ ghost use Rattle.std.specs.Prelude.{◌≡◌, ◌<◌, length, IfOk};
 ghost use Rattle.link_adapters.specs.Sockets.{locals_of};
 
 use super::devices::moment_by;
-use link_adapters::{About, ClickAudio, ClockPace, HostClock, UdpPort};
+use link_adapters::{About, ClickAudio, ClockPace, HostClock, UdpPort, address_of};
 use lk_base::{Clicks, Endpoint, Gate};
 use lk_outside::{Arrival, Audio, Bound, Next, Pace, Played, Port, Posted};
 use std::alloc::Global;
@@ -14,14 +14,19 @@ use std::net::{Ipv4Addr, Net, SocketAddr, UdpSocket};
 use std::process::Abort;
 use std::sync::Wait;
 use std::test::Fail;
-use std::thread::join;
-use std::time::Clock;
+use std::thread::{join, sleep};
+use std::time::{Clock, Duration};
 
 /// 127.0.0.1
 const HERE: u32 = 0x7f00_0001;
 
 /// How long a datagram is waited for at most, in microseconds.
 const PATIENCE: i64 = 5_000_000;
+
+/// Until when a port waits for a datagram that comes during the wait, and before when it has to be there, in microseconds.
+const END: i64 = 40_000_000;
+
+const SOON: i64 = 20_000_000;
 
 /// What is told of a run where a port is bound.
 const ABOUT: About = About {
@@ -379,6 +384,43 @@ fn idle<R: Net + Clock + Wait + Eprint + Copy + Drop>(port: &mut GatedPort<R>, u
     match port.receive(until) {
         Arrival::Idle(now) => now,
         _ => i64::MIN,
+    }
+}
+
+#[test]
+fn a_datagram_ends_the_wait_in_which_it_comes(rt: HostRuntime) -> Result<(), Fail> {
+    let ends = ends(&rt)?;
+    let clock = HostClock::started(&rt)?;
+    let mut port = idle_port(rt, rt.alloc(), clock, &ends)?;
+    let to = address_of(at(&ends, 1));
+    let (came, sent) = join(
+        &rt,
+        move || is_soon(&port.receive(END)),
+        move || is_sent_later(&rt, to),
+    );
+    assert!(rt; came && sent);
+    Ok(())
+}
+
+// Whether it is the datagram that is sent below, on the gate 1, and came long before the end.
+fn is_soon(arrival: &Arrival) -> bool {
+    match arrival {
+        Arrival::Datagram {
+            gate,
+            bytes,
+            now,
+            ..
+        } => *gate == Gate(1) && bytes.as_slice() == b"a".as_slice() && *now < SOON,
+        _ => false,
+    }
+}
+
+// Sends a datagram half a second later, by when the other thread waits for it.
+fn is_sent_later<R: Net + Clock>(rt: &R, to: SocketAddr) -> bool {
+    sleep(rt, Duration::from_millis(500));
+    match UdpSocket::bind(rt, SocketAddr::from((Ipv4Addr::LOCALHOST, 0))) {
+        Ok(socket) => socket.send_to(b"a", to).is_ok(),
+        Err(_) => false,
     }
 }
 

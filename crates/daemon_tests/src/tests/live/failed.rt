@@ -1,7 +1,8 @@
 //! Runs in which calls fail, and which status tells it where several do.
 //!
 //! The script has one commit and the node three destinations, so a run has one bind, three sends and more at its first tick, and an event
-//! each for that tick, for the commit and for the end. Three idle arrivals come, and the device has three blocks.
+//! each for that tick, for the commit and for the end. Two idle arrivals come, and the device has three blocks. What two causes leave is
+//! the lesser of what each leaves, count by count.
 
 ghost use Rattle.std.specs.Prelude.{All, IfOk};
 ghost use Rattle.lk_outside.specs.Coming.{IsToCome};
@@ -9,7 +10,10 @@ ghost use Rattle.lk_outside.specs.Coming.{IsToCome};
 use super::blocks::blocks_of;
 use super::events::count_of;
 use super::sides::Sides;
+use client_state::Commit;
 use link_live::Report;
+use link_node::Event;
+use lk_base::Timeline;
 use lk_outside::{
     Arrival, BIND, BytesSink, BytesSource, ListAudio, ListPort, NEXT, PLAY, READ, RECEIVE, SEND,
     WRITE,
@@ -36,7 +40,11 @@ struct Cause {
     /// How many commands more the script has.
     looks: u32,
     status: u8,
+    leaves: Counts,
 }
+
+/// How many there are of a run: ticks, commits and ends in the journal; reads and plays; captures and commits made; datagrams posted.
+type Counts = [usize; 8];
 
 const CAUSES: &[Cause] = &[
     Cause {
@@ -48,6 +56,7 @@ const CAUSES: &[Cause] = &[
         line: "",
         looks: 0,
         status: 0,
+        leaves: [1, 1, 1, 3, 3, 1, 1, 6],
     },
     Cause {
         of_port: &[(BIND, 1)],
@@ -58,6 +67,7 @@ const CAUSES: &[Cause] = &[
         line: "",
         looks: 0,
         status: 3,
+        leaves: [1, 1, 1, 3, 3, 1, 1, 0],
     },
     Cause {
         of_port: &[(BIND, 2)],
@@ -68,6 +78,7 @@ const CAUSES: &[Cause] = &[
         line: "",
         looks: 0,
         status: 0,
+        leaves: [1, 1, 1, 3, 3, 1, 1, 6],
     },
     Cause {
         of_port: &[(BIND, 3)],
@@ -78,6 +89,7 @@ const CAUSES: &[Cause] = &[
         line: "",
         looks: 0,
         status: 0,
+        leaves: [1, 1, 1, 3, 3, 1, 1, 6],
     },
     Cause {
         of_port: &[(RECEIVE, 1)],
@@ -88,6 +100,7 @@ const CAUSES: &[Cause] = &[
         line: "",
         looks: 0,
         status: 3,
+        leaves: [1, 1, 1, 3, 3, 1, 1, 3],
     },
     Cause {
         of_port: &[(RECEIVE, 2)],
@@ -98,6 +111,7 @@ const CAUSES: &[Cause] = &[
         line: "",
         looks: 0,
         status: 3,
+        leaves: [1, 1, 1, 3, 3, 1, 1, 3],
     },
     Cause {
         of_port: &[(RECEIVE, 3)],
@@ -108,6 +122,7 @@ const CAUSES: &[Cause] = &[
         line: "",
         looks: 0,
         status: 3,
+        leaves: [1, 1, 1, 3, 3, 1, 1, 3],
     },
     Cause {
         of_port: &[(SEND, 1)],
@@ -118,6 +133,7 @@ const CAUSES: &[Cause] = &[
         line: "",
         looks: 0,
         status: 3,
+        leaves: [1, 1, 1, 3, 3, 1, 1, 0],
     },
     Cause {
         of_port: &[(SEND, 2)],
@@ -128,6 +144,7 @@ const CAUSES: &[Cause] = &[
         line: "",
         looks: 0,
         status: 3,
+        leaves: [1, 1, 1, 3, 3, 1, 1, 1],
     },
     Cause {
         of_port: &[(SEND, 3)],
@@ -138,6 +155,7 @@ const CAUSES: &[Cause] = &[
         line: "",
         looks: 0,
         status: 3,
+        leaves: [1, 1, 1, 3, 3, 1, 1, 2],
     },
     Cause {
         of_port: &[],
@@ -148,6 +166,7 @@ const CAUSES: &[Cause] = &[
         line: "",
         looks: 0,
         status: 4,
+        leaves: [1, 1, 1, 0, 0, 1, 1, 6],
     },
     Cause {
         of_port: &[],
@@ -158,6 +177,7 @@ const CAUSES: &[Cause] = &[
         line: "",
         looks: 0,
         status: 4,
+        leaves: [1, 1, 1, 1, 1, 1, 1, 6],
     },
     Cause {
         of_port: &[],
@@ -168,6 +188,7 @@ const CAUSES: &[Cause] = &[
         line: "",
         looks: 0,
         status: 4,
+        leaves: [1, 1, 1, 2, 2, 1, 1, 6],
     },
     Cause {
         of_port: &[],
@@ -178,6 +199,7 @@ const CAUSES: &[Cause] = &[
         line: "",
         looks: 0,
         status: 4,
+        leaves: [1, 1, 1, 1, 0, 1, 1, 6],
     },
     Cause {
         of_port: &[],
@@ -188,6 +210,7 @@ const CAUSES: &[Cause] = &[
         line: "",
         looks: 0,
         status: 4,
+        leaves: [1, 1, 1, 2, 1, 1, 1, 6],
     },
     Cause {
         of_port: &[],
@@ -198,6 +221,7 @@ const CAUSES: &[Cause] = &[
         line: "",
         looks: 0,
         status: 4,
+        leaves: [1, 1, 1, 3, 2, 1, 1, 6],
     },
     Cause {
         of_port: &[],
@@ -208,6 +232,7 @@ const CAUSES: &[Cause] = &[
         line: "",
         looks: 0,
         status: 5,
+        leaves: [0; 8],
     },
     Cause {
         of_port: &[],
@@ -218,6 +243,7 @@ const CAUSES: &[Cause] = &[
         line: "",
         looks: 0,
         status: 5,
+        leaves: [0; 8],
     },
     Cause {
         of_port: &[],
@@ -228,6 +254,7 @@ const CAUSES: &[Cause] = &[
         line: "",
         looks: 0,
         status: 5,
+        leaves: [0; 8],
     },
     Cause {
         of_port: &[],
@@ -238,6 +265,7 @@ const CAUSES: &[Cause] = &[
         line: "",
         looks: 0,
         status: 7,
+        leaves: [1, 1, 1, 3, 3, 1, 1, 6],
     },
     Cause {
         of_port: &[],
@@ -248,6 +276,7 @@ const CAUSES: &[Cause] = &[
         line: "",
         looks: 0,
         status: 7,
+        leaves: [1, 1, 1, 3, 3, 1, 1, 6],
     },
     Cause {
         of_port: &[],
@@ -258,6 +287,7 @@ const CAUSES: &[Cause] = &[
         line: "",
         looks: 0,
         status: 7,
+        leaves: [1, 1, 1, 3, 3, 1, 1, 6],
     },
     Cause {
         of_port: &[],
@@ -268,6 +298,7 @@ const CAUSES: &[Cause] = &[
         line: "",
         looks: 0,
         status: 6,
+        leaves: [1, 0, 0, 3, 3, 1, 1, 3],
     },
     Cause {
         of_port: &[],
@@ -278,6 +309,7 @@ const CAUSES: &[Cause] = &[
         line: "",
         looks: 0,
         status: 6,
+        leaves: [1, 1, 0, 3, 3, 1, 1, 3],
     },
     Cause {
         of_port: &[],
@@ -288,6 +320,7 @@ const CAUSES: &[Cause] = &[
         line: "",
         looks: 0,
         status: 0,
+        leaves: [1, 1, 1, 3, 3, 1, 1, 6],
     },
     Cause {
         of_port: &[],
@@ -298,6 +331,7 @@ const CAUSES: &[Cause] = &[
         line: "",
         looks: 0,
         status: 2,
+        leaves: [0; 8],
     },
     Cause {
         of_port: &[],
@@ -308,6 +342,7 @@ const CAUSES: &[Cause] = &[
         line: "",
         looks: 4096,
         status: 10,
+        leaves: [0; 8],
     },
     Cause {
         of_port: &[],
@@ -318,6 +353,7 @@ const CAUSES: &[Cause] = &[
         line: "at x tempo\n",
         looks: 0,
         status: 8,
+        leaves: [0; 8],
     },
 ];
 
@@ -332,6 +368,7 @@ const ORDER: &[Cause] = &[
         line: "",
         looks: 0,
         status: 2,
+        leaves: [0; 8],
     },
     Cause {
         of_port: &[],
@@ -342,6 +379,7 @@ const ORDER: &[Cause] = &[
         line: "",
         looks: 0,
         status: 5,
+        leaves: [0; 8],
     },
     Cause {
         of_port: &[],
@@ -352,6 +390,7 @@ const ORDER: &[Cause] = &[
         line: "",
         looks: 4096,
         status: 10,
+        leaves: [0; 8],
     },
     Cause {
         of_port: &[],
@@ -362,6 +401,7 @@ const ORDER: &[Cause] = &[
         line: "at x tempo\n",
         looks: 0,
         status: 8,
+        leaves: [0; 8],
     },
     Cause {
         of_port: &[(RECEIVE, 3)],
@@ -372,6 +412,7 @@ const ORDER: &[Cause] = &[
         line: "",
         looks: 0,
         status: 3,
+        leaves: [1, 1, 1, 3, 3, 1, 1, 3],
     },
     Cause {
         of_port: &[],
@@ -382,6 +423,7 @@ const ORDER: &[Cause] = &[
         line: "",
         looks: 0,
         status: 4,
+        leaves: [1, 1, 1, 1, 1, 1, 1, 6],
     },
     Cause {
         of_port: &[],
@@ -392,6 +434,7 @@ const ORDER: &[Cause] = &[
         line: "",
         looks: 0,
         status: 6,
+        leaves: [1, 0, 0, 3, 3, 1, 1, 3],
     },
     Cause {
         of_port: &[],
@@ -402,6 +445,7 @@ const ORDER: &[Cause] = &[
         line: "",
         looks: 0,
         status: 7,
+        leaves: [1, 1, 1, 3, 3, 1, 1, 6],
     },
 ];
 
@@ -415,6 +459,7 @@ const NOTHING: Cause = Cause {
     line: "",
     looks: 0,
     status: 0,
+    leaves: [1, 1, 1, 3, 3, 1, 1, 6],
 };
 
 #[test]
@@ -441,10 +486,12 @@ fn of_two_failures_the_first_in_the_order_is_told(rt: HostRuntime) -> Result<(),
 #[derive(Clone, Copy)]
 struct Outcome {
     status: u8,
-    /// How many bytes were written.
+    /// How many bytes were written, and whether they are the front of a summary.
     written: u64,
-    /// How many commits were taken.
-    commits: usize,
+    is_front: bool,
+    counts: Counts,
+    /// Whether each commit that was taken is the script's.
+    are_own: bool,
 }
 
 // Makes a run in which both are wrong, of which the first is told, and whose commit is held until the port is over.
@@ -471,21 +518,68 @@ fn run_over<R: Threads + Wait + Sync>(
     mut sides: Sides,
 ) -> Result<Outcome, AllocError> {
     let words = ["live", "--events", events];
-    let (status, _port) = sides.run_held(rt, alloc, &words, port)?;
+    let (status, port) = sides.run_held(rt, alloc, &words, port)?;
+    let text = sides.out.bytes();
     Ok(Outcome {
         status: status.number(),
-        written: sides.out.bytes().len() as u64,
-        commits: count_of(&sides.report.events, b'c'),
+        written: text.len() as u64,
+        is_front: SUMMARY.starts_with(text) || text.starts_with(SUMMARY),
+        counts: counts_of(&sides.report, port.posts().len()),
+        are_own: sides.report.events.iter().all(|event| is_own(event)),
     })
 }
 
-// A sink that fails has taken a byte by each write before; and where the port alone fails, a commit is taken all the same.
-fn leaves(first: &Cause, second: &Cause, found: &Outcome) -> bool {
-    match (first.of_sink.first(), first.of_port.first()) {
-        (Some((_, number)), _) => found.written == number.saturating_sub(1),
-        (_, Some(_)) if second.status == 0 => found.commits == 1,
+const SUMMARY: &[u8] = b"# live ";
+
+fn counts_of(report: &Report, posts: usize) -> Counts {
+    let events = &report.events;
+    [
+        count_of(events, b't'),
+        count_of(events, b'c'),
+        count_of(events, b'e'),
+        report.reads.len(),
+        report.plays.len(),
+        report.captures.len(),
+        report.app_commits.len(),
+        posts,
+    ]
+}
+
+// What the command commits. Beat 2 is at 1,000,000, and so half a second of four beats a second before it is beat 0.
+const COMMIT: Commit = Commit {
+    timeline: Some(Timeline {
+        mpb: 250_000,
+        beat: 0,
+        time: 500_000,
+    }),
+    start: None,
+    at: 1_000_000,
+};
+
+fn is_own(event: &Event) -> bool {
+    match event {
+        Event::App { commit, .. } => *commit == COMMIT,
         _ => true,
     }
+}
+
+// There is as much as both causes leave; and a sink that fails has taken a byte by each write before.
+fn leaves(first: &Cause, second: &Cause, found: &Outcome) -> bool {
+    found.counts == lesser(first.leaves, second.leaves)
+        && found.is_front
+        && found.are_own
+        && match first.of_sink.first() {
+            Some((_, number)) => found.written == number.saturating_sub(1),
+            None => true,
+        }
+}
+
+// Count by count the lesser of two.
+fn lesser(mut counts: Counts, others: Counts) -> Counts {
+    for k in 0..8_usize {
+        counts[k] = counts[k].min(others[k]);
+    }
+    counts
 }
 
 // How many events the journal takes.
@@ -507,10 +601,9 @@ fn port_of(alloc: Global, first: &Cause, second: &Cause) -> Result<ListPort, All
 fn idle_arrivals(alloc: Global) -> Result<Vec<Arrival>, AllocError>
     ensures { IfOk result (λ arrivals. All IsToCome arrivals.items) }
 {
-    let mut arrivals = Vec::with_capacity(alloc, 3)?;
+    let mut arrivals = Vec::with_capacity(alloc, 2)?;
     arrivals.push(Arrival::Idle(1))?;
     arrivals.push(Arrival::Idle(2))?;
-    arrivals.push(Arrival::Idle(3))?;
     Ok(arrivals)
 }
 

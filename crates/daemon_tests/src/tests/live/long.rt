@@ -3,6 +3,7 @@
 ghost use Rattle.std.specs.Prelude.{All, IfOk, IfSome};
 ghost use Rattle.lk_outside.specs.Coming.{IsToCome};
 
+use super::counts::miscounted;
 use super::peers::{coming, endpoint_of, fields_of, id_of};
 use super::sides::{quiet_port, sides_over};
 use asdp_messages::{write_alive, write_ping_message, write_pong_message, write_response};
@@ -31,6 +32,12 @@ fn ten_minutes_of_ten_peers_are_taken_whole(rt: HostRuntime) -> Result<(), Fail>
     let mut sides = sides_over(rt.alloc(), SCRIPT, 30_000)?;
     let (status, port) = sides.run_held(&rt, rt.alloc(), &["live"], port)?;
     assert_eq!(rt; status, Status::Done);
+    let found = miscounted(rt.alloc(), port.given(), &sides.report.events);
+    assert_eq!(rt;
+        found,
+        Ok(None),
+        "bytes, how often the port gave them, and how often they were taken"
+    );
     assert!(rt; is_whole(&port, &sides.report));
     Ok(())
 }

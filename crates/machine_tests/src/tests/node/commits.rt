@@ -21,6 +21,15 @@ fn a_commit_s_timeline_is_made_as_of_the_commit_s_own_time(rt: HostRuntime) {
             Step::HasApp(1),
             Step::HasAudio(0),
             Step::Sent(0),
+            // Of two commits at one moment the second begins a microbeat after the first.
+            Step::Open(1, 0, true),
+            // At ghost time 1,000,000 the session's beat is 2, and so is the client's, whose beat 0 is at ghost time 500,000.
+            Step::Commit(Some((250_000, 0, 1_500_000)), None, 1_000_000, 1_000_000),
+            Step::HasTimeline(250_000, 2_000_000, 1_000_000),
+            // The client's beat 0 is at ghost time 0 again, and its beat 2 and a microbeat at 1,000,000 and a half, which is rounded up.
+            Step::Commit(Some((500_000, 0, 1_000_000)), None, 1_000_000, 1_000_000),
+            Step::HasTimeline(500_000, 2_000_001, 1_000_001),
+            Step::HasClient(500_000, 0, 1_000_000),
             // Other beats alone leave the session as it is.
             Step::Open(1, 0, true),
             // The client's beat 3 is at the session's beat 0.

@@ -55,6 +55,22 @@ fn who_is_left_founds_a_session(rt: HostRuntime) {
             Step::HasPeers(1),
             Step::HearBye(1, PEER, 50),
             Step::HasId(DRAWN),
+            // A peer on two gates is lost with its later row, and ghost time begins anew then.
+            Step::Open(2, 0, true),
+            Step::HearPeer(0, PEER, OWN, FIRST, STILL, 1_000_000),
+            Step::HearPeer(1, PEER, OWN, FIRST, STILL, 2_000_000),
+            Step::HearBye(0, PEER, 3_000_000),
+            Step::Tick(7_999_999),
+            Step::HasId(OWN),
+            Step::Tick(8_000_000),
+            Step::HasId(DRAWN),
+            Step::IsIn(DRAWN),
+            // The ghost time was 8,000,000, which is 16 beats after the origin.
+            Step::HasTimeline(500_000, 16_000_000, 0),
+            Step::Shows(500_000, 0, 1_000_000, 0, 9_000_000),
+            // So it is the host time less 9,000,000.
+            Step::HearPing(98, 5, 8_000_250),
+            Step::SentPong(98, DRAWN, 250, 5),
             // Peers are lost at their limits too.
             Step::Open(1, 1, true),
             // Seen for 5 seconds and one more.
