@@ -64,15 +64,16 @@ class Table:
             print(row + end)
 
 
-def run(words, given=os.devnull, taken=os.devnull):
-    """Seconds, seconds of the processor, peak memory in bytes, of a run over two files that ends with status 0."""
+def run(words, given=os.devnull, taken=os.devnull, status=0, said=()):
+    """Seconds, seconds of the processor, peak memory in bytes, of a run over two files that ends with this status, with more said in its
+    environment. What one that is to fail says on standard error isn't shown."""
     with open(given) as source, open(taken, "w") as sink:
         start = time.perf_counter()
-        child = subprocess.Popen(words, stdin=source, stdout=sink)
+        child = subprocess.Popen(words, stdin=source, stdout=sink, stderr=None if status == 0 else subprocess.DEVNULL, env={**os.environ, **dict(said)})
         _, ended, used = os.wait4(child.pid, 0)
         seconds = time.perf_counter() - start
-    if os.waitstatus_to_exitcode(ended) != 0:
-        sys.exit(f"{words} did not end with status 0")
+    if os.waitstatus_to_exitcode(ended) != status:
+        sys.exit(f"{words} did not end with status {status}")
     return seconds, spent(used), used.ru_maxrss * 1024
 
 

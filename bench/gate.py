@@ -1,7 +1,8 @@
 #!/usr/bin/env python3
 """What a whole run of the gate costs from nothing: bench/gate.py [PROCESSORS] runs it on so many processors (2 if not given).
 
-That is `rt ci --anew` where `rt help` speaks of --anew, and else `rt ci`, which proves all from nothing then. It watches the provers that
+That is `rt ci --anew` where `rt help` speaks of --anew, and else `rt ci`, which proves all from nothing then; with four processors and more
+one prover a processor, as in `.ci/run`. It watches the provers that
 rt starts, and puts the figures into docs/GATE.md, between its two marks: how long the run took, and for each crate the seconds of one
 processor that its proof, the proof of its tests and its must-fail edits took, with the check that the edits begin with. Beside each stands
 its budget, from the table that people keep between two other marks of that page. A table of runs, between two marks too, gets a row for
@@ -200,7 +201,12 @@ def measured(processors, budgets, whole):
     words = ["rt", "ci", *["--anew"] * keeps_proofs()]
     began, before = time.monotonic(), resource.getrusage(resource.RUSAGE_CHILDREN)
     run = subprocess.Popen(
-        ["taskset", "-c", f"0-{processors - 1}", *words], cwd=HERE, stdout=subprocess.PIPE, stderr=subprocess.STDOUT, text=True
+        ["taskset", "-c", f"0-{processors - 1}", *words],
+        cwd=HERE,
+        env=os.environ if processors < 4 else {**os.environ, "RT_JOBS": str(processors)},
+        stdout=subprocess.PIPE,
+        stderr=subprocess.STDOUT,
+        text=True,
     )
     watch = Watch(run.pid)
     watch.start()

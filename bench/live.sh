@@ -10,9 +10,12 @@
 #    receive it is noted, which is two such calls and no waking. Beside this the audio thread goes on, and plays.
 # 2. A run of 3,000 blocks, which is a minute, with a destination where nobody answers, and no command but a look at the end. What it uses
 #    of the processor is that of all its threads, user and system, with its opening and end.
+# 3. The same minute for a run that has nothing to wait for at its port: one whose gate can't be bound, since another socket has it; one
+#    whose sockets break after a second (bench/refusing.c, where there is gcc); and one whose journal is full after three events.
 # shellcheck source=bench/shared.sh
 . "$(dirname "${BASH_SOURCE[0]}")/shared.sh"
 built
+if command -v gcc >/dev/null; then gcc -shared -fPIC -O2 -o "$folder/refusing.so" "$here/bench/refusing.c" -ldl; fi
 figures "$program" "$folder" "${1:-10}" <<'PY'
 import os, random, socket, subprocess, sys, time
 from figures import Table, note, run
@@ -23,7 +26,7 @@ table, draw = Table(), random.Random(1)
 BLOCK = 0.02
 # A run opens before its peers begin, and ends after them.
 BESIDE = 2
-MEDIAN, SHARE = 100, 0.01
+MEDIAN, SHARE, FAILED_SHARE = 100, 0.01, 0.02
 PING = b"_link_v\x01\x01" + entry(b"__ht", eight(1))
 RESPONSE, PONG = b"_asdp_v\x01\x02", b"_link_v\x01\x02"
 
@@ -121,21 +124,31 @@ def to_itself():
         return sample(gate, gate.getsockname(), PING, PING)
 
 
-def idle(last):
+def minute(what, last, aim, port=None, options=(), status=0, **said):
+    """The peak memory of a run that nobody speaks to, which ends with this status."""
     given = os.path.join(folder, "script")
     with opened() as told:
         with open(given, "w") as text:
-            text.write(script(free_port(), told.getsockname()[1], last))
-        passed, used, peak = run(words(last), given)
+            text.write(script(port or free_port(), told.getsockname()[1], last))
+        passed, used, peak = run([*words(last), *options], given, status=status, said=said)
     share = used / passed
-    note(f"an idle run: {passed:.2f} s, {used:.3f} s of the processor")
-    table.add(
-        "`live`, an idle run of a minute: of the processor",
-        f"{used:.2f} s, {100 * share:.2f} %",
-        f"at most {SHARE:.0%} of one",
-        share <= SHARE,
-    )
+    note(f"{what}: {passed:.2f} s, {used:.3f} s of the processor")
+    table.add(f"`live`, {what} of a minute: of the processor", f"{used:.2f} s, {100 * share:.2f} %", f"at most {aim:.0%} of one", share <= aim)
+    return peak
+
+
+def idle(last):
+    peak = minute("an idle run", last, SHARE)
     table.add("`live`, an idle run of a minute: peak memory", f"at most {peak / 1e6:.1f} MB")
+
+
+def failed(last):
+    with opened() as other:
+        minute("a run whose gate is taken", last, FAILED_SHARE, port=other.getsockname()[1], status=3)
+    minute("a run with a full journal", last, FAILED_SHARE, options=("--events", "3"), status=6)
+    below = os.path.join(folder, "refusing.so")
+    if os.path.exists(below):
+        minute("a run whose sockets break", last, FAILED_SHARE, status=3, LD_PRELOAD=below, BREAK_SOCKETS="1000")
 
 
 note(f"a datagram to itself: {sorted(to_itself() for _ in range(500))[250]:.1f} µs")
@@ -144,5 +157,6 @@ for peers, name in ((1, "one peer"), (10, "ten peers")):
     add_samples(f"`live` beside {name}, from an alive to its response", alives, MEDIAN)
     add_samples(f"`live` beside {name}, from a ping to its pong", pings)
 idle(60)
+failed(60)
 table.show()
 PY
