@@ -36,7 +36,7 @@ unfolding response_to
 told_back m gate from now =
     let at = at_moment now m in
     record {
-      response = sent at.id 0 (fields_in (local_of gate at) at);
+      response = sent at.id at.config.group (fields_in (local_of gate at) at);
       only = refl;
       tells = record { from = refl; group = refl; session = refl; timeline = refl; start = refl };
       ttl = refl;
@@ -145,7 +145,7 @@ reached m now gate setup to due at has =
     subst (λ (n : ℕ). Has (alives_in b) (record { gate = record { 0 = n }; to = to; bytes = alive_of b setup })) (let n : 0 + gate.0 ≡ gate.0 = omega arith in n)
     (sent_has (alive_of b) 0 gate.0 b.config.gates setup to gates has) in
     record {
-      alive = sent b.id 0 (fields_in (Some setup.local) b);
+      alive = sent b.id b.config.group (fields_in (Some setup.local) b);
       there = has_right (pings_of_tick (at_moment now m)) (broadcast_in b) _ (subst (λ t. Has (if t then alives_in b else []) (record { gate = gate; to = to; bytes = alive_of b setup })) (sym (due_before m now due)) there);
       tells = record { from = refl; group = refl; session = refl; timeline = refl; start = refl };
       ttl = refl;

@@ -99,7 +99,7 @@ module _ (m : Machine) (e : EventValue) where
   unfolding byes_in
   told_byes =
       let at = at_moment (moment_of e) m in
-      all_sent (IsToldIn m e) (bye_of at) (λ gate to setup. (written.Bye at.id 0 0, refl, refl)) 0 at.config.gates
+      all_sent (IsToldIn m e) (bye_of at) (λ gate to setup. (written.Bye at.id 0 at.config.group, refl, (refl, refl))) 0 at.config.gates
 
   -- ---- a response tells the state before the event
 
@@ -107,7 +107,7 @@ module _ (m : Machine) (e : EventValue) where
   unfolding response_to
   told_response gate to =
       let at = at_moment (moment_of e) m in
-      (written.Response (sent at.id 0 (fields_in (local_of gate at) at)), refl, record { from = refl; group = refl; session = refl; timeline = refl; start = refl })
+      (written.Response (sent at.id at.config.group (fields_in (local_of gate at) at)), refl, record { from = refl; group = refl; session = refl; timeline = refl; start = refl })
 
   told_answers_to : (gate : Gate) (from : Endpoint) (reading : Result MessageValue WireFault)
       → AllByRecursion (IsToldIn m e) (answers_to gate from reading (at_moment (moment_of e) m))
@@ -129,7 +129,7 @@ module _ (m : Machine) (e : EventValue) where
   told_alives =
       let after = before_broadcast e m in
       all_either (IsToldIn m e) (is_broadcast after) (alives_in after) []
-      (all_sent (IsToldIn m e) (alive_of after) (λ gate to setup. (written.Alive (sent after.id 0 (fields_in (Some setup.local) after)), refl, record { from = refl; group = refl; session = refl; timeline = refl; start = refl })) 0 after.config.gates) tt
+      (all_sent (IsToldIn m e) (alive_of after) (λ gate to setup. (written.Alive (sent after.id after.config.group (fields_in (Some setup.local) after)), refl, record { from = refl; group = refl; session = refl; timeline = refl; start = refl })) 0 after.config.gates) tt
 
 told_answers : (m : Machine) (e : EventValue) → AllByRecursion (IsToldIn m e) (answers e (at_moment (moment_of e) m))
 told_answers m (Rx gate from bytes now) = told_answers_to m (Rx gate from bytes now) gate from (reading_of bytes)

@@ -17,9 +17,9 @@ use Rattle.link_node.specs.Measuring.{pong_heard, pings_after_pong}
 use Rattle.link_node.specs.Taking.{state_taken}
 use Rattle.link_node.specs.Telling.{response_to}
 
--- a peer of the group 0 is heard, and nobody hears itself
+-- a peer of the node's own group is heard, and nobody hears itself
 abbrev pub is_heard : NodeId → ℕ → Machine → Bool
-is_heard id group m = not (same_id id m.id) && (group == 0)
+is_heard id group m = not (same_id id m.id) && (group == m.config.group)
 
 -- a ping is answered where its payload has at most 32 bytes
 unfoldable pub pongs_to : Gate → Endpoint → List ℕ → Machine → List SendingValue

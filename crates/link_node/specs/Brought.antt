@@ -72,20 +72,20 @@ Brings (End now) session tl = ⊥
 
 -- ---- told
 
--- the state of a node, from it and in the group 0
+-- the state of a node, from it and in its group
 pub record TellsOf (m : Machine) (msg : StateMsg) : Type 0 where
   pub from : msg.from ≡ m.id
-  pub group : msg.group ≡ 0
+  pub group : msg.group ≡ m.config.group
   pub session : msg.fields.session ≡ session_in m
   pub timeline : msg.fields.timeline ≡ timeline_in m
   pub start : msg.fields.start ≡ start_in m
 
--- A response tells the state of before the event, and an alive that of after settling. A bye is the node's own, and a pong
+-- A response tells the state of before the event, and an alive that of after settling. A bye is the node's own, in its group, and a pong
 -- tells the session of before the event and its ghost time at the event's moment.
 abbrev pub TellsBest : Machine → EventValue → Written → Type 0
 TellsBest m e (written.Alive msg) = TellsOf (before_broadcast e m) msg
 TellsBest m e (written.Response msg) = TellsOf m msg
-TellsBest m e (written.Bye id ttl group) = id ≡ m.id
+TellsBest m e (written.Bye id ttl group) = (id ≡ m.id) × (group ≡ m.config.group)
 TellsBest m e (written.Ping ping) = Unit {0}
 TellsBest m e (written.Pong session ghost_time echo) =
     (session ≡ session_in m) × (ghost_time ≡ ghost_of (offset_in m) (int_max m.moment (moment_of e)))

@@ -1,6 +1,7 @@
 -- A node's setup as plain data.
 use Rattle.std.specs.Prelude.{ℕ, ℤ, pos, ◌≤ℤ◌, ◌≤◌, Bool, List, length, map}
 use Rattle.lk_base.specs.declared.endpoint.Endpoint.{Endpoint}
+use Rattle.lk_base.specs.Ranges.{IsQuantum}
 use Rattle.lk_base.specs.declared.ids.NodeId.{NodeId}
 use Rattle.link_node.specs.declared.config.Config.{Config}
 use Rattle.link_node.specs.declared.config.GateSetup.{GateSetup}
@@ -15,6 +16,8 @@ pub record ConfigValue : Type 0 where
   pub seed : ℕ
   pub mpb : ℤ
   pub sync : Bool
+  pub group : ℕ
+  pub quantum : ℤ
   pub gates : List GateValue
 
 abbrev pub gate_value : GateSetup → GateValue
@@ -26,12 +29,15 @@ config_value config = record {
   seed = config.seed;
   mpb = config.mpb;
   sync = config.sync;
+  group = config.group;
+  quantum = config.quantum;
   gates = map gate_value config.gates.items;
 }
 
--- what a node can be opened with: one to four gates, and a tempo in its range
+-- what a node can be opened with: one to four gates, and a tempo and a quantum in their ranges
 pub record IsConfig (config : ConfigValue) : Type 0 where
   pub some_gate : 1 ≤ length config.gates
   pub few_gates : length config.gates ≤ 4
   pub fastest : pos 60_060 ≤ℤ config.mpb
   pub slowest : config.mpb ≤ℤ pos 3_000_000
+  pub quantum : IsQuantum config.quantum

@@ -46,4 +46,4 @@ pong_of m gate to payload now =
     record { gate = gate; to = to; bytes = spelled_of (written.Pong (session_in m) (ghost_of (offset_in m) (int_max m.moment now)) payload) }
 
 abbrev pub bye_to : Machine → Gate → Endpoint → SendingValue
-bye_to m gate to = record { gate = gate; to = to; bytes = spelled_of (written.Bye m.id 0 0) }
+bye_to m gate to = record { gate = gate; to = to; bytes = spelled_of (written.Bye m.id 0 m.config.group) }

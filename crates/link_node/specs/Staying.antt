@@ -47,7 +47,7 @@ pub record ShowsBest (m : Machine) : Type 0 where
   pub following : IsFollowing m
   pub shown : m.published.timeline ≡ m.client
 
--- the event tells the message, which is of another peer and in the group 0, and there is room for that peer's row
+-- the event tells the message, which is of another peer and in the node's group, and there is room for that peer's row
 abbrev pub Hears : Machine → EventValue → StateMsg → Type 0
 Hears m (Rx gate from bytes now) msg =
     ((reading_of bytes ≡ Ok (message.Alive msg)) ⊎ (reading_of bytes ≡ Ok (message.Response msg)))

@@ -19,16 +19,16 @@ local_of gate m = option_map (λ g. g.local) (slice_get m.config.gates gate.0)
 -- the response that goes out on a gate
 unfoldable pub response_to : Gate → Endpoint → Machine → SendingValue
 response_to gate to m =
-    record { gate = gate; to = to; bytes = spelled_of (written.Response (sent m.id 0 (fields_in (local_of gate m) m))) }
+    record { gate = gate; to = to; bytes = spelled_of (written.Response (sent m.id m.config.group (fields_in (local_of gate m) m))) }
 
 -- ---- to all destinations
 
 -- the alive and the bye that a gate sends
 abbrev pub alive_of : Machine → GateValue → List ℕ
-alive_of m gate = spelled_of (written.Alive (sent m.id 0 (fields_in (Some gate.local) m)))
+alive_of m gate = spelled_of (written.Alive (sent m.id m.config.group (fields_in (Some gate.local) m)))
 
 abbrev pub bye_of : Machine → GateValue → List ℕ
-bye_of m gate = spelled_of (written.Bye m.id 0 0)
+bye_of m gate = spelled_of (written.Bye m.id 0 m.config.group)
 
 -- from each of these gates, the first of which has the number k, to each of its destinations
 unfoldable pub sent_from : (GateValue → List ℕ) → ℕ → List GateValue → List SendingValue

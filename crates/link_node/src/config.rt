@@ -26,6 +26,10 @@ pub struct Config {
     pub mpb: i64,
     /// Whether starts are shared with the session.
     pub sync: bool,
+    /// Which messages it hears, and with which it sends: those of this group.
+    pub group: u16,
+    /// The length of a bar in microbeats: 0..=2^40, where 0 is none.
+    pub quantum: i64,
     /// One to four, by number from 0.
     pub gates: ArrayVec<GateSetup, 4>,
 }
@@ -39,6 +43,8 @@ pub(crate) fn copied(config: &Config) -> Config
         seed: config.seed,
         mpb: config.mpb,
         sync: config.sync,
+        group: config.group,
+        quantum: config.quantum,
         gates: copied_gates(&config.gates),
     }
 }

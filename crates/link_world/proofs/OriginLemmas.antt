@@ -49,6 +49,7 @@ IsFrom Made session tl = IsStoredId session × Made session tl
 pub record IsSound (Made : NodeId → Timeline → Type 0) (m : Machine) : Type 0 where
   pub machine : IsMachine m
   pub id : IsStoredId m.id
+  pub group : m.config.group < 2 ^ 16
   pub gates : AllByRecursion IsStoredGate m.config.gates
   pub taken : (session : NodeId) (tl : Timeline) → IsTakenIn m session tl → IsFrom Made session tl
 
@@ -117,6 +118,7 @@ pub sound_step : Laws → (Made : NodeId → Timeline → Type 0) (m : Machine) 
 sound_step laws Made m e sound fits makes brings = record {
   machine = laws.step m e sound.machine fits;
   id = id_stored laws m e sound.id;
+  group = subst (λ (config : ConfigValue). config.group < 2 ^ 16) (sym (laws.config m e)) sound.group;
   gates = subst (λ (config : ConfigValue). AllByRecursion IsStoredGate config.gates) (sym (laws.config m e)) sound.gates;
   taken = λ session tl took.
       elim (laws.brought m e session tl took) as (λ _. IsFrom Made session tl) [
@@ -132,10 +134,10 @@ sound_step laws Made m e sound fits makes brings = record {
 
 -- the state of a sound machine is read as it is told
 tidy_state : Laws → (Made : NodeId → Timeline → Type 0) (m : Machine) (endpoint : Option Endpoint) → IsSound Made m → IfSome endpoint IsEndpoint
-    → IsTidyMessage (sent m.id 0 (fields_in endpoint m))
+    → IsTidyMessage (sent m.id m.config.group (fields_in endpoint m))
 tidy_state laws Made m endpoint sound stored = record {
   ttl = lit< tt;
-  group = lit< tt;
+  group = sound.group;
   from = sound.id;
   stored = record { session = session_stored Made m sound; address = stored };
   fields = record {
@@ -178,16 +180,17 @@ read_state laws Made m w read msg sound state is_read means session tl tells =
 -- what is told before a broadcast is told after it
 state_after : (b after : Machine) (msg : StateMsg) → TellsAlike b after → IsStateOf b msg → IsStateOf after msg
 state_after b after msg alike state =
-    let told : NodeId → History → List SessionStart → StateMsg = λ id h starts.
-    sent id 0 (record { timeline = best_in h.current; session = h.current.session; start = latest_start_of still starts; endpoint = state.endpoint }) in
+    let told : ℕ → NodeId → History → List SessionStart → StateMsg = λ group id h starts.
+    sent id group (record { timeline = best_in h.current; session = h.current.session; start = latest_start_of still starts; endpoint = state.endpoint }) in
     record {
       endpoint = state.endpoint;
       stored = state.stored;
       is =
           state.is
-          ∙ ap (λ (id : NodeId). told id b.sessions b.starts) alike.id
-          ∙ ap (λ (h : History). told after.id h b.starts) alike.sessions
-          ∙ ap (λ (l : List SessionStart). told after.id after.sessions l) alike.starts;
+          ∙ ap (λ (config : ConfigValue). told config.group b.id b.sessions b.starts) alike.config
+          ∙ ap (λ (id : NodeId). told after.config.group id b.sessions b.starts) alike.id
+          ∙ ap (λ (h : History). told after.config.group after.id h b.starts) alike.sessions
+          ∙ ap (λ (l : List SessionStart). told after.config.group after.id after.sessions l) alike.starts;
     }
 
 said_from : Laws → (Made : NodeId → Timeline → Type 0) (m after : Machine) (e : EventValue) → IsSound Made m → IsSound Made after → TellsAlike (before_broadcast e m) after
@@ -200,7 +203,7 @@ said_from laws Made m after e sound sound_after alike (written.Response msg) sai
     (λ is_tidy. laws.read (written.Response msg) (message.Response msg) is_tidy refl) (λ _ _ h. h) session tl tells
 said_from laws Made m after e sound sound_after alike (written.Bye id ttl group) said session tl tells =
     let short : ttl < 256 = subst (λ (n : ℕ). n < 256) (sym said.1) (lit< tt) in
-    let few : group < 2 ^ 16 = subst (λ (n : ℕ). n < 2 ^ 16) (sym said.2) (lit< tt) in
+    let few : group < 2 ^ 16 = subst (λ (n : ℕ). n < 2 ^ 16) (sym said.2) sound.group in
     let own : IsStoredId id = subst (λ (i : NodeId). IsStoredId i) (sym said.0) sound.id in
     let read = laws.read (written.Bye id ttl group) (message.Bye id ttl group) (short, few, own) refl in
     absurd (subst (λ (r : Result MessageValue WireFault). TellsTimeline r session tl) read tells)
@@ -297,6 +300,7 @@ sound_opened laws Made config now is stored moment made =
     record {
       machine = laws.opening config now is moment;
       id = stored.id;
+      group = stored.group;
       gates = stored.gates;
       taken = λ session tl took. begun_from Made config.id (opened_with config).1 took.0 session tl (stored.id, made) took.1 took.2 took.3;
     }

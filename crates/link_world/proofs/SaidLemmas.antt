@@ -39,12 +39,12 @@ use Rattle.link_world.proofs.StepLemmas.{gate_stored}
 pub record IsStateOf (m : Machine) (msg : StateMsg) : Type 0 where
   pub endpoint : Option Endpoint
   pub stored : IfSome endpoint IsEndpoint
-  pub is : msg ≡ sent m.id 0 (fields_in endpoint m)
+  pub is : msg ≡ sent m.id m.config.group (fields_in endpoint m)
 
 abbrev pub IsSaid : Machine → EventValue → Written → Type 0
 IsSaid m e (written.Alive msg) = IsStateOf (before_broadcast e m) msg
 IsSaid m e (written.Response msg) = IsStateOf m msg
-IsSaid m e (written.Bye id ttl group) = (id ≡ m.id) × (ttl ≡ 0) × (group ≡ 0)
+IsSaid m e (written.Bye id ttl group) = (id ≡ m.id) × (ttl ≡ 0) × (group ≡ m.config.group)
 IsSaid m e (written.Ping ping) = Unit {0}
 IsSaid m e (written.Pong session ghost_time echo) = Unit {0}
 
@@ -119,7 +119,7 @@ module _ (m : Machine) (e : EventValue) (own : AllByRecursion IsStoredGate m.con
   unfolding byes_in
   said_byes =
       let at = at_moment (moment_of e) m in
-      all_sent (IsSaidIn m e) (bye_of at) (λ gate to setup stored. (written.Bye at.id 0 0, refl, (refl, refl, refl))) 0 at.config.gates own
+      all_sent (IsSaidIn m e) (bye_of at) (λ gate to setup stored. (written.Bye at.id 0 at.config.group, refl, (refl, refl, refl))) 0 at.config.gates own
 
   -- ---- a response tells the state before the event
 
@@ -127,7 +127,7 @@ module _ (m : Machine) (e : EventValue) (own : AllByRecursion IsStoredGate m.con
   unfolding response_to
   said_response gate to =
       let at = at_moment (moment_of e) m in
-      (written.Response (sent at.id 0 (fields_in (local_of gate at) at)), refl, record { endpoint = local_of gate at; stored = gate_stored m.config.gates gate.0 own; is = refl })
+      (written.Response (sent at.id at.config.group (fields_in (local_of gate at) at)), refl, record { endpoint = local_of gate at; stored = gate_stored m.config.gates gate.0 own; is = refl })
 
   said_answers_to : (gate : Gate) (from : Endpoint) (reading : Result MessageValue WireFault)
       → AllByRecursion (IsSaidIn m e) (answers_to gate from reading (at_moment (moment_of e) m))
@@ -149,7 +149,7 @@ module _ (m : Machine) (e : EventValue) (own : AllByRecursion IsStoredGate m.con
   said_alives =
       let after = before_broadcast e m in
       all_either (IsSaidIn m e) (is_broadcast after) (alives_in after) []
-      (all_sent (IsSaidIn m e) (alive_of after) (λ gate to setup stored. (written.Alive (sent after.id 0 (fields_in (Some setup.local) after)), refl, record { endpoint = Some setup.local; stored = stored; is = refl })) 0 after.config.gates own_after) tt
+      (all_sent (IsSaidIn m e) (alive_of after) (λ gate to setup stored. (written.Alive (sent after.id after.config.group (fields_in (Some setup.local) after)), refl, record { endpoint = Some setup.local; stored = stored; is = refl })) 0 after.config.gates own_after) tt
 
 said_answers : (m : Machine) (e : EventValue) → AllByRecursion IsStoredGate m.config.gates → AllByRecursion IsStoredGate (before_broadcast e m).config.gates → AllByRecursion (IsSaidIn m e) (answers e (at_moment (moment_of e) m))
 said_answers m (Rx gate from bytes now) own own_after = said_answers_to m (Rx gate from bytes now) own own_after gate from (reading_of bytes)

@@ -1,5 +1,5 @@
 -- What the types of code say of values, for proofs alone.
-use Rattle.std.specs.Prelude.{◌≡◌, ◌≤◌, length}
+use Rattle.std.specs.Prelude.{◌≡◌, ◌≤◌, ◌<◌, ◌^◌, length}
 use Rattle.std.specs.List.{AllByRecursion}
 use Rattle.lk_base.specs.Endpoint.{IsEndpoint}
 use Rattle.lk_base.specs.declared.ids.NodeId.{NodeId}
@@ -22,7 +22,8 @@ IsStoredId id = length id.0 ≡ 8
 abbrev pub IsStoredGate : GateValue → Type 0
 IsStoredGate gate = IsEndpoint gate.local
 
--- the id has eight bytes, and each own endpoint an address of four and a port of two
+-- the id has eight bytes, the group two, and each own endpoint an address of four and a port of two
 pub record IsStoredConfig (config : ConfigValue) : Type 0 where
   pub id : IsStoredId config.id
+  pub group : config.group < 2 ^ 16
   pub gates : AllByRecursion IsStoredGate config.gates

@@ -1,6 +1,6 @@
 //! What the types say of configs, for proofs: to call it is to know it.
 
-ghost use Rattle.std.specs.Prelude.{map};
+ghost use Rattle.std.specs.Prelude.{◌<◌, ◌^◌, map};
 ghost use Rattle.std.specs.List.{AllByRecursion};
 ghost use Rattle.lk_base.specs.Endpoint.{IsEndpoint};
 ghost use Rattle.link_node.specs.Config.{config_value, gate_value};
@@ -23,6 +23,7 @@ fn config_is_stored(config: &Config)
     ensures { IsStoredConfig (config_value config.now) }
 {
     id_is_stored(config.id);
+    group_is_stored(config.group);
     gates_are_stored(&config.gates);
 }
 
@@ -36,6 +37,10 @@ fn gates_are_stored(gates: &ArrayVec<GateSetup, 4>)
 
 fn id_is_stored(id: NodeId)
     ensures { IsStoredId id }
+{}
+
+fn group_is_stored(group: u16)
+    ensures { group < 2 ^ 16 }
 {}
 
 fn endpoint_is_stored(endpoint: Endpoint)

@@ -57,11 +57,11 @@ impl Node {
         }
     }
 
-    // A peer of the group 0 is heard, and nobody hears itself.
+    // A peer of the node's own group is heard, and nobody hears itself.
     fn is_heard(&self, id: &NodeId, group: u16) -> bool
         ensures { (m : Machine) → HasParts self.now m → result ≡ is_heard id.now group m }
     {
-        *id != self.id && group == 0
+        *id != self.id && group == self.config.group
     }
 
     // A ping is answered where its payload has at most 32 bytes.

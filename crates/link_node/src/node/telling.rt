@@ -11,9 +11,6 @@ use asdp_messages::{write_alive, write_bye, write_response};
 use link_payload::PeerFields;
 use lk_base::{Endpoint, Gate, Wire, append};
 
-/// The group of every message.
-const GROUP: u16 = 0;
-
 impl Node {
     ghost use Rattle.std.specs.Prelude.{◌≡◌, ◌≤◌, ◌<◌, ◌+◌, ◌∷◌, [], ◌++◌, length, Option, slice_get};
     ghost use Rattle.lk_base.specs.declared.endpoint.Endpoint.{Endpoint};
@@ -42,7 +39,7 @@ impl Node {
         ensures len { length sends.new ≡ length sends.old + 1 }
     {
         let fields = self.fields(local_of(&self.config, gate));
-        let bytes = write_response(self.id, GROUP, &fields);
+        let bytes = write_response(self.id, self.config.group, &fields);
         sends.push(Sending { gate, to, bytes });
     }
 
@@ -66,7 +63,7 @@ impl Node {
         ensures len { length sends.new ≤ length sends.old + 32 }
     {
         let gate = gate_at(&self.config, k);
-        let alive = write_alive(self.id, GROUP, &self.fields(Some(gate.local)));
+        let alive = write_alive(self.id, self.config.group, &self.fields(Some(gate.local)));
         send_to_each(Gate(k as u8), &gate.peers, &alive, sends);
     }
 
@@ -90,7 +87,7 @@ impl Node {
         ensures len { length sends.new ≤ length sends.old + 32 }
     {
         let gate = gate_at(&self.config, k);
-        let bye = write_bye(self.id, GROUP);
+        let bye = write_bye(self.id, self.config.group);
         send_to_each(Gate(k as u8), &gate.peers, &bye, sends);
     }
 }
