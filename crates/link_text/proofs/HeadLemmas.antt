@@ -7,9 +7,10 @@ use Rattle.std.proofs.lemmas.List.{append_assoc, append-nil, length_push, map-ap
 use Rattle.std.proofs.lemmas.List.Concat.{flat_map-cons}
 use Rattle.std.proofs.lemmas.List.Elements.{All-head, All-tail, All-push, All-nil}
 use Rattle.std.proofs.lemmas.Grind.{flat_map-append}
-use Rattle.std.proofs.lemmas.Fmt.{decimal_injective, signed_decimal_injective}
+use Rattle.std.proofs.lemmas.Fmt.{decimal_digit, decimal_injective, signed_decimal_injective}
+use Rattle.std.proofs.lemmas.Int.{ints}
 use Rattle.lk_base.specs.Endpoint.{IsEndpoint}
-use Rattle.lk_base.specs.Ranges.{IsWithinLimit}
+use Rattle.lk_base.specs.Ranges.{IsQuantum, IsWithinLimit}
 use Rattle.lk_base.specs.declared.endpoint.Endpoint.{Endpoint}
 use Rattle.lk_base.specs.declared.ids.NodeId.{NodeId}
 use Rattle.link_node.specs.Config.{ConfigValue, GateValue}
@@ -17,12 +18,12 @@ use Rattle.link_node.specs.Event.{EventValue, Rx, Tick, App, Audio, End, moment_
 use Rattle.link_text.specs.Words.{joined, dotted, truth_text_of, endpoint_text_of}
 use Rattle.link_text.specs.LineWords.{words_of}
 use Rattle.link_text.specs.EventDetails.{kind_of, details_of}
-use Rattle.link_text.specs.ReplayScript.{IsVisibleId, IsGate, IsEventLine, AreEventLines, gate_lines, node_line}
+use Rattle.link_text.specs.ReplayScript.{IsVisibleId, IsGate, IsEventLine, AreEventLines, gate_lines, group_line, node_line, quantum_line, version_line}
 use Rattle.link_text.specs.declared.head_read.Node.{Node}
-use Rattle.link_text.specs.HeadParts.{gate_line, to_line, config_of, IsNodeLine, IsNode, LacksTo, LacksGate, AreFull, HasDestinations, HasGates}
+use Rattle.link_text.specs.HeadParts.{gate_line, to_line, plain_of, IsKnownVersion, IsNodeLine, IsNode, LacksTo, LacksGate, AreFull, HasDestinations, HasGates}
 use Rattle.link_text.proofs.WordLemmas.{cut_one}
 use Rattle.link_text.proofs.NumberLemmas.{decimal_lacks}
-use Rattle.link_text.proofs.EventLemmas.{Lacks, lacks_by_test, number_lacks, signed_lacks, truth_lacks, endpoint_lacks, moment_within, tempo_within, words_joined, joined_words, words_are}
+use Rattle.link_text.proofs.EventLemmas.{Lacks, lacks_by_test, number_lacks, signed_lacks, truth_lacks, moment_within, tempo_within, words_joined, joined_words, words_are}
 
 -- ---- endpoints
 
@@ -55,20 +56,21 @@ endpoint_one e f range_e range_f same =
     let port = decimal_injective e.port f.port (omega (arith, range_e.1)) (omega (arith, range_f.1)) fourth.1 in
     endpoint_same e f (address_one e.addr f.addr range_e.0 range_f.0 first.0 second.0 third.0 fourth.0) port
 
--- ---- lines of endpoints
+-- ---- lines of a word and of what it is the word for
 
-pub some_said : (kind line : List ℕ) (r : Option Endpoint)
-    → IfSome r (λ e. IsEndpoint e × (words_of line ≡ kind ∷ endpoint_text_of e ∷ []))
-    → IfSome r (λ e. IsEndpoint e × (line ≡ joined (kind ∷ endpoint_text_of e ∷ [])))
-some_said kind line (Some e) h = (h.0, sym (joined_words line) ∙ ap joined h.1)
-some_said kind line None h = tt
+pub some_said : {A : Type 0} (IsIn : A → Type 0) (text : A → List ℕ) (kind line : List ℕ) (r : Option A)
+    → IfSome r (λ a. IsIn a × (words_of line ≡ kind ∷ text a ∷ []))
+    → IfSome r (λ a. IsIn a × (line ≡ joined (kind ∷ text a ∷ [])))
+some_said IsIn text kind line (Some a) h = (h.0, sym (joined_words line) ∙ ap joined h.1)
+some_said IsIn text kind line None h = tt
 
-pub none_said : (kind line : List ℕ) (r : Option Endpoint) → Lacks kind
-    → IfNone r ((e : Endpoint) → IsEndpoint e → words_of line ≡ kind ∷ endpoint_text_of e ∷ [] → ⊥)
-    → IfNone r ((e : Endpoint) → IsEndpoint e → line ≡ joined (kind ∷ endpoint_text_of e ∷ []) → ⊥)
-none_said kind line (Some e) lacks h = tt
-none_said kind line None lacks h = λ e range same.
-    h e range (ap words_of same ∙ words_joined kind (endpoint_text_of e ∷ []) (lacks, (endpoint_lacks e range, tt)))
+pub none_said : {A : Type 0} (IsIn : A → Type 0) (text : A → List ℕ) (kind line : List ℕ) (r : Option A) → Lacks kind
+    → ((a : A) → IsIn a → Lacks (text a))
+    → IfNone r ((a : A) → IsIn a → words_of line ≡ kind ∷ text a ∷ [] → ⊥)
+    → IfNone r ((a : A) → IsIn a → line ≡ joined (kind ∷ text a ∷ []) → ⊥)
+none_said IsIn text kind line (Some a) lacks text_lacks h = tt
+none_said IsIn text kind line None lacks text_lacks h = λ a range same.
+    h a range (ap words_of same ∙ words_joined kind (text a ∷ []) (lacks, (text_lacks a range, tt)))
 
 to_one : (e f : Endpoint) → IsEndpoint e → IsEndpoint f → to_line e ≡ to_line f → e ≡ f
 to_one e f range_e range_f same = endpoint_one e f range_e range_f (cc same)
@@ -76,7 +78,52 @@ to_one e f range_e range_f same = endpoint_one e f range_e range_f (cc same)
 gate_one : (e f : Endpoint) → IsEndpoint e → IsEndpoint f → gate_line e ≡ gate_line f → e ≡ f
 gate_one e f range_e range_f same = endpoint_one e f range_e range_f (cc same)
 
--- lines of several kinds differ in their first two bytes
+-- ---- the lines of the version, of the group and of the quantum
+
+known_small : (version : ℕ) → IsKnownVersion version → version < 10
+known_small version (inl one) = omega arith
+known_small version (inr two) = omega arith
+
+-- a version of one digit
+pub version_said : (version : ℕ) → version < 10 → version_line version ≡ codes "replay " ++ (48 + version) ∷ []
+version_said version small = ap (λ (digits : List ℕ). joined (codes "replay" ∷ digits ∷ [])) (decimal_digit version small)
+
+pub version_one : (v w : ℕ) → IsKnownVersion v → IsKnownVersion w → version_line v ≡ version_line w → v ≡ w
+version_one v w known_v known_w same =
+    let small_v = known_small v known_v in
+    let small_w = known_small w known_w in
+    decimal_injective v w (omega arith) (omega arith) (cc same)
+
+-- a line of another version
+pub version_no : (line : List ℕ) → (line ≡ codes "replay 1" → ⊥) → (line ≡ codes "replay 2" → ⊥)
+    → (version : ℕ) → IsKnownVersion version → line ≡ version_line version → ⊥
+version_no line first second version (inl one) same = first (same ∙ ap version_line one ∙ version_said 1 (omega arith))
+version_no line first second version (inr two) same = second (same ∙ ap version_line two ∙ version_said 2 (omega arith))
+
+pub group_lacks : (group : ℕ) → group < 2 ^ 16 → Lacks (decimal group)
+group_lacks group small = number_lacks group (omega arith)
+
+pub group_one : (g h : ℕ) → g < 2 ^ 16 → h < 2 ^ 16 → group_line g ≡ group_line h → g ≡ h
+group_one g h small_g small_h same = decimal_injective g h (omega arith) (omega arith) (cc same)
+
+quantum_within : (n : ℤ) → IsQuantum n → IsWithinLimit n
+quantum_within (pos n) is = omega (arith, ints, is.1)
+quantum_within (negsuc n) is = absurd (omega (arith, ints, is.0))
+
+pub quantum_lacks : (n : ℤ) → IsQuantum n → Lacks (signed_decimal n)
+quantum_lacks n is = signed_lacks n (quantum_within n is)
+
+pub mag_less : (n : ℤ) → IsWithinLimit n → mag n < 2 ^ 63
+mag_less (pos n) h = omega arith
+mag_less (negsuc n) h = omega arith
+
+pub quantum_one : (m n : ℤ) → IsQuantum m → IsQuantum n → quantum_line m ≡ quantum_line n → m ≡ n
+quantum_one m n is_m is_n same =
+    signed_decimal_injective m n (mag_less m (quantum_within m is_m)) (mag_less n (quantum_within n is_n)) (cc same)
+
+-- ---- lines of several kinds
+
+-- they differ in their first two bytes
 pub first_differs : (line other : List ℕ) (b d : ℕ) → get_or line 0 0 ≡ b → get_or other 0 0 ≡ d → b ≢ d → line ≡ other → ⊥
 first_differs line other b d is_b is_d differ same = differ (sym is_b ∙ ap (λ (xs : List ℕ). get_or xs 0 0) same ∙ is_d)
 
@@ -295,10 +342,6 @@ node_words config now is =
       ),
     )
 
-pub mag_less : (n : ℤ) → IsWithinLimit n → mag n < 2 ^ 63
-mag_less (pos n) h = omega arith
-mag_less (negsuc n) h = omega arith
-
 -- what two equal lines of nodes say
 pub record AreOneNode (c d : ConfigValue) (now at : ℤ) : Type 0 where
   pub id : c.id ≡ d.id
@@ -324,7 +367,7 @@ node_one c d now at is_c is_d same =
     }
 
 pub some_node : (line : List ℕ) (r : Option Node)
-    → IfSome r (λ node. IsNode (config_of node []) node.now × (words_of line
+    → IfSome r (λ node. IsNode (plain_of node) node.now × (words_of line
     ≡ codes "node" ∷ node.id.0 ∷ decimal node.seed ∷ signed_decimal node.mpb ∷ truth_text_of node.sync ∷ signed_decimal node.now ∷ []))
     → IfSome r (IsNodeLine line)
 some_node line (Some node) h = record { range = h.0; said = sym (joined_words line) ∙ ap joined h.1 }

@@ -78,8 +78,8 @@ next_some text line at next e is within says gates audio es all =
 
 -- ---- for callers
 
-pub checked_says : (text : List ℕ) (config : ConfigValue) (now : ℤ) (first : ℕ) → IsChecked text config now first → SaysSome text first
-checked_says text config now first is = (length config.gates, 0, is.es, is.from)
+pub checked_says : (text : List ℕ) (version : ℕ) (config : ConfigValue) (now : ℤ) (first : ℕ) → IsChecked text version config now first → SaysSome text first
+checked_says text version config now first is = (length config.gates, 0, is.es, is.from)
 
 pub next_says : (text : List ℕ) (at next : ℕ) (r : Option Event) → SaysSome text at
     → IfSome r (λ event. (gates audio : ℕ) (es : List EventValue) → SaysFrom gates audio text at es

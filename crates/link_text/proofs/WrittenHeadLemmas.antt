@@ -28,9 +28,9 @@ slice_get_right (x ∷ xs) ys (suc i) h =
     let e : i - length xs ≡ suc i - suc (length xs) = omega arith in
     slice_get_right xs ys i (omega arith) ∙ ap (λ (k : ℕ). slice_get ys k) e
 
--- a place behind the first two
-pub slice_get_third : {A : Type 0} (x y : A) (xs : List A) (i : ℕ) → 2 ≤ i → slice_get (x ∷ y ∷ xs) i ≡ slice_get xs (i - 2)
-slice_get_third x y xs i h = slice_get_right (x ∷ y ∷ []) xs i h
+-- a place behind the first four
+pub slice_get_fifth : {A : Type 0} (x y z w : A) (xs : List A) (i : ℕ) → 4 ≤ i → slice_get (x ∷ y ∷ z ∷ w ∷ xs) i ≡ slice_get xs (i - 4)
+slice_get_fifth x y z w xs i h = slice_get_right (x ∷ y ∷ z ∷ w ∷ []) xs i h
 
 -- the lines of the gates from the k-th on
 abbrev pub lines_from : List GateSetup → ℕ → List (List ℕ)

@@ -21,7 +21,7 @@ use Rattle.client_state.specs.declared.commit.Commit.{Commit}
 use Rattle.link_node.specs.Config.{ConfigValue, GateValue}
 use Rattle.link_node.specs.Event.{EventValue, Rx, Tick, App, Audio, End, audio_after}
 use Rattle.link_text.specs.GateLines.{destination_line, local_line}
-use Rattle.link_text.specs.ReplayScript.{AreEventLines, AreSayable, IsEventKind, IsHead, IsHexIn, IsHexOf, commit_words, ended, event_line, event_words, gate_lines, head_lines, hex_of, hex_word, node_line, start_words, timeline_words, version_line, written_script_of}
+use Rattle.link_text.specs.ReplayScript.{AreEventLines, AreSayable, IsEventKind, IsHead, IsHexIn, IsHexOf, commit_words, ended, event_line, event_words, gate_lines, group_line, head_lines, hex_of, hex_word, node_line, quantum_line, start_words, timeline_words, version_line, written_script_of}
 
 -- no byte is a line feed or below it
 abbrev pub AreAbove : List ℕ → Type 0
@@ -139,8 +139,11 @@ hex_word-above (b ∷ bytes) h = hex-above (b ∷ bytes) h
 
 -- ---- the head
 
-version-line : IsLine version_line
-version-line = record { above = literal-above version_line refl; counts = refl }
+version-line : IsLine (version_line 2)
+version-line = record {
+  above = joined-above (codes "replay" ∷ decimal 2 ∷ []) (literal-above (codes "replay") refl, (decimal-above 2, tt));
+  counts = refl;
+}
 
 node-line : (config : ConfigValue) (now : ℤ) → IsHead config now → IsLine (node_line config now)
 node-line config now head =
@@ -150,6 +153,18 @@ node-line config now head =
           (literal-above (codes "node") refl, (characters, (decimal-above config.seed, (signed-above config.mpb, (truth-above config.sync, (signed-above now, tt))))));
       counts = refl;
     }
+
+group-line : (group : ℕ) → IsLine (group_line group)
+group-line group = record {
+  above = joined-above (codes "group" ∷ decimal group ∷ []) (literal-above (codes "group") refl, (decimal-above group, tt));
+  counts = refl;
+}
+
+quantum-line : (quantum : ℤ) → IsLine (quantum_line quantum)
+quantum-line quantum = record {
+  above = joined-above (codes "quantum" ∷ signed_decimal quantum ∷ []) (literal-above (codes "quantum") refl, (signed-above quantum, tt));
+  counts = refl;
+}
 
 local-line : (e : Endpoint) → IsLine (local_line e)
 local-line e = record {
@@ -172,11 +187,16 @@ gate-lines (gate ∷ gates) =
     (All-map IsLine destination_line gate.destinations (λ k d lt. destination-line (get_or gate.destinations k d))))
     (gate-lines gates))
 
-head-lines : (config : ConfigValue) (now : ℤ) → IsHead config now → All IsLine (head_lines config now)
+head-lines : (config : ConfigValue) (now : ℤ) → IsHead config now → All IsLine (head_lines 2 config now)
 unfolding head_lines
 head-lines config now head =
-    All-cons IsLine version_line (node_line config now ∷ flat_map gate_lines config.gates) version-line
-    (All-cons IsLine (node_line config now) (flat_map gate_lines config.gates) (node-line config now head) (gate-lines config.gates))
+    let gates = flat_map gate_lines config.gates in
+    let group = group_line config.group in
+    let quantum = quantum_line config.quantum in
+    All-cons IsLine (version_line 2) (node_line config now ∷ group ∷ quantum ∷ gates) version-line
+    (All-cons IsLine (node_line config now) (group ∷ quantum ∷ gates) (node-line config now head)
+    (All-cons IsLine group (quantum ∷ gates) (group-line config.group)
+    (All-cons IsLine quantum gates (quantum-line config.quantum) (gate-lines config.gates))))
 
 -- ---- the events
 
@@ -242,11 +262,11 @@ events_are_said gates audio (e ∷ es) h = (
 
 -- the lines that count are those of the head and of the events
 pub script_is_read : (config : ConfigValue) (now : ℤ) (es : List EventValue) → IsHead config now → AreSayable (length config.gates) 0 es
-    → counting_in (lines_of (written_script_of config now es)) ≡ head_lines config now ++ map event_line es
+    → counting_in (lines_of (written_script_of config now es)) ≡ head_lines 2 config now ++ map event_line es
 unfolding written_script_of
 script_is_read config now es head sayable =
-    let head_text = flat_map ended (head_lines config now) in
-    let text = ap (λ (xs : List ℕ). head_text ++ xs) (sym (flat_map-map ended event_line es)) ∙ sym (flat_map-append ended (head_lines config now) (map event_line es)) in
+    let head_text = flat_map ended (head_lines 2 config now) in
+    let text = ap (λ (xs : List ℕ). head_text ++ xs) (sym (flat_map-map ended event_line es)) ∙ sym (flat_map-append ended (head_lines 2 config now) (map event_line es)) in
     ap (λ (xs : List ℕ). counting_in (lines_of xs)) text
-    ∙ lines_are_read (head_lines config now ++ map event_line es)
-    (All-append IsLine (head_lines config now) (map event_line es) (head-lines config now head) (event-lines (length config.gates) 0 es sayable))
+    ∙ lines_are_read (head_lines 2 config now ++ map event_line es)
+    (All-append IsLine (head_lines 2 config now) (map event_line es) (head-lines config now head) (event-lines (length config.gates) 0 es sayable))

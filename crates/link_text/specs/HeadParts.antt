@@ -2,12 +2,15 @@
 use Rattle.std.specs.Prelude.{◌≡◌, ◌≤◌, ◌<◌, ◌^◌, ◌⊎◌, ℕ, ℤ, pos, ◌≤ℤ◌, List, [], ◌∷◌, ◌++◌, length, map, codes, All}
 use Rattle.std.specs.List.{flat_map}
 use Rattle.lk_base.specs.Endpoint.{IsEndpoint}
-use Rattle.lk_base.specs.Ranges.{IsMoment}
+use Rattle.lk_base.specs.Ranges.{IsMoment, IsQuantum}
 use Rattle.lk_base.specs.declared.endpoint.Endpoint.{Endpoint}
 use Rattle.link_node.specs.Config.{ConfigValue, GateValue}
+use Rattle.link_text.specs.Lines.{lines_of, counting_in}
+use Rattle.link_text.specs.Places.{IsAhead, counting_from}
 use Rattle.link_text.specs.Words.{joined, endpoint_text_of}
-use Rattle.link_text.specs.ReplayScript.{IsVisibleId, IsGate, gate_lines, node_line}
+use Rattle.link_text.specs.ReplayScript.{IsVisibleId, IsGate, IsVersion, gate_lines, node_line, profile_lines, version_line}
 use Rattle.link_text.specs.declared.head_read.Node.{Node}
+use Rattle.link_text.specs.declared.place.Place.{Place}
 
 abbrev pub gate_line : Endpoint → List ℕ
 gate_line e = joined (codes "gate" ∷ endpoint_text_of e ∷ [])
@@ -15,9 +18,18 @@ gate_line e = joined (codes "gate" ∷ endpoint_text_of e ∷ [])
 abbrev pub to_line : Endpoint → List ℕ
 to_line e = joined (codes "to" ∷ endpoint_text_of e ∷ [])
 
--- the setup that a node's line begins
-abbrev pub config_of : Node → List GateValue → ConfigValue
-config_of node gates = record { id = node.id; seed = node.seed; mpb = node.mpb; sync = node.sync; gates = gates }
+-- a script can be of these versions
+abbrev pub IsKnownVersion : ℕ → Type 0
+IsKnownVersion version = (version ≡ 1) ⊎ (version ≡ 2)
+
+-- the setup that the lines before the gates say
+abbrev pub config_of : Node → ℕ → ℤ → ConfigValue
+config_of node group quantum =
+    record { id = node.id; seed = node.seed; mpb = node.mpb; sync = node.sync; group = group; quantum = quantum; gates = [] }
+
+-- where only a node's line does, as in version 1
+abbrev pub plain_of : Node → ConfigValue
+plain_of node = config_of node 0 (pos 4_000_000)
 
 pub record IsNode (config : ConfigValue) (now : ℤ) : Type 0 where
   pub id : IsVisibleId config.id
@@ -27,8 +39,21 @@ pub record IsNode (config : ConfigValue) (now : ℤ) : Type 0 where
   pub moment : IsMoment now
 
 pub record IsNodeLine (line : List ℕ) (node : Node) : Type 0 where
-  pub range : IsNode (config_of node []) node.now
-  pub said : line ≡ node_line (config_of node []) node.now
+  pub range : IsNode (plain_of node) node.now
+  pub said : line ≡ node_line (plain_of node) node.now
+
+-- what the lines before the gates can say
+pub record IsOpening (version : ℕ) (config : ConfigValue) (now : ℤ) : Type 0 where
+  pub known : IsVersion version config
+  pub node : IsNode config now
+  pub group : config.group < 2 ^ 16
+  pub quantum : IsQuantum config.quantum
+
+-- the lines that count are those before the gates, and then those from a place on
+pub record IsFront (text : List ℕ) (version : ℕ) (config : ConfigValue) (now : ℤ) (place : Place) : Type 0 where
+  pub ahead : IsAhead text place
+  pub opening : IsOpening version config now
+  pub said : counting_in (lines_of text) ≡ version_line version ∷ node_line config now ∷ (profile_lines version config ++ counting_from text place.at)
 
 -- lines that begin with no destination, or there is no room for one
 abbrev pub LacksTo : ℕ → List (List ℕ) → Type 0

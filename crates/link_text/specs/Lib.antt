@@ -10,8 +10,8 @@ pub mod FirstFault
 pub mod ReplayScript
 pub mod LiveScript
 pub mod EventDetails
-pub mod HeadParts
 pub mod Places
+pub mod HeadParts
 pub mod LiveParts
 pub mod ReplayText
 pub mod LoadRun

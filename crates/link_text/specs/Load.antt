@@ -63,6 +63,8 @@ load_config_of seed = record {
   seed = seed;
   mpb = pos 500_000;
   sync = true;
+  group = 0;
+  quantum = pos 4_000_000;
   gates = record { local = local_port 20_808; destinations = local_port 20_809 ∷ [] } ∷ [];
 }
 

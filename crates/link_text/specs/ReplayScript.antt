@@ -1,5 +1,5 @@
 -- Replay scripts: a head that says how a node is opened, and then a line for each of its events.
-use Rattle.std.specs.Prelude.{◌≡◌, ◌≤◌, ◌<◌, ◌^◌, ◌⊎◌, ◌+◌, ℕ, ℤ, List, [], ◌∷◌, ◌++◌, length, map, codes, All, drop, Ok, Option, Some, None}
+use Rattle.std.specs.Prelude.{◌≡◌, ◌≤◌, ◌<◌, ◌^◌, ◌⊎◌, ◌+◌, ℕ, ℤ, List, [], ◌∷◌, ◌++◌, length, map, codes, All, drop, if◌then◌else◌, nat_eq, pos, Ok, Option, Some, None}
 use Rattle.std.specs.List.{flat_map}
 use Rattle.std.specs.Fmt.{decimal, signed_decimal}
 use Rattle.hex.specs.Hex.{decode_of, encode_lower}
@@ -30,20 +30,35 @@ pub record IsGate (gate : GateValue) : Type 0 where
   pub few : length gate.destinations ≤ 32
   pub destinations : All IsEndpoint gate.destinations
 
--- what a head can say: the seed is a number of 64 bits
+-- what a head can say: the seed is a number of 64 bits, and the group one of 16
 pub record IsHead (config : ConfigValue) (now : ℤ) : Type 0 where
   pub id : IsVisibleId config.id
   pub seed : config.seed < 2 ^ 64
+  pub group : config.group < 2 ^ 16
   pub opens : IsConfig config
   pub gates : All IsGate config.gates
   pub moment : IsMoment now
 
-abbrev pub version_line : List ℕ
-version_line = joined (codes "replay" ∷ codes "1" ∷ [])
+abbrev pub version_line : ℕ → List ℕ
+version_line version = joined (codes "replay" ∷ decimal version ∷ [])
 
 abbrev pub node_line : ConfigValue → ℤ → List ℕ
 node_line config now =
     joined (codes "node" ∷ config.id.0 ∷ decimal config.seed ∷ signed_decimal config.mpb ∷ truth_text_of config.sync ∷ signed_decimal now ∷ [])
+
+abbrev pub group_line : ℕ → List ℕ
+group_line group = joined (codes "group" ∷ decimal group ∷ [])
+
+abbrev pub quantum_line : ℤ → List ℕ
+quantum_line quantum = joined (codes "quantum" ∷ signed_decimal quantum ∷ [])
+
+-- the lines of the group and of the quantum: version 1 has none
+abbrev pub profile_lines : ℕ → ConfigValue → List (List ℕ)
+profile_lines version config = if nat_eq version 1 then [] else group_line config.group ∷ quantum_line config.quantum ∷ []
+
+-- A script is of version 1 or 2. One of version 1 opens a node in the group 0 and with a quantum of four beats.
+abbrev pub IsVersion : ℕ → ConfigValue → Type 0
+IsVersion version config = ((version ≡ 1) × (config.group ≡ 0) × (config.quantum ≡ pos 4_000_000)) ⊎ (version ≡ 2)
 
 -- a gate's line, and those of its destinations
 abbrev pub gate_lines : GateValue → List (List ℕ)
@@ -51,8 +66,9 @@ gate_lines gate =
     joined (codes "gate" ∷ endpoint_text_of gate.local ∷ [])
     ∷ map (λ to. joined (codes "to" ∷ endpoint_text_of to ∷ [])) gate.destinations
 
-unfoldable pub head_lines : ConfigValue → ℤ → List (List ℕ)
-head_lines config now = version_line ∷ node_line config now ∷ flat_map gate_lines config.gates
+unfoldable pub head_lines : ℕ → ConfigValue → ℤ → List (List ℕ)
+head_lines version config now =
+    version_line version ∷ node_line config now ∷ (profile_lines version config ++ flat_map gate_lines config.gates)
 
 -- ---- an event
 
@@ -114,18 +130,20 @@ AreEventLines gates audio (line ∷ lines) [] = ⊥
 -- ---- a script
 
 -- the lines that count are those of the head and then those of the events
-pub record IsScript (lines : List (List ℕ)) (config : ConfigValue) (now : ℤ) (es : List EventValue) : Type 0 where
+pub record IsScript (lines : List (List ℕ)) (version : ℕ) (config : ConfigValue) (now : ℤ) (es : List EventValue) : Type 0 where
+  pub known : IsVersion version config
   pub head : IsHead config now
   pub rest : List (List ℕ)
-  pub said : counting_in lines ≡ head_lines config now ++ rest
+  pub said : counting_in lines ≡ head_lines version config now ++ rest
   pub events : AreEventLines (length config.gates) 0 rest es
 
-abbrev pub IsScriptOf : List ℕ → ConfigValue → ℤ → List EventValue → Type 0
-IsScriptOf text config now es = IsScript (lines_of text) config now es
+abbrev pub IsScriptOf : List ℕ → ℕ → ConfigValue → ℤ → List EventValue → Type 0
+IsScriptOf text version config now es = IsScript (lines_of text) version config now es
 
--- some config, opening moment and events are said by these lines
+-- some version, config, opening moment and events are said by these lines
 abbrev pub IsSomeScript : List (List ℕ) → Type 0
-IsSomeScript lines = (config : ConfigValue) × (now : ℤ) × (es : List EventValue) × IsScript lines config now es
+IsSomeScript lines =
+    (version : ℕ) × (config : ConfigValue) × (now : ℤ) × (es : List EventValue) × IsScript lines version config now es
 
 -- the text is no script
 abbrev pub IsNoScript : List ℕ → Type 0
@@ -162,9 +180,9 @@ abbrev pub SaysSome : List ℕ → ℕ → Type 0
 SaysSome text at = (gates audio : ℕ) × (es : List EventValue) × SaysFrom gates audio text at es
 
 -- the text is a script with this head, and its events are said from the place on
-pub record IsChecked (text : List ℕ) (config : ConfigValue) (now : ℤ) (first : ℕ) : Type 0 where
+pub record IsChecked (text : List ℕ) (version : ℕ) (config : ConfigValue) (now : ℤ) (first : ℕ) : Type 0 where
   pub es : List EventValue
-  pub script : IsScriptOf text config now es
+  pub script : IsScriptOf text version config now es
   pub from : SaysFrom (length config.gates) 0 text first es
 
 -- what is written for a node and its events: hex in lower case
@@ -182,12 +200,12 @@ hex_of (End now) = []
 abbrev pub event_line : EventValue → List ℕ
 event_line e = joined (event_words (hex_of e) e)
 
--- the whole text that is written, each line with its line feed
+-- the whole text that is written, of version 2, each line with its line feed
 abbrev pub ended : List ℕ → List ℕ
 ended line = line ++ 10 ∷ []
 
 unfoldable pub written_script_of : ConfigValue → ℤ → List EventValue → List ℕ
-written_script_of config now es = flat_map ended (head_lines config now) ++ flat_map (λ e. ended (event_line e)) es
+written_script_of config now es = flat_map ended (head_lines 2 config now) ++ flat_map (λ e. ended (event_line e)) es
 
 -- each event can be said after those before it
 abbrev pub AreSayable : ℕ → ℕ → List EventValue → Type 0

@@ -53,8 +53,8 @@ events_text_of m number [] = []
 events_text_of m number (e ∷ es) =
     event_text_of m number e ++ events_text_of (step_of m e) (number + length (published_in m e)) es
 
-unfoldable pub replay_text_of : ConfigValue → ℤ → List EventValue → List ℕ
-replay_text_of config now es =
+unfoldable pub replay_text_of : ℕ → ConfigValue → ℤ → List EventValue → List ℕ
+replay_text_of version config now es =
     state_line_of 0 (opened config now).published
     ++ events_text_of (opened config now) 1 es
     ++ done_line_of (length es) (length (published_of config now es)) (length (sent_of config now es))

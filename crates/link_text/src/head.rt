@@ -5,6 +5,8 @@ use link_node::Config;
 /// How the node of a script is opened, and where the lines of its events begin.
 #[derive(Debug, Drop)]
 pub struct Head {
+    /// Of the script's grammar: 1 or 2.
+    pub version: u8,
     pub config: Config,
     /// The opening moment, in microseconds.
     pub now: i64,

@@ -6,32 +6,47 @@ ghost use Rattle.std.specs.List.{flat_map};
 ghost use Rattle.arrayvec.specs.ArrayVec.{array_vec_len};
 ghost use Rattle.link_text.specs.Words.{truth_text_of};
 ghost use Rattle.link_node.specs.Config.{config_value, gate_value};
-ghost use Rattle.link_text.specs.ReplayScript.{gate_lines, head_lines, node_line, ended};
+ghost use Rattle.link_text.specs.ReplayScript.{ended, gate_lines, group_line, head_lines, node_line, quantum_line, version_line};
 ghost use Rattle.link_text.specs.GateLines.{destination_line, local_line};
 
 use crate::line::{LineBuf, put, put_decimal, put_endpoint, put_signed, put_truth};
 use link_node::{Config, GateSetup};
 use lk_base::{Endpoint, NodeId};
 
-/// Puts the k-th line of a script's head, from 0, in place of what the buffer held. False past the last one; nothing changes
-/// then. Memory: none.
+/// Puts the k-th line of the head of a script of version 2, from 0, in place of what the buffer held. False past the last one; nothing
+/// changes then. Memory: none.
 #[tactic(auto, unfolding(crate::specs::ReplayScript::head_lines))]
 pub fn write_head(line: &mut LineBuf, config: &Config, now: i64, k: u32) -> bool
-    ensures there { (l : List ℕ) → slice_get (head_lines (config_value config.now) now) k ≡ Some l
+    ensures there { (l : List ℕ) → slice_get (head_lines 2 (config_value config.now) now) k ≡ Some l
         → (result ≡ true) × (line.new.items ≡ ended l) }
-    ensures past { slice_get (head_lines (config_value config.now) now) k ≡ None
+    ensures past { slice_get (head_lines 2 (config_value config.now) now) k ≡ None
         → (result ≡ false) × (line.new ≡ line.old) }
 {
     if k == 0 {
-        line.clear();
-        put(line, b"replay 1\n");
+        write_version(line);
         return true;
     }
     if k == 1 {
         write_node(line, config, now);
         return true;
     }
-    write_gates(line, &config.gates, k - 2)
+    if k == 2 {
+        write_group(line, config.group);
+        return true;
+    }
+    if k == 3 {
+        write_quantum(line, config.quantum);
+        return true;
+    }
+    write_gates(line, &config.gates, k - 4)
+}
+
+// Puts the line of version 2 in place of what the buffer held.
+fn write_version(line: &mut LineBuf)
+    ensures { line.new.items ≡ ended (version_line 2) }
+{
+    line.clear();
+    put(line, b"replay 2\n");
 }
 
 // Puts the line of the node in place of what the buffer held.
@@ -69,6 +84,26 @@ fn put_setup(line: &mut LineBuf, config: &Config)
     put_signed(line, config.mpb);
     put(line, b" ");
     put_truth(line, config.sync);
+}
+
+// Puts the line of the group in place of what the buffer held.
+fn write_group(line: &mut LineBuf, group: u16)
+    ensures { line.new.items ≡ ended (group_line group) }
+{
+    line.clear();
+    put(line, b"group ");
+    put_decimal(line, u64::from(group));
+    put(line, b"\n");
+}
+
+// Puts the line of the quantum in place of what the buffer held.
+fn write_quantum(line: &mut LineBuf, quantum: i64)
+    ensures { line.new.items ≡ ended (quantum_line quantum) }
+{
+    line.clear();
+    put(line, b"quantum ");
+    put_signed(line, quantum);
+    put(line, b"\n");
 }
 
 // Puts the k-th of the lines of gates, from 0, in place of what the buffer held. False past the last one.

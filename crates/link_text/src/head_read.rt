@@ -1,22 +1,26 @@
 //! Reading the lines of a script's head.
 
-ghost use Rattle.std.specs.Prelude.{◌≡◌, ◌≤◌, ◌∷◌, [], ◌↔◌, ℕ, ℤ, List, length, map, codes, IsTrue, IfSome, IfNone};
+ghost use Rattle.std.specs.Prelude.{◌≡◌, ◌≤◌, ◌<◌, ◌^◌, ◌∷◌, [], ℕ, ℤ, List, length, map, codes, IfSome, IfNone};
 ghost use Rattle.std.specs.Fmt.{decimal, signed_decimal};
 ghost use Rattle.lk_base.specs.Endpoint.{IsEndpoint};
+ghost use Rattle.lk_base.specs.Ranges.{IsQuantum};
 ghost use Rattle.lk_base.specs.declared.endpoint.Endpoint.{Endpoint};
 ghost use Rattle.link_node.specs.Config.{ConfigValue, gate_value};
-ghost use Rattle.link_text.specs.HeadParts.{HasDestinations, HasGates, IsNode, IsNodeLine, config_of, LacksGate, LacksTo, gate_line, to_line};
+ghost use Rattle.link_text.specs.HeadParts.{HasDestinations, HasGates, IsKnownVersion, IsNode, IsNodeLine, LacksGate, LacksTo, gate_line, plain_of, to_line};
 ghost use Rattle.link_text.specs.LineWords.{words_of};
 ghost use Rattle.link_text.specs.Places.{IsAhead, counting_from};
-ghost use Rattle.link_text.specs.ReplayScript.{node_line, version_line};
+ghost use Rattle.link_text.specs.ReplayScript.{group_line, node_line, quantum_line, version_line};
 ghost use Rattle.link_text.specs.Words.{endpoint_text_of, truth_text_of};
 
 use crate::place::{Place, line_from};
-use crate::values::{endpoint_in, id_in, moment_in, number_in, tempo_in, truth_in};
+use crate::values::{endpoint_in, id_in, moment_in, number_in, quantum_in, tempo_in, truth_in};
 use crate::words::{first_word, is_end, is_word};
 use arrayvec::ArrayVec;
 use link_node::GateSetup;
 use lk_base::{Endpoint, NodeId};
+
+/// The greatest group.
+pub(crate) const GROUP_MAX: u64 = 65_535;
 
 /// What the line of a node says.
 #[derive(Clone, Copy, Debug)]
@@ -31,11 +35,18 @@ pub(crate) struct Node {
     pub now: i64,
 }
 
-/// Whether a line is the first one of a script.
-pub(crate) fn is_version_line(line: &[u8]) -> bool
-    ensures { IsTrue result ↔ (line.now ≡ version_line) }
+/// The version that the first line of a script says.
+pub(crate) fn version_of(line: &[u8]) -> Option<u8>
+    ensures some { IfSome result (λ version. IsKnownVersion version × (line.now ≡ version_line version)) }
+    ensures none { IfNone result ((version : ℕ) → IsKnownVersion version → line.now ≡ version_line version → ⊥) }
 {
-    is_word(line, b"replay 1")
+    if is_word(line, b"replay 1") {
+        return Some(1);
+    }
+    if is_word(line, b"replay 2") {
+        return Some(2);
+    }
+    None
 }
 
 /// What the line of a node says.
@@ -49,7 +60,7 @@ pub(crate) fn node_of(line: &[u8]) -> Option<Node>
 
 // What the words of a node's line say.
 fn node_in(line: &[u8]) -> Option<Node>
-    ensures some { IfSome result (λ node. IsNode (config_of node []) node.now × (words_of line.now
+    ensures some { IfSome result (λ node. IsNode (plain_of node) node.now × (words_of line.now
         ≡ codes "node" ∷ node.id.0 ∷ decimal node.seed ∷ signed_decimal node.mpb ∷ truth_text_of node.sync
         ∷ signed_decimal node.now ∷ [])) }
     ensures none { IfNone result ((config : ConfigValue) (now : ℤ) → IsNode config now → words_of line.now
@@ -85,6 +96,62 @@ fn node_in(line: &[u8]) -> Option<Node>
         sync,
         now,
     })
+}
+
+/// The group that its line says.
+pub(crate) fn group_of(line: &[u8]) -> Option<u16>
+    ensures some { IfSome result (λ group. (group < 2 ^ 16) × (line.now ≡ group_line group)) }
+    ensures none { IfNone result ((group : ℕ) → group < 2 ^ 16 → line.now ≡ group_line group → ⊥) }
+{
+    group_behind(line)
+}
+
+// The group that stands behind the word for it, at the end of the line.
+fn group_behind(line: &[u8]) -> Option<u16>
+    ensures some { IfSome result (λ group. (group < 2 ^ 16)
+        × (words_of line.now ≡ codes "group" ∷ decimal group ∷ [])) }
+    ensures none { IfNone result ((group : ℕ) → group < 2 ^ 16
+        → words_of line.now ≡ codes "group" ∷ decimal group ∷ [] → ⊥) }
+{
+    let (kind, left) = first_word(line);
+    if !is_word(kind, b"group") {
+        return None;
+    }
+    let Some((group, left)) = number_in(left, GROUP_MAX) else {
+        return None;
+    };
+    if !is_end(left) {
+        return None;
+    }
+    Some(group as u16)
+}
+
+/// The quantum that its line says, in microbeats.
+pub(crate) fn quantum_of(line: &[u8]) -> Option<i64>
+    ensures some { IfSome result (λ quantum. IsQuantum quantum × (line.now ≡ quantum_line quantum)) }
+    ensures none { IfNone result ((quantum : ℤ) → IsQuantum quantum → line.now ≡ quantum_line quantum → ⊥) }
+{
+    quantum_behind(line)
+}
+
+// The quantum that stands behind the word for it, at the end of the line.
+fn quantum_behind(line: &[u8]) -> Option<i64>
+    ensures some { IfSome result (λ quantum. IsQuantum quantum
+        × (words_of line.now ≡ codes "quantum" ∷ signed_decimal quantum ∷ [])) }
+    ensures none { IfNone result ((quantum : ℤ) → IsQuantum quantum
+        → words_of line.now ≡ codes "quantum" ∷ signed_decimal quantum ∷ [] → ⊥) }
+{
+    let (kind, left) = first_word(line);
+    if !is_word(kind, b"quantum") {
+        return None;
+    }
+    let Some((quantum, left)) = quantum_in(left) else {
+        return None;
+    };
+    if !is_end(left) {
+        return None;
+    }
+    Some(quantum)
 }
 
 /// The gates whose lines stand from a place on, at most four, and the place behind them.

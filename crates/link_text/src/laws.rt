@@ -12,18 +12,18 @@ ghost use Rattle.link_text.specs.ReplayScript.{IsHead, IsScriptOf, IsFirstFault,
 ghost use Rattle.link_text.specs.declared.live_script.AppCommand.{AppCommand};
 ghost use Rattle.link_text.specs.declared.live_script.BlockCommand.{BlockCommand};
 
-/// What is written for a node and its events is a script of just that node and those events.
+/// What is written for a node and its events is a script of version 2, of just that node and those events.
 pub fn written_scripts_are_read()
     ensures { (config : ConfigValue) (now : ℤ) (es : List EventValue) → IsHead config now → AreSayable (length config.gates) 0 es
-        → IsScriptOf (written_script_of config now es) config now es }
+        → IsScriptOf (written_script_of config now es) 2 config now es }
 {}
 
-/// A text says one node and one list of events at most, and one line of a text outside the grammar is the first at fault.
+/// A text says one version, one node and one list of events at most, and one line of a text outside the grammar is the first at fault.
 pub fn one_script()
-    ensures config { (text : List ℕ) (c d : ConfigValue) (now at : ℤ) (es fs : List EventValue)
-        → IsScriptOf text c now es → IsScriptOf text d at fs → (c ≡ d) × (now ≡ at) × (es ≡ fs) }
+    ensures config { (text : List ℕ) (v w : ℕ) (c d : ConfigValue) (now at : ℤ) (es fs : List EventValue)
+        → IsScriptOf text v c now es → IsScriptOf text w d at fs → (v ≡ w) × (c ≡ d) × (now ≡ at) × (es ≡ fs) }
     ensures fault { (text : List ℕ) (k j : ℕ) → IsFirstFault text k → IsFirstFault text j → k ≡ j }
-    ensures no_fault { (text : List ℕ) (k : ℕ) (c : ConfigValue) (now : ℤ) (es : List EventValue) → IsFirstFault text k → IsScriptOf text c now es → ⊥ }
+    ensures no_fault { (text : List ℕ) (k v : ℕ) (c : ConfigValue) (now : ℤ) (es : List EventValue) → IsFirstFault text k → IsScriptOf text v c now es → ⊥ }
 {}
 
 /// A node can take the events of a script, which are no more than its text has bytes.

@@ -88,6 +88,8 @@ impl LoadEvents {
             seed: self.seed,
             mpb: 500_000,
             sync: true,
+            group: 0,
+            quantum: 4_000_000,
             gates,
         }
     }

@@ -3,7 +3,7 @@
 ghost use Rattle.std.specs.Prelude.{◌≤◌, ◌<◌, ◌-◌, ◌^◌, length};
 
 use crate::event_read::event_of;
-use crate::head_read::{destination_of, gate_of};
+use crate::head_read::{destination_of, gate_of, version_of};
 use crate::place::{first_place, line_from};
 use crate::replay_script::audio_behind;
 use std::fmt;
@@ -51,8 +51,11 @@ enum Kind {
 #[derive(Clone, Copy, Debug, PartialEq, Eq)]
 enum Stage {
     Version,
-    /// The line of a node or of a setup.
-    Opening,
+    /// The line of a node in a replay script of this version, or of a setup.
+    Opening { version: u8 },
+    /// The group and the quantum of a replay script of version 2.
+    Group,
+    Quantum,
     /// So many gates stand, the last with so many destinations.
     Gates { gates: u8, destinations: u8 },
     /// Events, with the number of the last audio commit, or commands.
@@ -101,8 +104,12 @@ fn explain_as(kind: Kind, text: &[u8], line: u32) -> Reason
 // What a script has behind a line.
 fn stage_behind(kind: Kind, stage: Stage, line: &[u8]) -> Stage {
     match stage {
-        Stage::Version => Stage::Opening,
-        Stage::Opening => Stage::Gates {
+        Stage::Version => Stage::Opening {
+            version: version_of(line).unwrap_or(1),
+        },
+        Stage::Opening { version: 2 } => Stage::Group,
+        Stage::Group => Stage::Quantum,
+        Stage::Opening { .. } | Stage::Quantum => Stage::Gates {
             gates: 0,
             destinations: 0,
         },
@@ -152,7 +159,9 @@ fn expected_at(kind: Kind, stage: Stage) -> Expected {
 fn expected_in_replay(stage: Stage) -> Expected {
     match stage {
         Stage::Version => Expected::Version,
-        Stage::Opening => Expected::Node,
+        Stage::Opening { .. } => Expected::Node,
+        Stage::Group => Expected::Group,
+        Stage::Quantum => Expected::Quantum,
         Stage::Gates {
             gates,
             destinations,
@@ -170,7 +179,8 @@ fn expected_in_replay(stage: Stage) -> Expected {
 fn expected_in_live(stage: Stage) -> Expected {
     match stage {
         Stage::Version => Expected::LiveVersion,
-        Stage::Opening => Expected::Setup,
+        // Neither a group nor a quantum has a line of its own.
+        Stage::Opening { .. } | Stage::Group | Stage::Quantum => Expected::Setup,
         Stage::Gates {
             gates,
             destinations,

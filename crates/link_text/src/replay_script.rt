@@ -1,16 +1,17 @@
 //! Replay scripts: checking one, and taking its events.
 
 ghost use Rattle.std.specs.Prelude.{◌≡◌, ◌≤◌, ◌<◌, ◌-◌, ◌^◌, ◌∷◌, [], ℕ, ℤ, List, length, IfOk, IfErr, IfSome, IfNone};
+ghost use Rattle.lk_base.specs.Ranges.{IsQuantum};
 ghost use Rattle.link_node.specs.Config.{ConfigValue, config_value};
 ghost use Rattle.link_node.specs.Event.{EventValue, event_value, audio_after};
-ghost use Rattle.link_text.specs.HeadParts.{IsNode, config_of};
+ghost use Rattle.link_text.specs.HeadParts.{IsFront, IsKnownVersion, IsNode, config_of, plain_of};
 ghost use Rattle.link_text.specs.Places.{HasBadEvent, IsAhead, counting_from};
-ghost use Rattle.link_text.specs.ReplayScript.{AreEventLines, IsChecked, IsLineFault, SaysFrom, SaysSome, node_line, version_line};
+ghost use Rattle.link_text.specs.ReplayScript.{AreEventLines, IsChecked, IsLineFault, SaysFrom, SaysSome, group_line, node_line, quantum_line, version_line};
 
 use crate::event_read::event_of;
 use crate::fault::BadLine;
 use crate::head::Head;
-use crate::head_read::{Node, gates_from, is_version_line, node_of};
+use crate::head_read::{Node, gates_from, group_of, node_of, quantum_of, version_of};
 use crate::place::{Place, first_place, line_from, pass};
 use crate::text_line::line_at;
 use link_node::{Config, Event};
@@ -22,7 +23,7 @@ const MOST_GATES: u8 = 4;
 /// that begin with `#` are passed over. Memory: none.
 pub fn check_replay(text: &[u8]) -> Result<Head, BadLine>
     requires { length text.now ≤ 2 ^ 32 - 2 }
-    ensures script { IfOk result (λ head. IsChecked text.now (config_value head.config) head.now head.first) }
+    ensures script { IfOk result (λ head. IsChecked text.now head.version (config_value head.config) head.now head.first) }
     ensures fault { IfErr result (λ bad. IsLineFault text.now bad.line) }
 {
     match read_script(text) {
@@ -55,64 +56,113 @@ pub fn next_event(text: &[u8], at: &mut usize) -> Option<Event>
     Some(event)
 }
 
+/// What a script says before its gates.
+#[derive(Clone, Copy, Debug)]
+struct Front {
+    version: u8,
+    node: Node,
+    group: u16,
+    quantum: i64,
+    /// The place behind it.
+    behind: Place,
+}
+
 // The whole script, or the place of the first line at fault.
 fn read_script(text: &[u8]) -> Result<Head, Place>
     requires { length text.now ≤ 2 ^ 32 - 2 }
-    ensures script { IfOk result (λ head. IsChecked text.now (config_value head.config) head.now head.first) }
+    ensures script { IfOk result (λ head. IsChecked text.now head.version (config_value head.config) head.now head.first) }
     ensures fault { IfErr result (λ place. IsLineFault text.now place.number) }
 {
-    let first = first_place(text);
-    let Some(second) = version_from(text, first) else {
-        return Err(first);
+    let front = match front_of(text) {
+        Ok(front) => front,
+        Err(place) => return Err(place),
     };
-    let Some((node, third)) = node_from(text, second) else {
-        return Err(second);
-    };
-    let (gates, place) = gates_from(text, third);
+    let (gates, place) = gates_from(text, front.behind);
     if gates.is_empty() {
-        return Err(third);
+        return Err(front.behind);
     }
     if let Err(bad) = events_from(text, place, gates.len() as u8) {
         return Err(bad);
     }
     Ok(Head {
+        version: front.version,
         config: Config {
-            id: node.id,
-            seed: node.seed,
-            mpb: node.mpb,
-            sync: node.sync,
+            id: front.node.id,
+            seed: front.node.seed,
+            mpb: front.node.mpb,
+            sync: front.node.sync,
+            group: front.group,
+            quantum: front.quantum,
             gates,
         },
-        now: node.now,
+        now: front.node.now,
         first: place.at,
     })
 }
 
-// The place behind the version line, if that is the next one.
-fn version_from(text: &[u8], place: Place) -> Option<Place>
+// What stands before the gates, or the place of the first line at fault there. A script of version 1 says neither group nor quantum.
+fn front_of(text: &[u8]) -> Result<Front, Place>
+    requires { length text.now ≤ 2 ^ 32 - 2 }
+    ensures front { IfOk result (λ front.
+        IsFront text.now front.version (config_of front.node front.group front.quantum) front.node.now front.behind) }
+    ensures fault { IfErr result (λ place. IsLineFault text.now place.number) }
+{
+    let first = first_place(text);
+    let Some((version, second)) = version_from(text, first) else {
+        return Err(first);
+    };
+    let Some((node, third)) = node_from(text, second) else {
+        return Err(second);
+    };
+    if version == 1 {
+        return Ok(Front {
+            version,
+            node,
+            group: 0,
+            quantum: 4_000_000,
+            behind: third,
+        });
+    }
+    let Some((group, fourth)) = group_from(text, third) else {
+        return Err(third);
+    };
+    let Some((quantum, behind)) = quantum_from(text, fourth) else {
+        return Err(fourth);
+    };
+    Ok(Front {
+        version,
+        node,
+        group,
+        quantum,
+        behind,
+    })
+}
+
+// The version that the version line says and the place behind it, if that is the next one.
+fn version_from(text: &[u8], place: Place) -> Option<(u8, Place)>
     requires { IsAhead text.now place }
-    ensures ahead { IfSome result (IsAhead text.now) }
-    ensures some { IfSome result (λ next.
-        counting_from text.now place.at ≡ version_line ∷ counting_from text.now next.at) }
-    ensures none { IfNone result ((rest : List (List ℕ))
-        → counting_from text.now place.at ≡ version_line ∷ rest → ⊥) }
+    ensures ahead { IfSome result (λ found. IsAhead text.now found.1) }
+    ensures some { IfSome result (λ found. IsKnownVersion found.0
+        × (counting_from text.now place.at ≡ version_line found.0 ∷ counting_from text.now found.1.at)) }
+    ensures none { IfNone result ((version : ℕ) (rest : List (List ℕ)) → IsKnownVersion version
+        → counting_from text.now place.at ≡ version_line version ∷ rest → ⊥) }
 {
     if place.at == text.len() {
         return None;
     }
     let (line, next) = line_from(text, place);
-    if !is_version_line(line) {
+    let Some(version) = version_of(line) else {
         return None;
-    }
-    Some(next)
+    };
+    Some((version, next))
 }
 
 // What the node's line says and the place behind it, if that is the next one.
 fn node_from(text: &[u8], place: Place) -> Option<(Node, Place)>
     requires { IsAhead text.now place }
     ensures ahead { IfSome result (λ found. IsAhead text.now found.1) }
-    ensures some { IfSome result (λ found. IsNode (config_of found.0 []) found.0.now
-        × (counting_from text.now place.at ≡ node_line (config_of found.0 []) found.0.now ∷ counting_from text.now found.1.at)) }
+    ensures some { IfSome result (λ found. IsNode (plain_of found.0) found.0.now
+        × (counting_from text.now place.at ≡ node_line (plain_of found.0) found.0.now ∷ counting_from text.now found.1.at)) }
     ensures none { IfNone result ((config : ConfigValue) (now : ℤ) (rest : List (List ℕ)) → IsNode config now
         → counting_from text.now place.at ≡ node_line config now ∷ rest → ⊥) }
 {
@@ -124,6 +174,44 @@ fn node_from(text: &[u8], place: Place) -> Option<(Node, Place)>
         return None;
     };
     Some((node, next))
+}
+
+// The group that its line says and the place behind it, if that is the next one.
+fn group_from(text: &[u8], place: Place) -> Option<(u16, Place)>
+    requires { IsAhead text.now place }
+    ensures ahead { IfSome result (λ found. IsAhead text.now found.1) }
+    ensures some { IfSome result (λ found. (found.0 < 2 ^ 16)
+        × (counting_from text.now place.at ≡ group_line found.0 ∷ counting_from text.now found.1.at)) }
+    ensures none { IfNone result ((group : ℕ) (rest : List (List ℕ)) → group < 2 ^ 16
+        → counting_from text.now place.at ≡ group_line group ∷ rest → ⊥) }
+{
+    if place.at == text.len() {
+        return None;
+    }
+    let (line, next) = line_from(text, place);
+    let Some(group) = group_of(line) else {
+        return None;
+    };
+    Some((group, next))
+}
+
+// The quantum that its line says and the place behind it, if that is the next one.
+fn quantum_from(text: &[u8], place: Place) -> Option<(i64, Place)>
+    requires { IsAhead text.now place }
+    ensures ahead { IfSome result (λ found. IsAhead text.now found.1) }
+    ensures some { IfSome result (λ found. IsQuantum found.0
+        × (counting_from text.now place.at ≡ quantum_line found.0 ∷ counting_from text.now found.1.at)) }
+    ensures none { IfNone result ((quantum : ℤ) (rest : List (List ℕ)) → IsQuantum quantum
+        → counting_from text.now place.at ≡ quantum_line quantum ∷ rest → ⊥) }
+{
+    if place.at == text.len() {
+        return None;
+    }
+    let (line, next) = line_from(text, place);
+    let Some(quantum) = quantum_of(line) else {
+        return None;
+    };
+    Some((quantum, next))
 }
 
 // Whether all lines from a place on say events; the error is the first that says none.

@@ -3,7 +3,7 @@
 ghost use Rattle.std.specs.Prelude.{◌≡◌, ◌≤◌, ◌∷◌, ℕ, ℤ, Bool, List, length, IfSome, IfNone, pos, ◌≤ℤ◌};
 ghost use Rattle.std.specs.Fmt.{decimal, signed_decimal};
 ghost use Rattle.lk_base.specs.Endpoint.{IsEndpoint};
-ghost use Rattle.lk_base.specs.Ranges.{IsMoment, IsWithinLimit};
+ghost use Rattle.lk_base.specs.Ranges.{IsMoment, IsQuantum, IsWithinLimit};
 ghost use Rattle.lk_base.specs.declared.endpoint.Endpoint.{Endpoint};
 ghost use Rattle.lk_base.specs.declared.ids.NodeId.{NodeId};
 ghost use Rattle.link_payload.specs.Entries.{AreBytes};
@@ -18,6 +18,9 @@ use crate::number::{amount_of, number_of, signed_of};
 use crate::truth::truth_of;
 use crate::words::next_word;
 use lk_base::{Endpoint, MOMENT_MAX, NodeId, Wire};
+
+/// The greatest length of a quantum, in microbeats: 2^40.
+const QUANTUM_MAX: u64 = 1_099_511_627_776;
 
 /// A number up to `limit`, and what is left behind it.
 pub(crate) fn number_in(left: &[u8], limit: u64) -> Option<(u64, &[u8])>
@@ -65,6 +68,22 @@ pub(crate) fn tempo_in(left: &[u8]) -> Option<(i64, &[u8])>
         return None;
     };
     Some((tempo, left))
+}
+
+/// The length of a quantum, from 0 to 2^40 microbeats, and what is left behind it.
+pub(crate) fn quantum_in(left: &[u8]) -> Option<(i64, &[u8])>
+    ensures some { IfSome result (λ found. IsQuantum found.0
+        × (words_left left.now ≡ signed_decimal found.0 ∷ words_left found.1.now)) }
+    ensures none { IfNone result ((n : ℤ) (rest : List (List ℕ)) → IsQuantum n
+        → words_left left.now ≡ signed_decimal n ∷ rest → ⊥) }
+{
+    let Some((word, left)) = next_word(left) else {
+        return None;
+    };
+    let Some(quantum) = amount_of(word, 0, QUANTUM_MAX) else {
+        return None;
+    };
+    Some((quantum, left))
 }
 
 /// A number within 2^60 of 0, and what is left behind it.

@@ -5,6 +5,8 @@
 pub enum Expected {
     Version,
     Node,
+    Group,
+    Quantum,
     Gate,
     GateDestinationOrEvent,
     GateOrEvent,
@@ -15,6 +17,10 @@ pub enum Expected {
     Tempo,
     Truth,
     Moment,
+    /// The number of a group.
+    GroupNumber,
+    /// The length of a quantum.
+    QuantumLength,
     Endpoint,
     /// Of one to four gates.
     GateNumber { gates: u8 },
@@ -48,8 +54,12 @@ impl Expected {
     /// What it is in words.
     pub fn text(self) -> &'static str {
         match self {
-            Expected::Version => "`replay 1`",
+            Expected::Version => "`replay 1` or `replay 2`",
             Expected::Node => "`node` and a node's id, seed, tempo, sync and opening moment",
+            Expected::Group =>
+                "`group` and a number from 0 to 65535, which stand before the gates in version 2",
+            Expected::Quantum =>
+                "`quantum` and a number from 0 to 1099511627776, which stand before the gates in version 2",
             Expected::Gate => "`gate` and the endpoint of the node's first gate",
             Expected::GateDestinationOrEvent =>
                 "`gate`, `to` or an event: `rx`, `tick`, `app`, `audio` or `end`",
@@ -64,6 +74,9 @@ impl Expected {
                 "a tempo from 60060 to 3000000 microseconds per beat (500000 is 120 beats a minute)",
             Expected::Truth => "1 or 0",
             Expected::Moment => "a moment from 0 to 36028797018963968 microseconds",
+            Expected::GroupNumber => "a number from 0 to 65535",
+            Expected::QuantumLength =>
+                "a number from 0 to 1099511627776 microbeats (4000000 is four beats)",
             Expected::Endpoint => "an endpoint as in 127.0.0.1:20808",
             Expected::GateNumber { gates: 1 } => "0, the number of the only gate",
             Expected::GateNumber { gates: 2 } => "0 or 1, the number of a gate",

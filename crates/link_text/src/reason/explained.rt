@@ -1,11 +1,12 @@
 //! Where a line stops to be what is expected.
 
 use crate::event_read::AUDIO_MAX;
+use crate::head_read::GROUP_MAX;
 use crate::live_read::BLOCK_MAX;
 use crate::number::signed_of;
 use crate::reason::{Excerpt, Expected, Found, Kind, Reason, Stage, expected_at};
 use crate::values::{
-    bytes_in, endpoint_in, id_in, moment_in, number_in, signed_in, tempo_in, truth_in,
+    bytes_in, endpoint_in, id_in, moment_in, number_in, quantum_in, signed_in, tempo_in, truth_in,
 };
 use crate::words::{first_word, is_word, next_word};
 
@@ -13,7 +14,9 @@ use crate::words::{first_word, is_word, next_word};
 pub(crate) fn explained(kind: Kind, line: &[u8], stage: Stage) -> Reason {
     match stage {
         Stage::Version => version(kind, line),
-        Stage::Opening => opening(kind, line),
+        Stage::Opening { .. } => opening(kind, line),
+        Stage::Group => group(line),
+        Stage::Quantum => quantum(line),
         Stage::Gates {
             gates,
             destinations,
@@ -88,10 +91,14 @@ fn version(kind: Kind, line: &[u8]) -> Reason {
     let Some((number, rest)) = next_word(left) else {
         return behind(line, left, expected);
     };
-    if !is_word(number, b"1") {
+    if !is_version(kind, number) {
         return behind(line, left, expected);
     }
     behind(line, rest, Expected::LineEnd)
+}
+
+fn is_version(kind: Kind, number: &[u8]) -> bool {
+    is_word(number, b"1") || (kind == Kind::Replay && is_word(number, b"2"))
 }
 
 fn opening(kind: Kind, line: &[u8]) -> Reason {
@@ -122,6 +129,28 @@ fn node(line: &[u8]) -> Reason {
         return behind(line, moment, Expected::Moment);
     };
     behind(line, left, Expected::LineEnd)
+}
+
+fn group(line: &[u8]) -> Reason {
+    let (word, left) = first_word(line);
+    if !is_word(word, b"group") {
+        return at(0, word, left, Expected::Group);
+    }
+    match number_in(left, GROUP_MAX) {
+        Some((_, left)) => behind(line, left, Expected::LineEnd),
+        None => behind(line, left, Expected::GroupNumber),
+    }
+}
+
+fn quantum(line: &[u8]) -> Reason {
+    let (word, left) = first_word(line);
+    if !is_word(word, b"quantum") {
+        return at(0, word, left, Expected::Quantum);
+    }
+    match quantum_in(left) {
+        Some((_, left)) => behind(line, left, Expected::LineEnd),
+        None => behind(line, left, Expected::QuantumLength),
+    }
 }
 
 fn setup(line: &[u8]) -> Reason {

@@ -10,4 +10,4 @@ pub returns-clause-fault : goal.returns-clause-fault
 returns-clause-fault c = one_fault IsSomeScript
 
 pub returns-clause-no_fault : goal.returns-clause-no_fault
-returns-clause-no_fault c = λ text k config now es first is. no_text IsSomeScript text k first (config, now, es, is)
+returns-clause-no_fault c = λ text k version config now es first is. no_text IsSomeScript text k first (version, config, now, es, is)

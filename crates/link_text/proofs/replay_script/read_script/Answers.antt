@@ -7,54 +7,54 @@ use Rattle.link_node.specs.Config.{GateValue, gate_value}
 use Rattle.link_node.specs.declared.config.GateSetup.{GateSetup}
 use Rattle.link_text.specs.HeadParts.{config_of, LacksGate}
 use Rattle.link_text.specs.Places.{counting_from}
-use Rattle.link_text.specs.ReplayScript.{AreEventLines, version_line, node_line, gate_lines}
+use Rattle.link_text.specs.ReplayScript.{AreEventLines, gate_lines}
 use Rattle.link_text.proofs.NumberLemmas.{stored}
-use Rattle.link_text.proofs.ScriptLemmas.{fault_here, starts_none, starts_version, starts_node, no_version, no_node, no_gate, head_is, head_said, checked, bad_event}
+use Rattle.link_text.proofs.ScriptLemmas.{no_first_gate, head_is, head_said, checked, bad_event, with_gates}
 use Rattle.link_text.proofs.replay_script.read_script.Goals as goal
-
-pub returns-in_default-clause-fault : goal.returns-in_default-clause-fault
-returns-in_default-clause-fault c =
-    fault_here c.args.text.now c.first_place-first.result [] c.requires c.first_place-first.ensures.ahead c.first_place-first.ensures.counting starts_none
-    (no_version _ c.in_default.ensures.none)
-
-pub returns-in_default-node_from-clause-fault : goal.returns-in_default-node_from-clause-fault
-returns-in_default-node_from-clause-fault c =
-    fault_here c.args.text.now c.in-Some.second (version_line ∷ []) c.requires c.in-Some.ensures.ahead (c.first_place-first.ensures.counting ∙ c.in-Some.ensures.some)
-    starts_version (no_node _ c.in_default-node_from.ensures.none)
 
 pub returns-then-is_empty-clause-fault : goal.returns-then-is_empty-clause-fault
 returns-then-is_empty-clause-fault c =
-    let node = c.in-Some-node_from.node in
+    let front = c.in-Ok.front in
+    let text = c.args.text.now in
     let none : length c.gates_from-gates.result.0.items ≡ 0 = grind (arith, nat_tests) in
     let nothing : map gate_value c.gates_from-gates.result.0.items ≡ [] = ap (λ (xs : List GateSetup). map gate_value xs) (nil_from_length c.gates_from-gates.result.0.items none) in
-    let said = c.gates_from-gates.ensures.gates.said ∙ ap (λ (gs : List GateValue). flat_map gate_lines gs ++ counting_from c.args.text.now c.gates_from-gates.result.1.at) nothing in
-    fault_here c.args.text.now c.in-Some-node_from.third (version_line ∷ node_line (config_of node []) node.now ∷ []) c.requires c.in-Some-node_from.ensures.ahead
-    (c.first_place-first.ensures.counting ∙ c.in-Some.ensures.some ∙ ap (λ (ls : List (List ℕ)). version_line ∷ ls) c.in-Some-node_from.ensures.some.1)
-    (starts_node (config_of node []) node.now c.in-Some-node_from.ensures.some.0)
-    (no_gate _ (config_of node []) node.now (subst (λ (n : ℕ). LacksGate n (counting_from c.args.text.now c.in-Some-node_from.third.at)) none (subst (λ (ls : List (List ℕ)). LacksGate (length c.gates_from-gates.result.0.items) ls) (sym said) c.gates_from-gates.ensures.all)))
+    let said = c.gates_from-gates.ensures.gates.said ∙ ap (λ (gs : List GateValue). flat_map gate_lines gs ++ counting_from text c.gates_from-gates.result.1.at) nothing in
+    no_first_gate text front.version (config_of front.node front.group front.quantum) front.node.now front.behind c.requires c.in-Ok.ensures.front
+    (subst (λ (n : ℕ). LacksGate n (counting_from text front.behind.at)) none (subst (λ (ls : List (List ℕ)). LacksGate (length c.gates_from-gates.result.0.items) ls) (sym said) c.gates_from-gates.ensures.all))
 
-pub returns-in-Err-clause-fault : goal.returns-in-Err-clause-fault
-returns-in-Err-clause-fault c =
-    let node = c.in-Some-node_from.node in
+pub returns-in-Err-events_from-clause-fault : goal.returns-in-Err-events_from-clause-fault
+returns-in-Err-events_from-clause-fault c =
+    let front = c.in-Ok.front in
+    let config = config_of front.node front.group front.quantum in
+    let is = c.in-Ok.ensures.front in
     let gates = c.gates_from-gates.ensures.gates in
+    let values = map gate_value c.gates_from-gates.result.0.items in
     let long = length-map c.gates_from-gates.result.0.items gate_value in
     let some : 1 ≤ length c.gates_from-gates.result.0.items = grind (arith, nat_tests) in
-    let head = head_is node (map gate_value c.gates_from-gates.result.0.items) c.in-Some-node_from.ensures.some.0 (omega (arith, long, some)) gates.few gates.each in
-    bad_event c.args.text.now (config_of node (map gate_value c.gates_from-gates.result.0.items)) node.now c.gates_from-gates.result.1 c.in-Err.bad _ c.requires head
-    (head_said node (map gate_value c.gates_from-gates.result.0.items) _ _ _ _ _ c.first_place-first.ensures.counting c.in-Some.ensures.some c.in-Some-node_from.ensures.some.1 gates.said)
+    bad_event c.args.text.now front.version (with_gates config values) front.node.now c.gates_from-gates.result.1 c.in-Err-events_from.bad _ c.requires is.opening.known
+    (head_is front.version config front.node.now values is.opening (omega (arith, long, some)) gates.few gates.each)
+    (head_said c.args.text.now front.version config front.node.now front.behind values _ is gates.said)
     gates.full (subst (λ (n : ℕ). LacksGate n (counting_from c.args.text.now c.gates_from-gates.result.1.at)) (sym long) c.gates_from-gates.ensures.all)
-    (c.len.ensures.value ∙ sym long) c.in-Err.ensures.fault
+    (c.len.ensures.value ∙ sym long) c.in-Err-events_from.ensures.fault
 
 pub returns-clause-script : goal.returns-clause-script
 returns-clause-script c =
-    let node = c.in-Some-node_from.node in
-    let is = c.in-Some-node_from.ensures.some.0 in
+    let front = c.in-Ok.front in
+    let config = config_of front.node front.group front.quantum in
+    let is = c.in-Ok.ensures.front in
+    let node = is.opening.node in
+    let quantum = is.opening.quantum in
     let gates = c.gates_from-gates.ensures.gates in
+    let values = map gate_value c.gates_from-gates.result.0.items in
     let long = length-map c.gates_from-gates.result.0.items gate_value in
     let some : 1 ≤ length c.gates_from-gates.result.0.items = grind (arith, nat_tests) in
-    let head = head_is node (map gate_value c.gates_from-gates.result.0.items) is (omega (arith, long, some)) gates.few gates.each in
-    let events = c.in_default-events_from.ensures.events in
-    rw (stored node.mpb 3_000_000 (omega (arith, ints, is.fastest)) is.slowest (omega arith), stored node.now (2 ^ 55) is.moment.0 is.moment.1 (omega arith))
-    (checked c.args.text.now (config_of node (map gate_value c.gates_from-gates.result.0.items)) node.now c.gates_from-gates.result.1 events.0 c.gates_from-gates.ensures.ahead head
-    (head_said node (map gate_value c.gates_from-gates.result.0.items) _ _ _ _ _ c.first_place-first.ensures.counting c.in-Some.ensures.some c.in-Some-node_from.ensures.some.1 gates.said)
+    let events = c.in_default.ensures.events in
+    rw (
+      stored front.node.mpb 3_000_000 (omega (arith, ints, node.fastest)) node.slowest (omega arith),
+      stored front.node.now (2 ^ 55) node.moment.0 node.moment.1 (omega arith),
+      stored front.quantum (2 ^ 40) quantum.0 quantum.1 (omega arith),
+    )
+    (checked c.args.text.now front.version (with_gates config values) front.node.now c.gates_from-gates.result.1 events.0 c.gates_from-gates.ensures.ahead is.opening.known
+    (head_is front.version config front.node.now values is.opening (omega (arith, long, some)) gates.few gates.each)
+    (head_said c.args.text.now front.version config front.node.now front.behind values _ is gates.said)
     (subst (λ (n : ℕ). AreEventLines n 0 (counting_from c.args.text.now c.gates_from-gates.result.1.at) events.0) (c.len.ensures.value ∙ sym long) events.1))
