@@ -273,10 +273,11 @@ less_left Stands gates app audio text at next events states sends start kept now
 -- ---- a whole replay
 
 -- the node of a script that was checked, opened at its moment
-pub opened_by : (Stands : Machine → Type 0) (gates app audio : ℕ) (text : List ℕ) (config : ConfigValue) (now at : ℤ) (first : ℕ)
-    → IsChecked text config now first → at ≡ now → Stands (opened config at) → gates ≡ length config.gates → app ≡ 0 → audio ≡ 0
+pub opened_by : (Stands : Machine → Type 0) (gates app audio : ℕ) (text : List ℕ) (version : ℕ) (config : ConfigValue) (now at : ℤ) (first : ℕ)
+    → IsChecked text version config now first → at ≡ now → Stands (opened config at) → gates ≡ length config.gates → app ≡ 0 → audio ≡ 0
     → IsOpened Stands gates app audio text first
-opened_by Stands gates app audio text config now at first checked same stands gates_are no_app no_audio = record {
+opened_by Stands gates app audio text version config now at first checked same stands gates_are no_app no_audio = record {
+  version = version;
   config = config;
   now = now;
   es = checked.es;
@@ -297,26 +298,26 @@ opened_goes_on few Stands gates app audio text first is short = record {
 
 -- the output of the script
 pub gives_output : (Stands : Machine → Type 0) (gates app audio : ℕ) (text : List ℕ) (first : ℕ) (is : IsOpened Stands gates app audio text first)
-    → GivesReplay text (replay_text_of is.config is.now is.es)
-gives_output Stands gates app audio text first is = (is.config, is.now, is.es, is.script, refl)
+    → GivesReplay text (replay_text_of is.version is.config is.now is.es)
+gives_output Stands gates app audio text first is = (is.version, is.config, is.now, is.es, is.script, refl)
 
 -- the sink failed at the opening state
-pub replay_part_first : (config : ConfigValue) (now : ℤ) (es : List EventValue) (state : State) (before after : Option (List ℕ)) (kept : List ℕ)
+pub replay_part_first : (version : ℕ) (config : ConfigValue) (now : ℤ) (es : List EventValue) (state : State) (before after : Option (List ℕ)) (kept : List ℕ)
     → state ≡ (opened config now).published → HandsPart (state_line_of 0 state) before kept after
-    → HandsPart (replay_text_of config now es) before kept after
+    → HandsPart (replay_text_of version config now es) before kept after
 unfolding replay_text_of
-replay_part_first config now es state before after kept is part =
+replay_part_first version config now es state before after kept is part =
     part_of_more before after kept _ _
     (part_of_more before after kept (state_line_of 0 (opened config now).published) (events_text_of (opened config now) 1 es)
     (subst (λ (s : State). HandsPart (state_line_of 0 s) before kept after) is part))
 
 -- the sink failed at the events
-pub replay_part_events : (config : ConfigValue) (now : ℤ) (es : List EventValue) (state : State) (before told after : Option (List ℕ)) (kept kept' : List ℕ)
+pub replay_part_events : (version : ℕ) (config : ConfigValue) (now : ℤ) (es : List EventValue) (state : State) (before told after : Option (List ℕ)) (kept kept' : List ℕ)
     → state ≡ (opened config now).published → HandsOver (state_line_of 0 state) before kept told kept'
     → HandsPart (events_text_of (opened config now) 1 es) told kept' after
-    → HandsPart (replay_text_of config now es) before kept after
+    → HandsPart (replay_text_of version config now es) before kept after
 unfolding replay_text_of
-replay_part_events config now es state before told after kept kept' is one part =
+replay_part_events version config now es state before told after kept kept' is one part =
     part_of_more before after kept _ _
     (part_after before told after kept kept' (state_line_of 0 (opened config now).published) (events_text_of (opened config now) 1 es)
     (subst (λ (s : State). HandsOver (state_line_of 0 s) before kept told kept') is one) part)
@@ -344,25 +345,25 @@ both_over config now es state before told after kept kept' kept'' is one two =
     (subst (λ (s : State). HandsOver (state_line_of 0 s) before kept told kept') is one) two
 
 -- the sink failed at the last line
-pub replay_part_done : (config : ConfigValue) (now : ℤ) (es : List EventValue) (state : State) (events states sends : ℕ) (before told then_ after : Option (List ℕ)) (kept kept' kept'' : List ℕ)
+pub replay_part_done : (version : ℕ) (config : ConfigValue) (now : ℤ) (es : List EventValue) (state : State) (events states sends : ℕ) (before told then_ after : Option (List ℕ)) (kept kept' kept'' : List ℕ)
     → state ≡ (opened config now).published → AreCounted config now es events states sends
     → HandsOver (state_line_of 0 state) before kept told kept'
     → HandsOver (events_text_of (opened config now) 1 es) told kept' then_ kept''
     → HandsPart (done_line_of events states sends) then_ kept'' after
-    → HandsPart (replay_text_of config now es) before kept after
+    → HandsPart (replay_text_of version config now es) before kept after
 unfolding replay_text_of
-replay_part_done config now es state events states sends before told then_ after kept kept' kept'' is counted one two part =
+replay_part_done version config now es state events states sends before told then_ after kept kept' kept'' is counted one two part =
     part_after before then_ after kept kept'' _ _ (both_over config now es state before told then_ kept kept' kept'' is one two)
     (subst (λ (line : List ℕ). HandsPart line then_ kept'' after) (done_line config now es events states sends counted) part)
 
 -- all is handed over
-pub replay_over : (config : ConfigValue) (now : ℤ) (es : List EventValue) (state : State) (events states sends : ℕ) (before told then_ after : Option (List ℕ)) (kept kept' kept'' last : List ℕ)
+pub replay_over : (version : ℕ) (config : ConfigValue) (now : ℤ) (es : List EventValue) (state : State) (events states sends : ℕ) (before told then_ after : Option (List ℕ)) (kept kept' kept'' last : List ℕ)
     → state ≡ (opened config now).published → AreCounted config now es events states sends
     → HandsOver (state_line_of 0 state) before kept told kept'
     → HandsOver (events_text_of (opened config now) 1 es) told kept' then_ kept''
     → HandsOver (done_line_of events states sends) then_ kept'' after last
-    → HandsOver (replay_text_of config now es) before kept after last
+    → HandsOver (replay_text_of version config now es) before kept after last
 unfolding replay_text_of
-replay_over config now es state events states sends before told then_ after kept kept' kept'' last is counted one two three =
+replay_over version config now es state events states sends before told then_ after kept kept' kept'' last is counted one two three =
     hands_both before then_ after kept kept'' last _ _ (both_over config now es state before told then_ kept kept' kept'' is one two)
     (subst (λ (line : List ℕ). HandsOver line then_ kept'' after last) (done_line config now es events states sends counted) three)

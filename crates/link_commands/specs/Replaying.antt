@@ -17,10 +17,11 @@ pub record GoesOn (Stands : Machine → Type 0) (gates app audio : ℕ) (text : 
 
 -- the text is a script, and the node is the one of its head at the opening, before the first event
 pub record IsOpened (Stands : Machine → Type 0) (gates app audio : ℕ) (text : List ℕ) (first : ℕ) : Type 0 where
+  pub version : ℕ
   pub config : ConfigValue
   pub now : ℤ
   pub es : List EventValue
-  pub script : IsScriptOf text config now es
+  pub script : IsScriptOf text version config now es
   pub stands : Stands (opened config now)
   pub says : SaysFrom gates audio text first es
   pub no_commits : app ≡ 0

@@ -66,8 +66,8 @@ pub record Command : Type 1 where
 -- the text is a script, and the output is the text of its replay
 abbrev pub GivesReplay : List ℕ → List ℕ → Type 0
 GivesReplay text output =
-    (config : ConfigValue) × (now : ℤ) × (es : List EventValue)
-    × IsScriptOf text config now es × (output ≡ replay_text_of config now es)
+    (version : ℕ) × (config : ConfigValue) × (now : ℤ) × (es : List EventValue)
+    × IsScriptOf text version config now es × (output ≡ replay_text_of version config now es)
 
 abbrev pub replay_command : Command
 replay_command = record {
