@@ -1,4 +1,4 @@
--- The words of `live`: those that a simple command of clap takes, which has three options with defaults and a flag.
+-- The words of `live`: those that a simple command of clap takes, which has four options with defaults and a flag.
 use Rattle.std.specs.Prelude.{◌≡◌, ◌↔◌, ◌^◌, ℕ, pos, true, List, [], ◌∷◌, Some, map, codes}
 use Rattle.std.specs.String.{string_bytes}
 use Rattle.std.specs.declared.alloc.Global.{Global}
@@ -31,10 +31,12 @@ live_app =
     (with_rule
     (with_rule
     (with_rule
+    (with_rule
     (bare_app (codes "live"))
     (option_rule (codes "events") 1 524_288 (codes "262144")))
     (option_rule (codes "blocks") 0 524_288 (codes "262144")))
     (option_rule (codes "quantum") 0 (2 ^ 40) (codes "4000000")))
+    (option_rule (codes "group") 0 65_535 (codes "0")))
     (flag_rule (codes "record"))
 
 -- the first of the words is `live`
@@ -51,4 +53,5 @@ pub record NamesLive (words : List (String Global)) (options : LiveOptions) : Ty
   pub events_is : Says live_app words (codes "events") options.events
   pub blocks_is : Says live_app words (codes "blocks") options.blocks
   pub quantum_is : (length : ℕ) × Says live_app words (codes "quantum") length × (options.quantum ≡ pos length)
+  pub group_is : Says live_app words (codes "group") options.group
   pub record_is : (options.«record» ≡ true) ↔ (one_of (codes "record") (matches_of live_app (map string_bytes words)) ≡ Some (codes "true"))

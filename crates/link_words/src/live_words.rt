@@ -26,12 +26,14 @@ pub struct LiveOptions {
     pub blocks: u64,
     /// The length in microbeats that accents and phases are counted in; 0 is none.
     pub quantum: i64,
+    /// The group of the messages that are heard and sent.
+    pub group: u16,
     /// Whether the run's replay script is written.
     pub record: bool,
 }
 
 /// How the words set up a live run: `live`, with the options `--events` (1 to 524,288; 262,144 where it is not given), `--blocks` (0 to
-/// 524,288; 262,144) and `--quantum` (0 to 2^40 microbeats; 4,000,000), and the flag `--record`.
+/// 524,288; 262,144), `--quantum` (0 to 2^40 microbeats; 4,000,000) and `--group` (0 to 65,535; 0), and the flag `--record`.
 ///
 /// Memory: what clap needs to read the words.
 pub fn live_options(alloc: Global, words: &[String]) -> Result<LiveOptions, WordsFault>
@@ -49,6 +51,7 @@ pub fn live_options(alloc: Global, words: &[String]) -> Result<LiveOptions, Word
             events: number_in(&matches, "events"),
             blocks: number_in(&matches, "blocks"),
             quantum: microbeats_in(&matches, "quantum"),
+            group: group_in(&matches, "group"),
             record: flag_in(&matches, "record"),
         }),
         Err(error) if error.kind() == ErrorKind::OutOfMemory => Err(WordsFault::Memory),
@@ -65,6 +68,14 @@ fn microbeats_in(matches: &ArgMatches<'_>, id: &str) -> i64
     number_in(matches, id) as i64
 }
 
+// The group of this name.
+fn group_in(matches: &ArgMatches<'_>, id: &str) -> u16
+    requires some { HasNumber matches.now id.now 0 65_535 }
+    ensures { IsNumberIn matches.now id.now result }
+{
+    number_in(matches, id) as u16
+}
+
 // Whether the flag of this name was given.
 fn flag_in(matches: &ArgMatches<'_>, id: &str) -> bool
     ensures { (result ≡ true) ↔ (one_text (found_of matches.now) id.now ≡ Some (codes "true")) }
@@ -79,6 +90,7 @@ pub fn live_matches<'a>(alloc: Global, words: &'a [String]) -> Result<ArgMatches
     ensures events { IfOk result (λ m. HasNumber m (codes "events") 1 524_288) }
     ensures blocks { IfOk result (λ m. HasNumber m (codes "blocks") 0 524_288) }
     ensures quantum { IfOk result (λ m. HasNumber m (codes "quantum") 0 (2 ^ 40)) }
+    ensures group { IfOk result (λ m. HasNumber m (codes "group") 0 65_535) }
 {
     live_command(alloc)?.try_get_matches_from(words)
 }
@@ -108,6 +120,13 @@ pub fn live_command<'a>(alloc: Global) -> Result<Command<'a>, AllocError>
         "the length in microbeats that accents and phases are counted in, from 0, which is none, to 1099511627776",
         value_parser!(u64).range(0..=1_099_511_627_776),
     );
+    let group = option(
+        alloc,
+        "group",
+        "0",
+        "the group of the nodes that hear each other, from 0, which all Link programs are in, to 65535",
+        value_parser!(u64).range(0..=65_535),
+    );
     Command::new(alloc, "live")
         .bin_name("jorazhil live")?
         .disable_help_flag(true)
@@ -116,6 +135,7 @@ pub fn live_command<'a>(alloc: Global) -> Result<Command<'a>, AllocError>
         .arg(events)?
         .arg(blocks)?
         .arg(quantum)?
+        .arg(group)?
         .arg(flag(alloc, "record", "also writes the run's replay script"))
 }
 

@@ -1,4 +1,4 @@
-use Rattle.std.proofs.Common.{sym, ◌∙◌, None, Some}
+use Rattle.std.proofs.Common.{None, Some}
 use Rattle.std.specs.String.{string_bytes}
 use Rattle.link_words.proofs.NameLemmas.{no_word, by_first, is_command, is_no_command}
 use Rattle.link_words.specs.declared.command_name.CommandName.TheVariants as name

@@ -2,7 +2,7 @@ use Rattle.std.proofs.Common.{ap, map, subst}
 use Rattle.std.proofs.lemmas.Result.{IfOk-weaker}
 use Rattle.std.specs.String.{string_bytes}
 use Rattle.clap.specs.Words.{App, FailsBy, fault_of, is_simple_and_free}
-use Rattle.link_words.proofs.LiveWordLemmas.{blocks_read, events_read, quantum_read}
+use Rattle.link_words.proofs.LiveWordLemmas.{blocks_read, events_read, group_read, quantum_read}
 use Rattle.link_words.proofs.live_words.live_matches.Goals as goal
 
 pub returns-clause-kinds : goal.returns-clause-kinds
@@ -22,3 +22,7 @@ returns-clause-blocks c =
 pub returns-clause-quantum : goal.returns-clause-quantum
 returns-clause-quantum c =
     IfOk-weaker c.try_get_matches_from.result _ _ (λ m parsed. quantum_read _ m c.in_ok-live_command.ensures parsed) c.try_get_matches_from.ensures.parsed
+
+pub returns-clause-group : goal.returns-clause-group
+returns-clause-group c =
+    IfOk-weaker c.try_get_matches_from.result _ _ (λ m parsed. group_read _ m c.in_ok-live_command.ensures parsed) c.try_get_matches_from.ensures.parsed

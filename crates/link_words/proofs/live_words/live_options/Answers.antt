@@ -23,6 +23,7 @@ returns-in-Ok-clause-named c =
         said live_app words m (codes "quantum") quantum.0 refl c.in-Ok.ensures.matches quantum.1,
         to_z-of_z w64 c.microbeats_in.result (record { sfits = c.microbeats_in.type_inv }) ∙ quantum.2,
       );
+      group_is = said live_app words m (codes "group") _ refl c.in-Ok.ensures.matches c.group_in.ensures;
       record_is = subst (λ (o : Option (List ℕ)). (c.flag_in.result ≡ true) ↔ (o ≡ Some (codes "true")))
           (text_said live_app words m (codes "record") refl c.in-Ok.ensures.matches) c.flag_in.ensures;
     }
