@@ -1,12 +1,15 @@
 -- One pass after the other is heard, the last first, and all their shares at once.
-use Rattle.std.proofs.Common.{◌≡◌, ℕ, ◌+◌, ◌≤◌, List, [], ◌∷◌, ◌++◌, length, map, All, sym, ◌∙◌, subst, arith, length-append}
+use Rattle.std.proofs.Common.{◌≡◌, ℕ, ◌+◌, ◌<◌, ◌≤◌, List, [], ◌∷◌, ◌++◌, length, map, All, nat_eq, sym, ap, ◌∙◌, subst, arith, length-append}
 use Rattle.std.proofs.lemmas.Bool.Decides.{nat_tests}
+use Rattle.std.proofs.lemmas.List.{length-map, map_push}
 use Rattle.std.proofs.lemmas.List.Elements.{All-nil, All-cons, All-head, All-tail, All-push, All-weaker, All-map}
 use Rattle.std.proofs.lemmas.List.Sums.{sum_by-cons, sum_by_push}
 use Rattle.atomic_table.specs.Seated.{TableId}
 use Rattle.audio_handoff.specs.Cell.{Pair}
 use Rattle.client_state.specs.declared.commit.Commit.{Commit}
 use Rattle.link_shared.specs.Draining.{WasHeard}
+use Rattle.link_shared.specs.Hub.{HubView}
+use Rattle.link_shared.specs.Passes.{AppView}
 use Rattle.link_shared.specs.Handed.{HandedView, app_view_of, parts_of, made_of, IsOf, AreHanded, WasTold}
 
 -- ---- each pass
@@ -26,6 +29,18 @@ first_of cell queue (x ∷ xs) pass all =
 
 pub handed_before : (cell queue : TableId) (before after : List HandedView) (pass : HandedView) → before ≡ after ++ pass ∷ [] → All (IsOf cell queue) before → All (IsOf cell queue) after
 handed_before cell queue before after pass split all = first_of cell queue after pass (subst (All (IsOf cell queue)) split all)
+
+last_of : (cell queue : TableId) (after : List HandedView) (pass : HandedView) → All (IsOf cell queue) (after ++ pass ∷ []) → IsOf cell queue pass
+last_of cell queue [] pass all = All-head (IsOf cell queue) pass [] all
+last_of cell queue (x ∷ xs) pass all = last_of cell queue xs pass (All-tail (IsOf cell queue) x (xs ++ pass ∷ []) all)
+
+pub last_handed : (cell queue : TableId) (before after : List HandedView) (pass : HandedView) → before ≡ after ++ pass ∷ [] → All (IsOf cell queue) before → IsOf cell queue pass
+last_handed cell queue before after pass split all = last_of cell queue after pass (subst (All (IsOf cell queue)) split all)
+
+pub fewer_left : (before after : List HandedView) (pass : HandedView) → before ≡ after ++ pass ∷ [] → length after < length before
+fewer_left before after pass split =
+    let longer = ap length split ∙ length-append after (pass ∷ []) in
+    omega (arith, longer)
 
 -- ---- the merged share
 
@@ -96,6 +111,30 @@ handed_more cell queue whole parts passes passes' pass share share' more amount 
       share_is = omega (arith, sum, parts_were, share_is, more_is);
       amount_is = omega (arith, sum', made_was, amount_is, made_is);
     })
+
+pub few_handed : (whole : ℕ) (passes : List HandedView) (handed : List AppView) → map (app_view_of whole) passes ≡ handed → length handed < 16 → length passes ≤ 15
+few_handed whole passes handed same few =
+    let long = sym (length-map passes (app_view_of whole)) ∙ ap length same in
+    omega (arith, long, few)
+
+pub room_for_one : (count places : ℕ) (passes : List HandedView) → count ≡ length passes → length passes ≤ 15 → 16 ≤ places → count < places
+room_for_one count places passes counted few room = omega (arith, counted, few, room)
+
+-- the pass that it was, by its share
+abbrev by_share : ℕ → HandedView → ℕ → ℕ → AppView
+by_share whole pass made parts = record { seen = pass.seen; pushed = pass.pushed; made = made; own = pass.own; room = pass.room; sole = nat_eq parts whole }
+
+app_view_as : (whole : ℕ) (pass : HandedView) (made parts : ℕ) (view : AppView) → made ≡ pass.made → parts ≡ pass.room + 1 → by_share whole pass made parts ≡ view → app_view_of whole pass ≡ view
+app_view_as whole pass made parts view made_is parts_is same =
+    ap (λ (x : ℕ × ℕ). by_share whole pass x.0 x.1) (λ k. (sym made_is k, sym parts_is k)) ∙ same
+
+pub hub_of_more : (whole : ℕ) (hub hub' : HubView) (passes passes' : List HandedView) (pass : HandedView) (made parts : ℕ) (view : AppView) → hub ≡ hub' → hub.handed ≡ map (app_view_of whole) passes
+    → passes' ≡ passes ++ pass ∷ [] → made ≡ pass.made → parts ≡ pass.room + 1 → by_share whole pass made parts ≡ view → record hub { handed = map (app_view_of whole) passes' } ≡ record hub' { handed = hub'.handed ++ view ∷ [] }
+hub_of_more whole hub hub' passes passes' pass made parts view same handed_is split made_is parts_is by_share_is =
+    let more : map (app_view_of whole) passes' ≡ hub.handed ++ view ∷ [] =
+    ap (λ (l : List HandedView). map (app_view_of whole) l) split ∙ map_push (app_view_of whole) passes pass
+    ∙ ap (λ (x : AppView). map (app_view_of whole) passes ++ x ∷ []) (app_view_as whole pass made parts view made_is parts_is by_share_is) ∙ ap (λ (l : List AppView). l ++ view ∷ []) (sym handed_is) in
+    ap (λ (l : List AppView). record hub { handed = l }) more ∙ ap (λ (h : HubView). record h { handed = h.handed ++ view ∷ [] }) same
 
 -- none was handed in yet
 pub none_handed : (cell queue : TableId) (whole parts : ℕ) (passes : List HandedView) (share amount : ℕ) → passes ≡ [] → whole ≡ parts → share ≡ 0 → amount ≡ 0

@@ -76,6 +76,12 @@ room_at_opening most event_places state_places journal published state none one 
     subst (λ (j : List Event). HasRoom most (length j) (length published) event_places state_places) (sym none)
     (subst (λ (ps : List State). HasRoom most 0 (length ps) event_places state_places) (sym one) room)
 
+pub none_counted : (count events : ℕ) → count ≡ 0 → count ≤ events
+none_counted count events none = omega (arith, none)
+
+pub one_is_made : (rows : ℕ) → rows ≡ 1 → 0 < rows
+one_is_made rows one = omega (arith, one)
+
 pub fitting_at_opening : (gates : ℕ) (journal : List Event) → journal ≡ [] → AreFitting gates 0 0 (map event_value journal)
 fitting_at_opening gates journal none = subst (λ (j : List Event). AreFitting gates 0 0 (map event_value j)) (sym none) tt
 

@@ -1,11 +1,12 @@
 -- What the parts of a link know of the node that was opened for them.
-use Rattle.std.proofs.Common.{◌≡◌, ℕ, ℤ, List, [], ◌∷◌, map, sym, ap, subst, ◌∙◌}
+use Rattle.std.proofs.Common.{◌≡◌, ℕ, ℤ, ◌+◌, ◌≤◌, List, [], ◌∷◌, map, sym, ap, subst, ◌∙◌, arith}
 use Rattle.client_state.specs.Words.{words_of_state}
 use Rattle.client_state.specs.declared.state.State.{State}
 use Rattle.link_node.specs.Config.{ConfigValue, config_value, IsConfig}
 use Rattle.link_node.specs.Opening.{opened}
 use Rattle.link_node.specs.Standing.{StandsFor}
 use Rattle.link_node.specs.declared.node.Node.{Node}
+use Rattle.link_shared.specs.Keeper.{HasRoom}
 
 -- a node has the config that it was opened with
 pub config_stays : (node : Node) (config : ConfigValue) (now : ℤ) → StandsFor node (opened config now) → config_value node.config ≡ config
@@ -21,6 +22,16 @@ opened_with_its_config node config now held same stands =
 
 pub its_config_is_one : (node : Node) (config : ConfigValue) (now : ℤ) → StandsFor node (opened config now) → IsConfig config → IsConfig (config_value node.config)
 its_config_is_one node config now stands is = subst IsConfig (sym (config_stays node config now stands)) is
+
+-- there is room for as many events as the journal takes
+pub room_at_start : (most event_places state_places : ℕ) → most ≤ 524_288 → most ≤ event_places → most + 1 ≤ state_places → HasRoom most 0 1 event_places state_places
+room_at_start most event_places state_places fits events states = record {
+  few_events = omega arith;
+  most_fits = fits;
+  few_states = omega arith;
+  event_room = events;
+  state_room = states;
+}
 
 -- the one row that was made is that of the one state published
 pub row_of_opening : (state : State) (row : List ℕ) (made : List (List ℕ)) (published : List State) → row ≡ words_of_state state → made ≡ row ∷ [] → published ≡ state ∷ []

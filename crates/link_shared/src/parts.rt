@@ -123,9 +123,10 @@ impl<C: StateCell<9>> Parts<C> {
         let node = Node::new(alloc, config, now)?;
         let state = node.state();
         let row = state.row();
-        let cells = NewCells::<C>::new(alloc, way, &row)?;
-        let (queue, pushing, popping) = open(alloc)?;
         let lists = NewLists::<C>::new(alloc, events, state)?;
+        let (queue, pushing, popping) = open(alloc)?;
+        // The cells last: nothing that fails then has to drop their tokens.
+        let cells = NewCells::<C>::new(alloc, way, &row)?;
         let NewCells {
             app_states,
             audio_states,

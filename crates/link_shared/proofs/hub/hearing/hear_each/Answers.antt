@@ -1,6 +1,17 @@
 use Rattle.std.proofs.Common.{◌∙◌, arith}
-use Rattle.link_shared.proofs.HearingLemmas.{told_more, handed_before}
+use Rattle.link_shared.proofs.HearingLemmas.{told_more, handed_before, last_handed, fewer_left}
 use Rattle.link_shared.proofs.hub.hearing.hear_each.Goals as goal
+
+pub hear-requires-clause-queue : goal.hear-requires-clause-queue
+hear-requires-clause-queue g c =
+    let same = c.loop-pass.invariant.own in
+    λ κs lives. (c.requires.queue.0, (same.0 ∙ c.requires.queue.1.0, same.2 ∙ c.requires.queue.1.1))
+
+pub hear-requires-clause-pass : goal.hear-requires-clause-pass
+hear-requires-clause-pass g c = λ κs lives. last_handed _ _ _ _ _ c.in-Some.ensures.items c.loop-pass.invariant.handed
+
+pub loop-pass-smaller : goal.loop-pass-smaller
+loop-pass-smaller g c = fewer_left _ _ _ c.in-Some.ensures.items
 
 pub loop-pass-preserved : goal.loop-pass-preserved
 loop-pass-preserved g c =

@@ -1,10 +1,10 @@
-use Rattle.std.proofs.Common.{rules, ◌≡◌, ap, sym, subst, ◌∙◌, arith, length, map, w64, of_z, to_z}
+use Rattle.std.proofs.Common.{rules, ◌≡◌, ap, sym, subst, ◌∙◌, length, map, w64, of_z, to_z}
 use Rattle.lk_base.specs.Ranges.{IsMoment}
 use Rattle.link_node.specs.Event.{event_value}
 use Rattle.link_shared.specs.Handed.{app_view_of}
 use Rattle.link_shared.specs.Parts.{PartsView}
 use Rattle.link_shared.specs.declared.queue.Hand.{Hand}
-use Rattle.link_shared.proofs.OpeningLemmas.{rests_unread, stands_unmoved, shown_at_opening, room_at_opening, fitting_at_opening, numbered_at_opening, none_popped, none_were_read, is_new_hub, none_made, none_is_last, is_new_audio}
+use Rattle.link_shared.proofs.OpeningLemmas.{rests_unread, stands_unmoved, shown_at_opening, room_at_opening, none_counted, one_is_made, fitting_at_opening, numbered_at_opening, none_popped, none_were_read, is_new_hub, none_made, none_is_last, is_new_audio}
 use Rattle.link_shared.proofs.HearingLemmas.{none_handed}
 use Rattle.link_shared.proofs.link.Link.make.Goals as goal
 
@@ -45,7 +45,7 @@ invariant_of-result g c =
       shown = shown_at_opening _ _ _ _ _ _ _ same known.5 known.6 known.7 known.8 known.9;
       room = room_at_opening _ _ _ _ _ _ known.5 known.6 known.10;
       fitting = ∣ fitting_at_opening _ _ known.5 ∣₁;
-      counted = omega arith;
+      counted = none_counted _ _ known.3;
       numbered = known.4 ∙ numbered_at_opening _ known.5;
     }
 
@@ -70,7 +70,7 @@ invariant_of-result-3 g c =
       parts.audio_states.reader_is ∙ ap (λ (view : PartsView). view.audio_states) c.parts.view_is ∙ c.requires.cells.1,
       parts.audio_commits.writer_is ∙ ap (λ (view : PartsView). view.audio_commits) c.parts.view_is ∙ c.requires.cells.2,
       rests_unread (g.C.StateCell.reading parts.audio_states.reader) parts.audio_states.unread.0,
-      omega (arith, one_row),
+      one_is_made _ one_row,
       none_is_last _ one_row,
       search rules,
     )
