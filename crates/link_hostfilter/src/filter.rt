@@ -74,8 +74,8 @@ impl HostFilter {
     }
 
     /// Takes a sample count and the host time in microseconds at which it was read, and answers the host time of that sample on the
-    /// least squares line through the last 512 pairs, this one among them. How far that is from the oldest host time is
-    /// rounded, halves away from it.
+    /// least squares line through the last 512 pairs, this one among them. That is the oldest pair's host time plus the rest, which is
+    /// rounded: so a half is rounded away from the oldest host time, and not away from 0.
     ///
     /// `NotLater` where a sample as late was taken, with that sample. Else `TooFar` where the pair is more than 2^31 from one that
     /// would stay, in either number, with the oldest such pair. A pair that is refused changes nothing.

@@ -29,6 +29,22 @@ fits z h = simp (read z (omega arith)) (omega (arith, ints))
 kept : (z : ℤ) → unsigned_abs z ≤ 2 ^ 37 → to_z w64 (of_z w64 (to_z w128 (of_z w128 z))) ≡ z
 kept z h = ap (λ y. to_z w64 (of_z w64 y)) (read z (omega arith)) ∙ read_short z (omega arith)
 
+-- what is divided, and by what
+sum_kept : (a b : ℤ) → unsigned_abs a ≤ 2 ^ 114 → unsigned_abs b ≤ 2 ^ 114
+    → unsigned_abs (to_z w128 (of_z w128 (to_z w128 (of_z w128 a) +ℤ to_z w128 (of_z w128 b)))) ≤ 2 ^ 125
+sum_kept a b h k =
+    rw (read a (omega arith), read b (omega arith), read (a +ℤ b) (omega (arith, ints))) (omega (arith, ints))
+
+unit_kept : (d : ℤ) → pos 1 ≤ℤ d → d ≤ℤ pos (2 ^ 83)
+    → (pos 1 ≤ℤ to_z w128 (of_z w128 d)) × (to_z w128 (of_z w128 d) ≤ℤ pos (2 ^ 100))
+unit_kept d positive small = rw (read d (omega (arith, ints))) (positive, omega (arith, ints))
+
+pub near_wide-requires : goal.near_wide-requires
+near_wide-requires c =
+    let line = c.args.self.now in
+    let unit = unit_kept line.unit c.requires.positive c.requires.small in
+    record { bounded = sum_kept line.at_zero c.risen.result c.requires.at_zero c.risen.ensures.within; positive = unit.0; small = unit.1 }
+
 pub overflow_cast-result : goal.overflow_cast-result
 overflow_cast-result c =
     let line = c.args.self.now in
