@@ -14,12 +14,12 @@ use Rattle.link_live.proofs.JournalLemmas.{commits_in-append, datagram_events_in
 
 -- ---- the events that a turn offers
 
-item_datagrams : (clock : ℤ) (popped : Option Item) → datagram_events_in (item_events clock popped) ≡ []
+pub item_datagrams : (clock : ℤ) (popped : Option Item) → datagram_events_in (item_events clock popped) ≡ []
 item_datagrams clock None = refl
 item_datagrams clock (Some (item.Commit commit)) = refl
 item_datagrams clock (Some item.Quit) = refl
 
-read_datagrams : (clock : ℤ) (held : ℕ) (pair : Pair) → datagram_events_in (read_events clock held pair) ≡ []
+pub read_datagrams : (clock : ℤ) (held : ℕ) (pair : Pair) → datagram_events_in (read_events clock held pair) ≡ []
 read_datagrams clock held pair = by_test (nat_lt held pair.0)
   where
     by_test : (later : Bool) → datagram_events_in (if later then Audio pair.0 (commit_of_words pair.1) clock ∷ [] else []) ≡ []

@@ -16,6 +16,7 @@ use Rattle.link_shared.specs.declared.got.Got.TheVariants as got
 use Rattle.link_shared.specs.declared.queue.Item.TheVariants as item
 use Rattle.link_live.specs.Journal.{datagram_events_in}
 use Rattle.link_live.specs.Running.{RunLaws}
+use Rattle.link_live.proofs.CountLemmas.{item_datagrams, read_datagrams}
 use Rattle.link_live.proofs.JournalLemmas.{all-append, datagram_events_in-append}
 
 -- a list that begins so begins so however it goes on
@@ -78,18 +79,6 @@ read_silent laws clock held pair = by_test (nat_lt held pair.0)
     by_test false = tt
     by_test true = ((λ m. laws.audio_sends m pair.0 (commit_of_words pair.1) clock), tt)
 
-item_none : (clock : ℤ) (popped : Option Item) → datagram_events_in (item_events clock popped) ≡ []
-item_none clock None = refl
-item_none clock (Some (item.Commit commit)) = refl
-item_none clock (Some item.Quit) = refl
-
-read_none : (clock : ℤ) (held : ℕ) (pair : Pair) → datagram_events_in (read_events clock held pair) ≡ []
-read_none clock held pair = by_test (nat_lt held pair.0)
-  where
-    by_test : (later : Bool) → datagram_events_in (if later then Audio pair.0 (commit_of_words pair.1) clock ∷ [] else []) ≡ []
-    by_test true = refl
-    by_test false = refl
-
 -- of the one event that a turn was given, none stands before it
 none_before : (gate : Gate) (from : Endpoint) (bytes : List ℕ) (at clock : ℤ) (brought : Got) (part rest : List EventValue)
     → got_events clock brought ≡ part ++ Rx gate from bytes at ∷ rest → part ≡ []
@@ -113,7 +102,7 @@ silent_before laws gate from bytes at clock held popped pair brought part rest i
     absurd (some_datagram gate from bytes at part t.0
     (ap datagram_events_in (sym t.1)
     ∙ datagram_events_in-append (item_events clock popped) (read_events clock held pair)
-    ∙ (λ i. item_none clock popped i ++ read_none clock held pair i))))
+    ∙ (λ i. item_datagrams clock popped i ++ read_datagrams clock held pair i))))
     (λ (t : (more : List EventValue) × (part ≡ firsts_of clock held popped pair ++ more) × (got_events clock brought ≡ more ++ Rx gate from bytes at ∷ rest)).
     subst (λ (l : List EventValue). AreSilent l) (sym (t.1 ∙ ap (λ l. firsts_of clock held popped pair ++ l) (none_before gate from bytes at clock brought t.0 rest t.2) ∙ append-nil (firsts_of clock held popped pair)))
     (all-append (λ e. (m : Machine) → sends_of m e ≡ []) (item_events clock popped) (read_events clock held pair) (item_silent laws clock popped) (read_silent laws clock held pair)))

@@ -50,6 +50,8 @@ impl Report {
                 seed: 0,
                 mpb: 0,
                 sync: false,
+                group: 0,
+                quantum: 0,
                 gates: ArrayVec::new(),
             },
             now: 0,
