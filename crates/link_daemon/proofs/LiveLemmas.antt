@@ -71,17 +71,17 @@ run_ended setup recorded before after end.Memory false run whole part replays = 
 module _ (seed : ℕ) (options : LiveOptions) (script later : LiveScript) (config opened : ConfigValue) (now at quantum : ℤ) (most : ℕ)
     (late late' late'' : Option ℤ) (port port' : PortSeen) (audio audio' : AudioSeen) (out out' : Stream) (before report : ReportValue)
     (run : LiveRun) (wrote : Bool) (how : Status) where
-  same_setup : config ≡ config_from seed script → later.apps ≡ script.apps → later.blocks ≡ script.blocks
+  same_setup : config ≡ config_from seed options script → later.apps ≡ script.apps → later.blocks ≡ script.blocks
       → (opened ≡ config) × (at ≡ now) × (most ≡ options.events) → quantum ≡ options.quantum
       → setup_of opened most later options.blocks quantum ≡ setup_from seed options script
   same_setup config_is apps_are blocks_are (opened_is, at_is, most_is) quantum_is =
       ap (λ (c : ConfigValue). setup_of c most later options.blocks quantum) (opened_is ∙ config_is)
-      ∙ ap (λ (n : ℕ). setup_of (config_from seed script) n later options.blocks quantum) most_is
-      ∙ ap (λ (q : ℤ). setup_of (config_from seed script) options.events later options.blocks q) quantum_is
-      ∙ ap (λ apps. record (setup_of (config_from seed script) options.events later options.blocks options.quantum) { apps = apps.items }) apps_are
-      ∙ ap (λ blocks. record (setup_of (config_from seed script) options.events later options.blocks options.quantum) { apps = script.apps.items; block_commands = blocks.items }) blocks_are
+      ∙ ap (λ (n : ℕ). setup_of (config_from seed options script) n later options.blocks quantum) most_is
+      ∙ ap (λ (q : ℤ). setup_of (config_from seed options script) options.events later options.blocks q) quantum_is
+      ∙ ap (λ apps. record (setup_of (config_from seed options script) options.events later options.blocks options.quantum) { apps = apps.items }) apps_are
+      ∙ ap (λ blocks. record (setup_of (config_from seed options script) options.events later options.blocks options.quantum) { apps = script.apps.items; block_commands = blocks.items }) blocks_are
 
-  pub run_of_script : config ≡ config_from seed script → later.apps ≡ script.apps → later.blocks ≡ script.blocks
+  pub run_of_script : config ≡ config_from seed options script → later.apps ≡ script.apps → later.blocks ≡ script.blocks
       → (opened ≡ config) × (at ≡ now) × (most ≡ options.events) → quantum ≡ options.quantum → late' ≡ late
       → EndsLiveRun (setup_of opened most later options.blocks quantum) late' port.told port'.told port'.gates port.faults port'.faults audio.told audio'.told audio.faults audio'.faults (told_of opened at run) run.end
       → report ≡ told_of config now run
@@ -109,25 +109,30 @@ module _ (seed : ℕ) (options : LiveOptions) (script later : LiveScript) (confi
       whole part replays)
 
 -- its record is a replay script
-pub replays : ((c : ConfigValue) (n : ℤ) (es : List EventValue) → IsHead c n → AreSayable (length c.gates) 0 es → IsScriptOf (written_script_of c n es) c n es)
-    → (text : List ℕ) (seed : ℕ) (script : LiveScript) (config opened : ConfigValue) (now : ℤ) (run : LiveRun) (report : ReportValue)
+pub replays : ((c : ConfigValue) (n : ℤ) (es : List EventValue) → IsHead c n → AreSayable (length c.gates) 0 es → IsScriptOf (written_script_of c n es) 2 c n es)
+    → (text : List ℕ) (seed : ℕ) (options : LiveOptions) (script : LiveScript) (config opened : ConfigValue) (now : ℤ) (run : LiveRun) (report : ReportValue)
     → IsLiveText text script.mpb script.sync (map gate_value script.gates.items) script.apps.items script.blocks.items
-    → config ≡ config_from seed script → seed < 2 ^ 64 → IsVisibleId config.id → IsMoment now → opened ≡ config
+    → config ≡ config_from seed options script → seed < 2 ^ 64 → IsVisibleId config.id → config.group < 2 ^ 16 → IsQuantum options.quantum
+    → IsMoment now → opened ≡ config
     → AreFitting (length opened.gates) 0 0 (map event_value run.events.items)
     → ((gates app audio : ℕ) → AreFitting gates app audio (map event_value run.events.items) → AreSayable gates audio (map event_value run.events.items))
     → report ≡ told_of config now run → IsReplayable report
-replays law text seed script config opened now run report is config_is small visible moment opened_is fit say report_is =
+replays law text seed options script config opened now run report is config_is small visible group quantum moment opened_is fit say report_is =
     subst (λ (r : ReportValue). IsReplayable r) (sym report_is)
     (whole_record (told_of config now run)
     (law config now (map event_value run.events.items) head
     (say (length config.gates) 0 0 (subst (λ (c : ConfigValue). AreFitting (length c.gates) 0 0 (map event_value run.events.items)) opened_is fit))))
   where
-    seen : IsVisibleId (config_from seed script).id
+    seen : IsVisibleId (config_from seed options script).id
     seen = subst (λ (c : ConfigValue). IsVisibleId c.id) config_is visible
+
+    in_group : options.group < 2 ^ 16
+    in_group = subst (λ (c : ConfigValue). c.group < 2 ^ 16) config_is group
 
     head : IsHead config now
     head = subst (λ (c : ConfigValue). IsHead c now) (sym config_is)
-        (is_head (config_from seed script) now seen.eight seen.visible small (is_config (config_from seed script) is.script.head) is.script.head.each moment)
+        (is_head (config_from seed options script) now seen.eight seen.visible small in_group
+        (is_config (config_from seed options script) is.script.head quantum) is.script.head.each moment)
 
 -- what the run of a script that was read is set up by
 set_up : (words : List (String Global)) (seed : ℕ) (input input' : Stream) (options : LiveOptions) (script : LiveScript)
@@ -143,6 +148,8 @@ set_up words seed input input' options script named is = record {
   events = refl;
   blocks = refl;
   quantum = refl;
+  opening_quantum = refl;
+  group = refl;
 }
 
 abbrev over : Outside → ReportValue → Outside

@@ -27,7 +27,7 @@ abbrev pub AreExclusive : Command → Type 0
 AreExclusive command = (text output : List ℕ) (line : ℕ) → command.FaultsAt text line → command.Gives text output → ⊥
 
 pub replay_exclusive : AreExclusive replay_command
-replay_exclusive text output line fault (config, now, es, script, same) = fault.1 (config, now, es, script)
+replay_exclusive text output line fault (version, config, now, es, script, same) = fault.1 (version, config, now, es, script)
 
 pub decode_exclusive : AreExclusive decode_command
 decode_exclusive text output line fault whole = bad_and_decoded text output line fault whole

@@ -7,7 +7,7 @@ use Rattle.std.proofs.lemmas.Bool.{and_parts, cond_both}
 use Rattle.std.proofs.lemmas.Bool.Decides.{nat_tests}
 use Rattle.std.proofs.lemmas.List.{map-append, take_all, take_more}
 use Rattle.std.proofs.lemmas.List.Elements.{All-append, All-cons, All-head, All-nil, All-push, All-same, All-tail}
-use Rattle.lk_base.specs.Ranges.{IsMoment}
+use Rattle.lk_base.specs.Ranges.{IsMoment, IsQuantum}
 use Rattle.client_state.specs.declared.state.State.{State}
 use Rattle.link_node.specs.Config.{ConfigValue, IsConfig}
 use Rattle.link_node.specs.Event.{EventValue, FitsKind, event_value, app_after, audio_after}
@@ -24,20 +24,22 @@ use Rattle.link_daemon.specs.ReportText.{last_state_text_of, live_line_of, live_
 
 -- ---- the head
 
--- a node with the gates and the tempo of a live script can be opened
-pub is_config : (config : ConfigValue) → IsLiveHead config.mpb config.gates → IsConfig config
-is_config config head = record {
+-- a node with the gates and the tempo of a live script, and a quantum in its range, can be opened
+pub is_config : (config : ConfigValue) → IsLiveHead config.mpb config.gates → IsQuantum config.quantum → IsConfig config
+is_config config head quantum = record {
   some_gate = head.some_gate;
   few_gates = head.few_gates;
   fastest = head.tempo.fastest;
   slowest = head.tempo.slowest;
+  quantum = quantum;
 }
 
 pub is_head : (config : ConfigValue) (now : ℤ) → length config.id.0 ≡ 8 → All (λ c. (33 ≤ c) × (c ≤ 126)) config.id.0 → config.seed < 2 ^ 64
-    → IsConfig config → All IsGate config.gates → IsMoment now → IsHead config now
-is_head config now eight visible seed opens gates moment = record {
+    → config.group < 2 ^ 16 → IsConfig config → All IsGate config.gates → IsMoment now → IsHead config now
+is_head config now eight visible seed group opens gates moment = record {
   id = record { eight = eight; visible = visible };
   seed = seed;
+  group = group;
   opens = opens;
   gates = gates;
   moment = moment;
@@ -172,8 +174,8 @@ state_passed (state ∷ next ∷ states) number rest = state_passed (next ∷ st
 
 -- all lines that count are those of the replay script
 pub whole_record : (report : ReportValue)
-    → IsScriptOf (written_script_of report.config report.now report.events) report.config report.now report.events
-    → IsScriptOf (live_text_of report true) report.config report.now report.events
+    → IsScriptOf (written_script_of report.config report.now report.events) 2 report.config report.now report.events
+    → IsScriptOf (live_text_of report true) 2 report.config report.now report.events
 unfolding live_text_of
 whole_record report script =
     let text = written_script_of report.config report.now report.events in
@@ -181,7 +183,7 @@ whole_record report script =
     = ap (λ (xs : List ℕ). counting_in (lines_of xs)) (append_assoc (live_line_of report) (last_state_text_of 0 report.published) text)
     ∙ live_passed report (last_state_text_of 0 report.published ++ text)
     ∙ state_passed report.published 0 text in
-    record { head = script.head; rest = script.rest; said = same ∙ script.said; events = script.events }
+    record { known = script.known; head = script.head; rest = script.rest; said = same ∙ script.said; events = script.events }
 
 -- ---- the events
 

@@ -45,9 +45,9 @@ pub gates_next : (gates : List GateSetup) (n : ℕ) (gate : GateSetup) → n < l
 gates_next gates n gate h is =
     omega (arith, count_next gate_lines gate_value gates n gate h is, length-map gate.peers.items destination_line)
 
--- all lines of a head
+-- all lines of a head of version 2
 pub head_lines_are : (config : Config) (gates : List GateSetup) (now : ℤ) (n : ℕ) → gates ≡ config.gates.items → length gates ≤ n
-    → 2 + count_of gate_lines gate_value gates n ≡ length (head_lines (config_value config) now)
+    → 4 + count_of gate_lines gate_value gates n ≡ length (head_lines 2 (config_value config) now)
 unfolding head_lines
 head_lines_are config gates now n are all =
     let all_of_them : take n gates ≡ config.gates.items = take_all n gates all ∙ are in
@@ -165,20 +165,20 @@ head_part lines k bytes handed P before now after kept kept' within put is has p
 -- ---- the record
 
 pub record_over : (config : ConfigValue) (now : ℤ) (es : List EventValue) (before told after : Option (List ℕ)) (kept kept' kept'' : List ℕ)
-    → HandsOver (flat_map ended (head_lines config now)) before kept told kept'
+    → HandsOver (flat_map ended (head_lines 2 config now)) before kept told kept'
     → HandsOver (flat_map (λ e. ended (event_line e)) es) told kept' after kept''
     → HandsOver (written_script_of config now es) before kept after kept''
 unfolding written_script_of
 record_over config now es before told after kept kept' kept'' one two = hands_both before told after kept kept' kept'' _ _ one two
 
 pub record_part_head : (config : ConfigValue) (now : ℤ) (es : List EventValue) (before after : Option (List ℕ)) (kept : List ℕ)
-    → HandsPart (flat_map ended (head_lines config now)) before kept after
+    → HandsPart (flat_map ended (head_lines 2 config now)) before kept after
     → HandsPart (written_script_of config now es) before kept after
 unfolding written_script_of
 record_part_head config now es before after kept part = part_of_more before after kept _ _ part
 
 pub record_part_events : (config : ConfigValue) (now : ℤ) (es : List EventValue) (before told after : Option (List ℕ)) (kept kept' : List ℕ)
-    → HandsOver (flat_map ended (head_lines config now)) before kept told kept'
+    → HandsOver (flat_map ended (head_lines 2 config now)) before kept told kept'
     → HandsPart (flat_map (λ e. ended (event_line e)) es) told kept' after
     → HandsPart (written_script_of config now es) before kept after
 unfolding written_script_of

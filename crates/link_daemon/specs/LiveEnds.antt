@@ -39,10 +39,12 @@ pub record IsSetUp (words : List (String Global)) (seed : ℕ) (input input' : S
   pub events : setup.events ≡ options.events
   pub blocks : setup.blocks ≡ options.blocks
   pub quantum : setup.quantum ≡ options.quantum
+  pub opening_quantum : setup.config.quantum ≡ options.quantum
+  pub group : setup.config.group ≡ options.group
 
--- the text of a report with its record is a replay script of just the node and the events that it tells of
+-- the text of a report with its record is a replay script of version 2, of just the node and the events that it tells of
 abbrev pub IsReplayable : ReportValue → Type 0
-IsReplayable report = IsScriptOf (live_text_of report true) report.config report.now report.events
+IsReplayable report = IsScriptOf (live_text_of report true) 2 report.config report.now report.events
 
 -- A run ended so, which holds to all that is promised of a run whatever it met, and of the text of its report so much was written.
 pub record HasEndedRun (setup : LiveSetup) (recorded : Bool) (before after : Outside) (ended : LiveEnd) (Writes : Stream → Stream → List ℕ → Type 0) : Type 0 where

@@ -16,17 +16,19 @@ use Rattle.link_commands.specs.declared.status.Status.{Status}
 use Rattle.link_commands.specs.declared.status.Status.TheVariants as status
 
 -- the node's config: its id is the first that the seed gives
-abbrev pub config_from : ℕ → LiveScript → ConfigValue
-config_from seed script = record {
+abbrev pub config_from : ℕ → LiveOptions → LiveScript → ConfigValue
+config_from seed options script = record {
   id = drawn_id (started 64 multiplier_64 seed (increment_of 64 1));
   seed = seed;
   mpb = script.mpb;
   sync = script.sync;
+  group = options.group;
+  quantum = options.quantum;
   gates = map gate_value script.gates.items;
 }
 
 abbrev pub setup_from : ℕ → LiveOptions → LiveScript → LiveSetup
-setup_from seed options script = setup_of (config_from seed script) options.events script options.blocks options.quantum
+setup_from seed options script = setup_of (config_from seed options script) options.events script options.blocks options.quantum
 
 -- the text of a script that was read to its end, and said this one
 pub record IsRead (input input' : Stream) (script : LiveScript) : Type 0 where

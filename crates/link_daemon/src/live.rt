@@ -1,6 +1,6 @@
 //! The command `live`: a live run of a script over a port, an audio device and a pace.
 
-ghost use Rattle.std.specs.Prelude.{◌≡◌, ◌≤◌, ℕ, List, [], length, map, IfOk, IfErr, OnOk, OnErr};
+ghost use Rattle.std.specs.Prelude.{◌≡◌, ◌≤◌, ◌<◌, ◌^◌, ℕ, List, [], length, map, IfOk, IfErr, OnOk, OnErr};
 ghost use Rattle.lk_base.specs.Ranges.{IsQuantum};
 ghost use Rattle.lk_outside.specs.Faults.{Rose};
 ghost use Rattle.lk_outside.specs.Sink.{Appends};
@@ -143,7 +143,7 @@ fn run_script<P: Port + Send, A: Audio + Send, T: Pace + Send, K: Sink, R: Threa
         → (port.new ≡ port.old) × (audio.new ≡ audio.old) × (out.new ≡ out.old) }
 {
     let now = pace.until(0);
-    let config = config_of(seed, &mut script);
+    let config = config_of(seed, *options, &mut script);
     let Ok(parts) = Parts::<Triple<9>>::new(alloc, &(), &config, now, options.events) else {
         return Status::Memory;
     };
@@ -178,9 +178,11 @@ fn run_script<P: Port + Send, A: Audio + Send, T: Pace + Send, K: Sink, R: Threa
 }
 
 // The config of the node that a script opens, whose gates are taken out of the script. Memory: none.
-fn config_of(seed: u64, script: &mut LiveScript) -> Config
-    ensures config { config_value result ≡ config_from seed script.old }
+fn config_of(seed: u64, options: LiveOptions, script: &mut LiveScript) -> Config
+    ensures config { config_value result ≡ config_from seed options script.old }
     ensures visible { IsVisibleId result.id }
+    // Of what is passed by value its type says the range.
+    ensures group { result.group < 2 ^ 16 }
     ensures apps { script.new.apps ≡ script.old.apps }
     ensures blocks { script.new.blocks ≡ script.old.blocks }
 {
@@ -189,6 +191,8 @@ fn config_of(seed: u64, script: &mut LiveScript) -> Config
         seed,
         mpb: script.mpb,
         sync: script.sync,
+        group: options.group,
+        quantum: options.quantum,
         gates: mem::take(&mut script.gates),
     }
 }

@@ -155,9 +155,9 @@ fn hand_head<K: Sink>(
     outlet: &mut Outlet,
     out: &mut K,
 ) -> Result<(), SinkFailed>
-    ensures kept { OnOk result (HandsOver (flat_map ended (head_lines (config_value config.now) now))
+    ensures kept { OnOk result (HandsOver (flat_map ended (head_lines 2 (config_value config.now) now))
         (K.written out.old) outlet.old.kept.items (K.written out.new) outlet.new.kept.items) }
-    ensures part { OnErr result (HandsPart (flat_map ended (head_lines (config_value config.now) now))
+    ensures part { OnErr result (HandsPart (flat_map ended (head_lines 2 (config_value config.now) now))
         (K.written out.old) outlet.old.kept.items (K.written out.new)) }
     ensures quiet { OnOk result (K.faults out.new ≡ K.faults out.old) }
     ensures cause { OnErr result (Rose (K.faults out.old) (K.faults out.new)) }
@@ -169,11 +169,11 @@ fn hand_head<K: Sink>(
     Ok(())
 }
 
-// How many lines a script's head has: two, and for each gate its own and those of its destinations.
+// How many lines the head of a script of version 2 has: four, and for each gate its own and those of its destinations.
 fn head_length(config: &Config) -> u32
-    ensures { (now : ℤ) → result ≡ length (head_lines (config_value config.now) now) }
+    ensures { (now : ℤ) → result ≡ length (head_lines 2 (config_value config.now) now) }
 {
-    let mut lines = 2;
+    let mut lines = 4;
     for gate in config.gates.as_slice() {
         lines += 1 + gate.peers.len() as u32;
     }

@@ -51,9 +51,10 @@ returns g c =
             rose = where_failed c.write_report-written.result c.write_report-written.ensures.cause (sym c.is_ok.ensures.value ∙ not);
           })
           (let say = c.are_sayable.ensures in
-          replays c.written_scripts_are_read.ensures c.requires.script.0 c.args.seed c.args.script (config_value c.config_of-config.result) c.in-Ok.parts.config
+          replays c.written_scripts_are_read.ensures c.requires.script.0 c.args.seed c.args.options.now c.args.script (config_value c.config_of-config.result) c.in-Ok.parts.config
           c.until-now.result c.live_run-run.result (report_value c.keep.new.self)
-          c.requires.script.2 c.config_of-config.ensures.config c.ranges.seed.fits c.config_of-config.ensures.visible c.until-now.ensures.answer.range given.0
+          c.requires.script.2 c.config_of-config.ensures.config c.ranges.seed.fits c.config_of-config.ensures.visible
+          c.config_of-config.ensures.group c.requires.options.3 c.until-now.ensures.answer.range given.0
           c.live_run-run.ensures.fitting (rw c.deref.ensures.value at say) kept)
           c.status_of.ensures;
       unbegun = λ memory none.

@@ -7,5 +7,5 @@ use Rattle.link_daemon.proofs.report_text.hand_head.Given as goal
 
 abbrev pub invariant-loop-k : goal.invariant-loop-k
 invariant-loop-k g l =
-    HasHandedEach ended (head_lines (config_value l.config) l.now) l.k (g.K.Sink.written l.fn.out) l.fn.outlet.kept.items (g.K.Sink.written l.out) l.outlet.kept.items
+    HasHandedEach ended (head_lines 2 (config_value l.config) l.now) l.k (g.K.Sink.written l.fn.out) l.fn.outlet.kept.items (g.K.Sink.written l.out) l.outlet.kept.items
     × (g.K.Sink.faults l.out ≡ g.K.Sink.faults l.fn.out)

@@ -7,4 +7,4 @@ use Rattle.link_daemon.proofs.report_text.head_length.Given as goal
 
 abbrev pub invariant-loop-gate : goal.invariant-loop-gate
 invariant-loop-gate l =
-    (l.lines ≡ 2 + count_of gate_lines gate_value l.config.gates.items l.gate-index) × (l.lines ≤ 2 + 33 * l.gate-index)
+    (l.lines ≡ 4 + count_of gate_lines gate_value l.config.gates.items l.gate-index) × (l.lines ≤ 4 + 33 * l.gate-index)
