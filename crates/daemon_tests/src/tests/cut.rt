@@ -104,7 +104,7 @@ fn answer_to<R: Threads + Wait + Sync>(
     input: &[u8],
 ) -> Result<Vec<u8>, AllocError> {
     let mut texts = texts_over(alloc, input, 4096, 0, 0)?;
-    let status = run(rt, alloc, &[command], &mut texts.input, &mut texts.out)?;
+    let status = run(rt, alloc, command, &mut texts.input, &mut texts.out)?;
     if status != Status::Done {
         return Ok(Vec::new(alloc));
     }

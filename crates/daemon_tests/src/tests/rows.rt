@@ -9,7 +9,7 @@ use std::thread::Threads;
 
 /// A run. In its texts letters stand for longer ones, as `text_of` says.
 struct Row {
-    words: &'static [&'static str],
+    words: &'static str,
     input: &'static str,
     output: &'static str,
     /// The number of its status.
@@ -21,7 +21,7 @@ struct Row {
 const ROWS: &[Row] = &[
     // An alive is answered.
     Row {
-        words: &["replay"],
+        words: "replay",
         input: "=rx 1000100 0 127.0.0.1:20808 @\n",
         output: "%tx 1000100 0 127.0.0.1:20808 &\ndone 1 1 1\n",
         status: 0,
@@ -29,7 +29,7 @@ const ROWS: &[Row] = &[
     },
     // Datagrams shorter than their head, and one of neither kind.
     Row {
-        words: &["decode"],
+        words: "decode",
         input: "\n5f617364705f76010105000041424344454647\n5f6c696e6b5f7601\n000000000000000000\n",
         output: "fault short 0\nfault short 19\nfault short 8\nfault notlink\n",
         status: 0,
@@ -37,7 +37,7 @@ const ROWS: &[Row] = &[
     },
     // A datagram of 513 bytes.
     Row {
-        words: &["decode"],
+        words: "decode",
         input: "@~~~~~~~~~~~~~~\n",
         output: "fault toolong 513\n",
         status: 0,
@@ -45,7 +45,7 @@ const ROWS: &[Row] = &[
     },
     // An entry that is unknown changes nothing.
     Row {
-        words: &["decode"],
+        words: "decode",
         input: "5f617364705f7601010500004142434445464748746d6c6e00000018000000000007a120000000000000000000000000000000006d6570360000001200000000000000000000000000000000000073657373000000084142434445464748737473740000001100000000000000000000000000000000006d657034000000067f0000015148\n\
             @\n",
         output: "alive 4142434445464748 5 0 500000 0 0 4142434445464748 0 0 0 127.0.0.1:20808\n\
@@ -55,7 +55,7 @@ const ROWS: &[Row] = &[
     },
     // Of two timelines the last one counts.
     Row {
-        words: &["decode"],
+        words: "decode",
         input: "5f617364705f7601010500004142434445464748746d6c6e00000018000000000007a12000000000000000000000000000000000746d6c6e000000180000000000061a800000000000000000000000000000000073657373000000084142434445464748737473740000001100000000000000000000000000000000006d657034000000067f0000015148\n",
         output: "alive 4142434445464748 5 0 400000 0 0 4142434445464748 0 0 0 127.0.0.1:20808\n",
         status: 0,
@@ -63,7 +63,7 @@ const ROWS: &[Row] = &[
     },
     // A timeline of 25 bytes, and one that passes the end.
     Row {
-        words: &["decode"],
+        words: "decode",
         input: "5f617364705f7601010500004142434445464748746d6c6e0000001900000000000000000000000000000000000000000000000000\n\
             5f617364705f7601010500004142434445464748746d6c6effffffff000000000000000000000000000000000000000000000000\n",
         output: "fault size 746d6c6e 25\nfault cut 0\n",
@@ -72,7 +72,7 @@ const ROWS: &[Row] = &[
     },
     // A state with no start and no endpoint, one with no session, and a tempo of 0.
     Row {
-        words: &["decode"],
+        words: "decode",
         input: "5f617364705f7601010500004142434445464748746d6c6e00000018000000000007a1200000000000000000000000000000000073657373000000084142434445464748\n\
             5f617364705f7601010500004142434445464748746d6c6e00000018000000000007a12000000000000000000000000000000000\n\
             5f617364705f7601010500004142434445464748746d6c6e0000001800000000000000000000000000000000000000000000000073657373000000084142434445464748\n",
@@ -84,7 +84,7 @@ const ROWS: &[Row] = &[
     },
     // A filter tells the nearest line, and refuses a late pair and a far one.
     Row {
-        words: &["filter"],
+        words: "filter",
         input: "0 0\n512 11610\n1024 23000\n512 30000\n2147483649 0\n",
         output: "host 0\nhost 11610\nhost 23037\nlate 1024\nfar 0 0\ndone 5 2\n",
         status: 0,
@@ -92,7 +92,7 @@ const ROWS: &[Row] = &[
     },
     // A text of no bytes has no pair.
     Row {
-        words: &["filter"],
+        words: "filter",
         input: "",
         output: "done 0 0\n",
         status: 0,
@@ -100,7 +100,7 @@ const ROWS: &[Row] = &[
     },
     // An empty line is no pair.
     Row {
-        words: &["filter"],
+        words: "filter",
         input: "-5 -7\n\n1 1\n",
         output: "",
         status: 8,
@@ -108,21 +108,21 @@ const ROWS: &[Row] = &[
     },
     // Three numbers are none, nor is one beyond the limit.
     Row {
-        words: &["filter"],
+        words: "filter",
         input: "1 1152921504606846976\n2 1 1\n",
         output: "",
         status: 8,
         line: 2,
     },
     Row {
-        words: &["filter"],
+        words: "filter",
         input: "1 1152921504606846977",
         output: "",
         status: 8,
         line: 1,
     },
     Row {
-        words: &["filter", "x"],
+        words: "filter x",
         input: "1 1\n",
         output: "",
         status: 2,
@@ -130,7 +130,7 @@ const ROWS: &[Row] = &[
     },
     // Its own id, another group, another kind.
     Row {
-        words: &["replay"],
+        words: "replay",
         input: "=rx 1000100 0 127.0.0.1:20808 5f617364705f7601010500005152535455565758746d6c6e00000018000000000007a1200000000000000000000000000000000073657373000000084142434445464748737473740000001100000000000000000000000000000000006d657034000000067f0000015148\n\
             rx 1000100 0 127.0.0.1:20808 5f617364705f7601010500014142434445464748746d6c6e00000018000000000007a1200000000000000000000000000000000073657373000000084142434445464748737473740000001100000000000000000000000000000000006d657034000000067f0000015148\n\
             rx 1000100 0 127.0.0.1:20808 5f617364705f7601090500004142434445464748746d6c6e00000018000000000007a1200000000000000000000000000000000073657373000000084142434445464748737473740000001100000000000000000000000000000000006d657034000000067f0000015148\n",
@@ -138,9 +138,24 @@ const ROWS: &[Row] = &[
         status: 0,
         line: 0,
     },
+    // A node in the group 1 hears that group alone, and answers in it.
+    Row {
+        words: "replay",
+        input: "replay 2\n\
+            node QRSTUVWX 1 500000 1 1000000\n\
+            group 1\n\
+            quantum 4000000\n\
+            gate 127.0.0.1:20809\n\
+            rx 1000100 0 127.0.0.1:20808 @\n\
+            rx 1000100 0 127.0.0.1:20808 5f617364705f7601010500014142434445464748746d6c6e00000018000000000007a1200000000000000000000000000000000073657373000000084142434445464748737473740000001100000000000000000000000000000000006d657034000000067f0000015148\n",
+        output: "%tx 1000100 0 127.0.0.1:20808 5f617364705f7601020500015152535455565758746d6c6e00000018000000000007a1200000000000000000000000000000000073657373000000085152535455565758737473740000001100000000000000000000000000000000006d657034000000067f0000015149\n\
+            done 2 1 1\n",
+        status: 0,
+        line: 0,
+    },
     // The pong of a ping at 250 microseconds of ghost time: its session, that time, and the ping's payload.
     Row {
-        words: &["replay"],
+        words: "replay",
         input: "=rx 1000250 0 127.0.0.1:20808 5f6c696e6b5f7601015f5f68740000000800000000000003e8\n",
         output: "%tx 1000250 0 127.0.0.1:20808 5f6c696e6b5f760102736573730000000851525354555657585f5f67740000000800000000000000fa5f5f68740000000800000000000003e8\n\
             done 1 1 1\n",
@@ -149,7 +164,7 @@ const ROWS: &[Row] = &[
     },
     // A payload of 32 bytes is sent back.
     Row {
-        words: &["replay"],
+        words: "replay",
         input: "=rx 1000250 0 127.0.0.1:20808 5f6c696e6b5f7601010000000000000000000000000000000000000000000000000000000000000000\n",
         output: "%tx 1000250 0 127.0.0.1:20808 5f6c696e6b5f760102736573730000000851525354555657585f5f67740000000800000000000000fa0000000000000000000000000000000000000000000000000000000000000000\n\
             done 1 1 1\n",
@@ -158,7 +173,7 @@ const ROWS: &[Row] = &[
     },
     // A payload of 33 bytes is not.
     Row {
-        words: &["replay"],
+        words: "replay",
         input: "=rx 1000250 0 127.0.0.1:20808 5f6c696e6b5f760101000000000000000000000000000000000000000000000000000000000000000000\n",
         output: "%done 1 1 0\n",
         status: 0,
@@ -166,7 +181,7 @@ const ROWS: &[Row] = &[
     },
     // A clock that goes back: the broadcast of its later moment isn't due again.
     Row {
-        words: &["replay"],
+        words: "replay",
         input: "=to 127.0.0.1:20808\ntick 999000\ntick 5\n",
         output: "%tx 999000 0 127.0.0.1:20808 5f617364705f7601010500005152535455565758746d6c6e00000018000000000007a1200000000000000000000000000000000073657373000000085152535455565758737473740000001100000000000000000000000000000000006d657034000000067f0000015149\n\
             done 2 1 1\n",
@@ -176,7 +191,7 @@ const ROWS: &[Row] = &[
     // A tempo of 250000 from half a second on, then the first one again; the response tells the session's timeline, whose beat
     // origin has grown twice.
     Row {
-        words: &["replay"],
+        words: "replay",
         input: "replay 1\n\
             node QRSTUVWX 1 500000 1 0\n\
             gate 127.0.0.1:20809\n\
@@ -193,7 +208,7 @@ const ROWS: &[Row] = &[
     },
     // A time origin of 2^60 and 1.
     Row {
-        words: &["decode"],
+        words: "decode",
         input: "5f617364705f7601010500004142434445464748746d6c6e00000018000000000007a1201000000000000001000000000000000073657373000000085152535455565758737473740000001100000000000000000000000000000000006d657034000000067f0000015148\n",
         output: "fault range 746d6c6e 1152921504606846977\n",
         status: 0,
@@ -201,7 +216,7 @@ const ROWS: &[Row] = &[
     },
     // A peer of the own session on two gates counts once, until its last row ends: 3 s and 5 s to live and 1 s more.
     Row {
-        words: &["replay"],
+        words: "replay",
         input: "=gate 127.0.0.1:20810\n\
             rx 2000000 0 127.0.0.1:20808 5f617364705f7601010500004142434445464748746d6c6e00000018000000000007a1200000000000000000000000000000000073657373000000085152535455565758737473740000001100000000000000000000000000000000006d657034000000067f0000015148\n\
             rx 3000000 1 127.0.0.1:20808 5f617364705f7601010500004142434445464748746d6c6e00000018000000000007a1200000000000000000000000000000000073657373000000085152535455565758737473740000001100000000000000000000000000000000006d657034000000067f0000015148\n\
@@ -218,7 +233,7 @@ const ROWS: &[Row] = &[
     },
     // Its own id, and then a peer.
     Row {
-        words: &["replay"],
+        words: "replay",
         input: "=rx 1000100 0 127.0.0.1:20808 5f617364705f7601010500005152535455565758746d6c6e00000018000000000007a1200000000000000000000000000000000073657373000000084142434445464748737473740000001100000000000000000000000000000000006d657034000000067f0000015148\n\
             rx 1000100 0 127.0.0.1:20808 @\n",
         output: "%tx 1000100 0 127.0.0.1:20808 &\ndone 2 1 1\n",
@@ -227,7 +242,7 @@ const ROWS: &[Row] = &[
     },
     // No event.
     Row {
-        words: &["replay"],
+        words: "replay",
         input: "=",
         output: "%done 0 1 0\n",
         status: 0,
@@ -235,7 +250,7 @@ const ROWS: &[Row] = &[
     },
     // A tick broadcasts.
     Row {
-        words: &["replay"],
+        words: "replay",
         input: "=to 127.0.0.1:20808\ntick 1000000\n",
         output: "%tx 1000000 0 127.0.0.1:20808 5f617364705f7601010500005152535455565758746d6c6e00000018000000000007a1200000000000000000000000000000000073657373000000085152535455565758737473740000001100000000000000000000000000000000006d657034000000067f0000015149\n\
             done 1 1 1\n",
@@ -244,7 +259,7 @@ const ROWS: &[Row] = &[
     },
     // No script.
     Row {
-        words: &["replay"],
+        words: "replay",
         input: "",
         output: "",
         status: 8,
@@ -252,14 +267,14 @@ const ROWS: &[Row] = &[
     },
     // No word, and one too many.
     Row {
-        words: &[],
+        words: "",
         input: "",
         output: "",
         status: 2,
         line: 0,
     },
     Row {
-        words: &["replay", "x"],
+        words: "replay x",
         input: "",
         output: "",
         status: 2,
@@ -267,7 +282,7 @@ const ROWS: &[Row] = &[
     },
     // Each kind of datagram.
     Row {
-        words: &["decode"],
+        words: "decode",
         input: "@\n\
             &\n\
             5f617364705f7601030000004142434445464748\n\
@@ -297,7 +312,7 @@ const ROWS: &[Row] = &[
     },
     // An end says goodbye, and what comes after it is answered as before.
     Row {
-        words: &["replay"],
+        words: "replay",
         input: "=to 127.0.0.1:20808\nto 127.0.0.1:20810\nend 2000000\nrx 2000100 0 127.0.0.1:20808 @\n",
         output: "%tx 2000000 0 127.0.0.1:20808 5f617364705f7601030000005152535455565758\n\
             tx 2000000 0 127.0.0.1:20810 5f617364705f7601030000005152535455565758\n\
@@ -308,15 +323,27 @@ const ROWS: &[Row] = &[
     },
     // How much there was, and the last state.
     Row {
-        words: &["load", "7", "1000"],
+        words: "load 7 1000",
         input: "",
         output: "load 1000 109 806\nstate 108 372100 -21618 296253 0 0 0 1 8 10985784 61 0\n",
         status: 0,
         line: 0,
     },
+    // A group of 17 bits.
+    Row {
+        words: "replay",
+        input: "replay 2\n\
+            node QRSTUVWX 1 500000 1 1000000\n\
+            group 65536\n\
+            quantum 4000000\n\
+            gate 127.0.0.1:20809\n",
+        output: "",
+        status: 8,
+        line: 3,
+    },
     // A fifth gate.
     Row {
-        words: &["replay"],
+        words: "replay",
         input: "=gate 127.0.0.1:1\ngate 127.0.0.1:2\ngate 127.0.0.1:3\ngate 127.0.0.1:4\n",
         output: "",
         status: 8,
@@ -324,7 +351,7 @@ const ROWS: &[Row] = &[
     },
     // The number of an audio commit twice.
     Row {
-        words: &["replay"],
+        words: "replay",
         input: "=audio 5 1 5\naudio 5 1 5\n",
         output: "",
         status: 8,
@@ -332,14 +359,14 @@ const ROWS: &[Row] = &[
     },
     // A letter that is no hex digit; an odd number of digits in the last line.
     Row {
-        words: &["decode"],
+        words: "decode",
         input: "00\n\n0g\n0\n",
         output: "",
         status: 8,
         line: 3,
     },
     Row {
-        words: &["decode"],
+        words: "decode",
         input: "00\n000\n",
         output: "",
         status: 8,
@@ -347,14 +374,14 @@ const ROWS: &[Row] = &[
     },
     // A live script with no setup, and one whose last command lacks its tempo.
     Row {
-        words: &["live"],
+        words: "live",
         input: "link 1\nat x tempo\n",
         output: "",
         status: 8,
         line: 2,
     },
     Row {
-        words: &["live"],
+        words: "live",
         input: "link 1\nsetup 500000 1\ngate 127.0.0.1:20808\nat 0 look\nat 0 tempo\n",
         output: "",
         status: 8,
@@ -362,63 +389,70 @@ const ROWS: &[Row] = &[
     },
     // Numbers out of their ranges, and words too many.
     Row {
-        words: &["load", "7", "0"],
+        words: "load 7 0",
         input: "",
         output: "",
         status: 2,
         line: 0,
     },
     Row {
-        words: &["load", "7", "524289"],
+        words: "load 7 524289",
         input: "",
         output: "",
         status: 2,
         line: 0,
     },
     Row {
-        words: &["load", "18446744073709551616", "5"],
+        words: "load 18446744073709551616 5",
         input: "",
         output: "",
         status: 2,
         line: 0,
     },
     Row {
-        words: &["load", "7", "5", "x"],
+        words: "load 7 5 x",
         input: "",
         output: "",
         status: 2,
         line: 0,
     },
     Row {
-        words: &["live", "--events", "0"],
+        words: "live --events 0",
         input: "",
         output: "",
         status: 2,
         line: 0,
     },
     Row {
-        words: &["live", "--events", "524289"],
+        words: "live --events 524289",
         input: "",
         output: "",
         status: 2,
         line: 0,
     },
     Row {
-        words: &["live", "--blocks", "524289"],
+        words: "live --blocks 524289",
         input: "",
         output: "",
         status: 2,
         line: 0,
     },
     Row {
-        words: &["live", "--quantum", "1099511627777"],
+        words: "live --quantum 1099511627777",
         input: "",
         output: "",
         status: 2,
         line: 0,
     },
     Row {
-        words: &["live", "x"],
+        words: "live --group 65536",
+        input: "",
+        output: "",
+        status: 2,
+        line: 0,
+    },
+    Row {
+        words: "live x",
         input: "",
         output: "",
         status: 2,
@@ -430,7 +464,7 @@ const ROWS: &[Row] = &[
 fn each_worked_run_gives_its_output(rt: HostRuntime) -> Result<(), Fail> {
     for row in ROWS {
         let told = gives_its_output(&rt, rt.alloc(), row)?;
-        assert!(rt; told, "{:?} {}", row.words, row.input);
+        assert!(rt; told, "{} {}", row.words, row.input);
     }
     Ok(())
 }

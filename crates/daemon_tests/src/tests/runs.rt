@@ -88,7 +88,7 @@ fn no_devices(alloc: Global) -> Result<Devices, AllocError> {
 pub fn run<R: Threads + Wait + Sync, S: Source, K: Sink>(
     rt: &R,
     alloc: Global,
-    words: &[&str],
+    words: &str,
     input: &mut S,
     out: &mut K,
 ) -> Result<Status, AllocError> {
@@ -108,10 +108,10 @@ pub fn run<R: Threads + Wait + Sync, S: Source, K: Sink>(
     ))
 }
 
-/// The words of a command line.
-pub fn spelled(alloc: Global, words: &[&str]) -> Result<Vec<String>, AllocError> {
+/// The words of a command line, between which blanks stand.
+pub fn spelled(alloc: Global, words: &str) -> Result<Vec<String>, AllocError> {
     let mut spelled = Vec::new(alloc);
-    for word in words {
+    for word in words.split_whitespace() {
         spelled.push(String::from_str(alloc, word)?)?;
     }
     Ok(spelled)

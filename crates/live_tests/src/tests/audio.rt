@@ -24,19 +24,24 @@ use lk_outside::ListAudio;
 use rows::{ROWS, Row};
 use std::alloc::{AllocError, Global};
 use std::marker::Brand;
+use std::process::Abort;
 use std::test::Fail;
 use told::tell;
 use triple_buffer::Triple;
 
 #[test]
 fn each_block_is_played_by_one_state_and_its_commits_follow(rt: HostRuntime) -> Result<(), Fail> {
-    for row in &ROWS {
-        let Ok(told) = told_for(rt.alloc(), row) else {
-            panic!(rt; "no run: {}", row.commands);
-        };
-        assert_eq!(rt; told.as_slice(), row.told.as_bytes(), "{}", row.commands);
+    for row in ROWS {
+        expect_row(&rt, rt.alloc(), row);
     }
     Ok(())
+}
+
+fn expect_row(rt: &impl Abort, alloc: Global, row: &Row) {
+    let Ok(told) = told_for(alloc, row) else {
+        panic!(rt; "no run: {}", row.commands);
+    };
+    assert_eq!(rt; told.as_slice(), row.told.as_bytes(), "{}", row.commands);
 }
 
 fn told_for(alloc: Global, row: &Row) -> Result<Text, LiveFault> {
@@ -51,31 +56,37 @@ fn told_by(alloc: Global, row: &Row, script: &LiveScript) -> Result<Text, AllocE
 {
     let mut room = Room::new(alloc, script, u64::from(row.blocks))?;
     let mut device = device_of(alloc, Blocks::Long, row.device, row.failing)?;
-    told_on(alloc, row, script, &mut room, &mut device)
+    let ended = played_on(alloc, row, script, &mut room, &mut device)?;
+    Ok(tell(&room.audio, &device, ended))
 }
 
-// The link comes last, since nothing can fail behind it.
-fn told_on(
+// Whether the blocks of a row ended well. The link comes last, since nothing can fail behind it.
+fn played_on(
     alloc: Global,
     row: &Row,
     script: &LiveScript,
     room: &mut Room,
     device: &mut ListAudio,
-) -> Result<Text, AllocError>
+) -> Result<bool, AllocError>
     requires few { length script.now.blocks.items ≤ 99 }
     requires ready { IsReady script.now row.now.blocks room.old }
 {
-    let parts = Parts::<Triple<9>>::new(alloc, &(), &config_of(&[0]), 1_000_000, 1)?;
-    Ok(told_of::<Triple<9>, Brand>(parts, row, script, room, device))
+    let parts = new_parts(alloc)?;
+    Ok(played_over::<Triple<9>, Brand>(parts, row, script, room, device))
 }
 
-fn told_of<C: StateCell<9, Way = ()>, N: LinkName>(
+fn new_parts(alloc: Global) -> Result<Parts<Triple<9>>, AllocError> {
+    let config = config_of(&[0]);
+    Parts::<Triple<9>>::new(alloc, &(), &config, 1_000_000, 1)
+}
+
+fn played_over<C: StateCell<9, Way = ()>, N: LinkName>(
     parts: Parts<C>,
     row: &Row,
     script: &LiveScript,
     room: &mut Room,
     device: &mut ListAudio,
-) -> Text
+) -> bool
     requires cells { (parts.app_states ≡ N.app_states) × (parts.audio_states ≡ N.audio_states) × (parts.audio_commits ≡ N.audio_commits) }
     requires queue { parts.queue ≡ N.queue }
     requires ledger { (parts.ledger ≡ N.name) × (parts.shares ≡ N.parts) × (N.whole ≡ N.parts) }
@@ -88,16 +99,30 @@ fn told_of<C: StateCell<9, Way = ()>, N: LinkName>(
         ..
     } = Link::<C, N>::make(parts);
     commit_before(&link, &mut audio, row.commits);
-    let ended = audio_loop(
-        &link,
-        &mut audio,
+    play(&link, &mut audio, row, script, room, device)
+}
+
+fn play<C: StateCell<9, Way = ()>, N: LinkName>(
+    link: &Link<C, N>,
+    pass: &mut AudioPass<C, N>,
+    row: &Row,
+    script: &LiveScript,
+    room: &mut Room,
+    device: &mut ListAudio,
+) -> bool
+    requires made { length pass.old.made ≤ 1 }
+    requires few { length script.now.blocks.items ≤ 99 }
+    requires ready { IsReady script.now row.now.blocks room.old }
+{
+    audio_loop(
+        link,
+        pass,
         device,
         script,
         u64::from(row.blocks),
         4_000_000,
         &mut room.audio,
-    );
-    tell(&room.audio, device, ended)
+    )
 }
 
 // The commit made before, where there is one: it plays from half a second after the opening on.

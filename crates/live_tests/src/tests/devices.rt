@@ -16,14 +16,14 @@ pub enum Blocks {
     Short,
 }
 
-/// A device of so many blocks. The calls fail whose pairs of kind and number stand in `failing`.
+/// A device of so many blocks, whose call of this kind and number fails, from 1. One of number 0 is never made.
 pub fn device_of(
     alloc: Global,
     blocks: Blocks,
     count: u16,
-    failing: &[(u8, u64)],
+    failing: (u8, u64),
 ) -> Result<ListAudio, AllocError> {
-    let failing = Vec::from_slice(alloc, failing)?;
+    let failing = vec![in alloc; failing]?;
     ListAudio::new(alloc, blocks_of(alloc, blocks, count)?, failing)
 }
 

@@ -23,6 +23,7 @@ use link_text::{LineBuf, LiveFault, LiveScript, write_state_line};
 use lk_outside::{BIND, ListAudio, ListPace, ListPort, NEXT, Pace, RECEIVE};
 use std::alloc::{AllocError, Global};
 use std::marker::Brand;
+use std::process::Abort;
 use std::sync::Wait;
 use std::test::Fail;
 use std::thread::Threads;
@@ -34,20 +35,23 @@ struct Row {
     blocks: u16,
     most: u64,
     /// The calls of the port and of the device that fail: the k-th of a kind.
-    port: &'static [(u8, u64)],
-    device: &'static [(u8, u64)],
+    port: (u8, u64),
+    device: (u8, u64),
     commands: &'static str,
     told: &'static str,
 }
 
+/// A call that is never made.
+const NEVER: (u8, u64) = (0, 0);
+
 /// Worked out by hand.
-const ROWS: [Row; 8] = [
+const ROWS: &[Row] = &[
     // The first turn ticks, and so does no other.
     Row {
         blocks: 0,
         most: 300,
-        port: &[],
-        device: &[],
+        port: NEVER,
+        device: NEVER,
         commands: "",
         told: "Well t1 c0 u0 e1 end, 0 reads, 0 captures, 0 and 0 commits\n\
             state 1 500000 0 0 0 0 0 1 0 0 0 0\n",
@@ -56,8 +60,8 @@ const ROWS: [Row; 8] = [
     Row {
         blocks: 2,
         most: 300,
-        port: &[],
-        device: &[],
+        port: NEVER,
+        device: NEVER,
         commands: "at 1000000 tempo 250000\n",
         told: "Well t1 c1 u0 e1 end, 2 reads, 1 captures, 1 and 0 commits\n\
             state 2 250000 0 500000 0 0 0 1 0 0 1 0\n\
@@ -67,8 +71,8 @@ const ROWS: [Row; 8] = [
     Row {
         blocks: 2,
         most: 300,
-        port: &[],
-        device: &[],
+        port: NEVER,
+        device: NEVER,
         commands: "at 1000000 tempo 250000\nat 2000000 play\nat 3000000 look\n",
         told: "Well t1 c2 u0 e1 end, 2 reads, 3 captures, 2 and 0 commits\n\
             state 3 250000 0 500000 1 2000000 2000000 1 0 0 2 0\n\
@@ -78,8 +82,8 @@ const ROWS: [Row; 8] = [
     Row {
         blocks: 1,
         most: 3,
-        port: &[],
-        device: &[],
+        port: NEVER,
+        device: NEVER,
         commands: "at 1000000 tempo 250000\nat 1000000 tempo 200000\nat 1000000 tempo 125000\n",
         told: "Events t1 c2 u0 e0, 1 reads, 3 captures, 3 and 0 commits\n\
             state 3 200000 0 600000 0 0 0 1 0 0 2 0\n\
@@ -88,8 +92,8 @@ const ROWS: [Row; 8] = [
     Row {
         blocks: 1,
         most: 300,
-        port: &[(RECEIVE, 1)],
-        device: &[],
+        port: (RECEIVE, 1),
+        device: NEVER,
         commands: "at 1000000 tempo 250000\n",
         told: "Port t1 c1 u0 e1 end, 1 reads, 1 captures, 1 and 0 commits\n\
             state 2 250000 0 500000 0 0 0 1 0 0 1 0\n\
@@ -98,8 +102,8 @@ const ROWS: [Row; 8] = [
     Row {
         blocks: 1,
         most: 300,
-        port: &[(BIND, 1)],
-        device: &[],
+        port: (BIND, 1),
+        device: NEVER,
         commands: "at 1000000 tempo 250000\n",
         told: "Port t1 c1 u0 e1 end, 1 reads, 1 captures, 1 and 0 commits\n\
             state 2 250000 0 500000 0 0 0 1 0 0 1 0\n\
@@ -108,8 +112,8 @@ const ROWS: [Row; 8] = [
     Row {
         blocks: 1,
         most: 300,
-        port: &[],
-        device: &[(NEXT, 1)],
+        port: NEVER,
+        device: (NEXT, 1),
         commands: "at 1000000 tempo 250000\n",
         told: "Audio t1 c1 u0 e1 end, 0 reads, 1 captures, 1 and 0 commits\n\
             state 2 250000 0 500000 0 0 0 1 0 0 1 0\n\
@@ -119,8 +123,8 @@ const ROWS: [Row; 8] = [
     Row {
         blocks: 2,
         most: 300,
-        port: &[],
-        device: &[],
+        port: NEVER,
+        device: NEVER,
         commands: "block 1 tempo 250000\n",
         told: "Well t1 c0 u1 e1 end, 2 reads, 0 captures, 0 and 1 commits\n\
             state 2 250000 0 0 0 0 0 1 0 0 0 1\n",
@@ -129,23 +133,31 @@ const ROWS: [Row; 8] = [
 
 #[test]
 fn three_threads_run_over_a_link(rt: HostRuntime) -> Result<(), Fail> {
-    for row in &ROWS {
-        let Ok(told) = told_for(&rt, rt.alloc(), row) else {
-            panic!(&rt; "no run: {}", row.commands);
-        };
-        assert_eq!(&rt; told.as_slice(), row.told.as_bytes(), "{}", row.commands);
+    for row in ROWS {
+        expect_row(&rt, rt.alloc(), row);
     }
     Ok(())
 }
 
 // ---- a run
 
-fn told_for<R: Threads + Wait + Sync>(rt: &R, alloc: Global, row: &Row) -> Result<Text, LiveFault> {
+fn expect_row<R: Threads + Wait + Sync + Abort>(rt: &R, alloc: Global, row: &Row) {
+    let Ok(told) = told_for(rt, alloc, row) else {
+        panic!(rt; "no run: {}", row.commands);
+    };
+    assert_eq!(rt; told.as_slice(), row.told.as_bytes(), "{}", row.commands);
+}
+
+fn told_for<R: Threads + Wait + Sync + Abort>(
+    rt: &R,
+    alloc: Global,
+    row: &Row,
+) -> Result<Text, LiveFault> {
     let script = script_of(alloc, row.commands)?;
     told_by(rt, alloc, row, &script).map_err(LiveFault::Memory)
 }
 
-fn told_by<R: Threads + Wait + Sync>(
+fn told_by<R: Threads + Wait + Sync + Abort>(
     rt: &R,
     alloc: Global,
     row: &Row,
@@ -155,34 +167,40 @@ fn told_by<R: Threads + Wait + Sync>(
     requires commands { All (λ command. IsCommand (block_command command)) script.now.blocks.items }
     requires few { length script.now.blocks.items ≤ 99 }
 {
-    let failing = Vec::from_slice(alloc, row.port)?;
-    let mut port = ListPort::new(alloc, Vec::new(alloc), 500, failing)?;
+    let mut port = port_of(alloc, row.port)?;
     let mut device = device_of(alloc, Blocks::Short, row.blocks, row.device)?;
-    told_on(rt, alloc, row, script, &mut port, &mut device)
+    let run = run_on(rt, alloc, row, script, &mut port, &mut device);
+    Ok(tell(&run))
 }
 
-// The link comes last, since nothing can fail behind it.
-fn told_on<R: Threads + Wait + Sync>(
+// A port that nothing comes to, of which this call fails.
+fn port_of(alloc: Global, failing: (u8, u64)) -> Result<ListPort, AllocError> {
+    let failing = vec![in alloc; failing]?;
+    ListPort::new(alloc, Vec::new(alloc), 500, failing)
+}
+
+fn run_on<R: Threads + Wait + Sync + Abort>(
     rt: &R,
     alloc: Global,
     row: &Row,
     script: &LiveScript,
     port: &mut ListPort,
     device: &mut ListAudio,
-) -> Result<Text, AllocError>
+) -> LiveRun
     requires apps { All (λ command. IsCommand (app_command command)) script.now.apps.items }
     requires commands { All (λ command. IsCommand (block_command command)) script.now.blocks.items }
     requires few { length script.now.blocks.items ≤ 99 }
 {
-    let room = Room::new(alloc, script, u64::from(row.blocks))?;
+    let room = Room::new(alloc, script, u64::from(row.blocks)).expect(rt, "memory for a run");
     let config = config_of(&[0]);
     let mut pace = ListPace::new(0);
     let now = pace.until(0);
     let most = row.most.clamp(1, 524_288);
-    let parts = Parts::<Triple<9>>::new(alloc, &(), &config, now, most)?;
-    Ok(tell(&run_of::<Brand, R>(
+    let parts = Parts::<Triple<9>>::new(alloc, &(), &config, now, most);
+    let parts = parts.expect(rt, "memory for a link");
+    run_of::<Brand, R>(
         rt, alloc, parts, &config, script, row.blocks, room, port, device, &mut pace,
-    )))
+    )
 }
 
 fn run_of<N: LinkName + Send + Sync, R: Threads + Wait + Sync>(

@@ -31,6 +31,8 @@ pub fn config_of(gates: &[u16]) -> Config
         seed: 1,
         mpb: 500_000,
         sync: true,
+        group: 0,
+        quantum: 4_000_000,
         gates: setups,
     }
 }

@@ -17,7 +17,7 @@ use triple_buffer::Triple;
 
 #[test]
 fn a_script_is_taken_in_order(rt: HostRuntime) -> Result<(), Fail> {
-    for row in &ROWS {
+    for row in ROWS {
         expect_row::<Triple<9>, HostRuntime>(&rt, rt.alloc(), &(), row);
         expect_row::<SeqState<HostRuntime, 9>, HostRuntime>(&rt, rt.alloc(), &rt, row);
     }

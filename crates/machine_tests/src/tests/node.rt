@@ -44,7 +44,7 @@ fn gate_of(gate: u16, destinations: u16) -> GateSetup {
     }
 }
 
-fn config(gates: u16, destinations: u16, sync: bool) -> Config
+fn config(group: u16, gates: u16, destinations: u16, sync: bool) -> Config
     requires { (1 ≤ gates) × (gates ≤ 4) }
     ensures config { IsConfig (config_value result) }
     ensures gates { length result.gates.items ≡ gates }
@@ -58,6 +58,8 @@ fn config(gates: u16, destinations: u16, sync: bool) -> Config
         seed: 1,
         mpb: 500_000,
         sync,
+        group,
+        quantum: 4_000_000,
         gates: setups,
     }
 }

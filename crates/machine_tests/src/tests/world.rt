@@ -55,7 +55,12 @@ fn gates_of(peer: u32, peers: u32) -> ArrayVec<GateSetup, 4>
     gates
 }
 
-fn config_of(peer: u32, peers: u32) -> Config
+// The group of a peer: where the peers are to be apart, those of odd number have one of their own.
+fn group_of(peer: u32, apart: bool) -> u16 {
+    u16::from(apart && peer % 2 == 1)
+}
+
+fn config_of(peer: u32, peers: u32, apart: bool) -> Config
     requires { peer < 4 }
     ensures { IsConfig (config_value result) }
 {
@@ -64,23 +69,25 @@ fn config_of(peer: u32, peers: u32) -> Config
         seed: u64::from(peer),
         mpb: 500_000,
         sync: true,
+        group: group_of(peer, apart),
+        quantum: 4_000_000,
         gates: gates_of(peer, peers),
     }
 }
 
-fn configs_of(alloc: Global, peers: u32) -> Result<Vec<Config>, AllocError>
+fn configs_of(alloc: Global, peers: u32, apart: bool) -> Result<Vec<Config>, AllocError>
     ensures { IfOk result (λ configs. All (λ config. IsConfig (config_value config)) configs.items) }
 {
     let mut configs = Vec::new(alloc);
     for peer in 0..peers.min(4) {
-        configs.push(config_of(peer, peers))?;
+        configs.push(config_of(peer, peers, apart))?;
     }
     Ok(configs)
 }
 
-// The world of so many peers after a script.
-fn world_of(alloc: Global, peers: u32, script: &[Turn]) -> Result<World, AllocError> {
-    World::run(alloc, &configs_of(alloc, peers)?, OPENING, script)
+// The world of so many peers, in one group or apart, after a script.
+fn world_of(alloc: Global, peers: u32, apart: bool, script: &[Turn]) -> Result<World, AllocError> {
+    World::run(alloc, &configs_of(alloc, peers, apart)?, OPENING, script)
 }
 
 // The datagram of a number comes from one peer to another.

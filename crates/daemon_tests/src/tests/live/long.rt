@@ -5,7 +5,7 @@ ghost use Rattle.lk_outside.specs.Coming.{IsToCome};
 
 use super::counts::miscounted;
 use super::peers::{coming, endpoint_of, fields_of, id_of};
-use super::sides::{quiet_port, sides_over};
+use super::sides::{Sides, quiet_port, sides_over};
 use asdp_messages::{write_alive, write_ping_message, write_pong_message, write_response};
 use link_daemon::Status;
 use link_live::Report;
@@ -14,7 +14,10 @@ use link_payload::PingFields;
 use lk_base::Wire;
 use lk_outside::{Arrival, ListPace, ListPort};
 use std::alloc::{AllocError, Global};
+use std::process::Abort;
+use std::sync::Wait;
 use std::test::Fail;
+use std::thread::Threads;
 
 /// In each step of 25,000 microseconds one of the ten peers sends an alive and answers one of the node.
 const STEPS: u32 = 24_000;
@@ -30,8 +33,7 @@ const COMMITS: &[u8] = b"link 1\nsetup 500000 1\ngate 127.0.0.1:20808\nto 127.0.
 fn ten_minutes_of_ten_peers_are_taken_whole(rt: HostRuntime) -> Result<(), Fail> {
     let port = port_of_ten(rt.alloc())?;
     let mut sides = sides_over(rt.alloc(), SCRIPT, 30_000)?;
-    let (status, port) = sides.run_held(&rt, rt.alloc(), &["live"], port)?;
-    assert_eq!(rt; status, Status::Done);
+    let port = held_to_its_end(&rt, rt.alloc(), &mut sides, port)?;
     let found = miscounted(rt.alloc(), port.given(), &sides.report.events);
     assert_eq!(rt;
         found,
@@ -40,6 +42,18 @@ fn ten_minutes_of_ten_peers_are_taken_whole(rt: HostRuntime) -> Result<(), Fail>
     );
     assert!(rt; is_whole(&port, &sides.report));
     Ok(())
+}
+
+// Runs to the end of the port, and gives it back.
+fn held_to_its_end<R: Threads + Wait + Sync + Abort>(
+    rt: &R,
+    alloc: Global,
+    sides: &mut Sides,
+    port: ListPort,
+) -> Result<ListPort, AllocError> {
+    let (status, port) = sides.run_held(rt, alloc, "live", port)?;
+    assert_eq!(rt; status, Status::Done);
+    Ok(port)
 }
 
 fn port_of_ten(alloc: Global) -> Result<ListPort, AllocError> {
@@ -56,12 +70,21 @@ fn is_whole(port: &ListPort, report: &Report) -> bool {
 
 #[test]
 fn a_journal_of_three_events_takes_three(rt: HostRuntime) -> Result<(), Fail> {
-    let mut port = quiet_port(rt.alloc(), 10)?;
     let mut sides = sides_over(rt.alloc(), COMMITS, 2)?;
-    let words = ["live", "--events", "3"];
-    let status = sides.run(&rt, rt.alloc(), &words, &mut port, &mut ListPace::new(0))?;
+    let status = status_of_three(&rt, rt.alloc(), &mut sides)?;
     assert!(rt; status == Status::Events && sides.report.events.len() == 3);
     Ok(())
+}
+
+// How a run ends whose journal takes three events.
+fn status_of_three<R: Threads + Wait + Sync>(
+    rt: &R,
+    alloc: Global,
+    sides: &mut Sides,
+) -> Result<Status, AllocError> {
+    let mut port = quiet_port(alloc, 10)?;
+    let mut pace = ListPace::new(0);
+    sides.run(rt, alloc, "live --events 3", &mut port, &mut pace)
 }
 
 // Whether the arrivals that a port has given are the datagrams of a journal, in order and no others.

@@ -12,7 +12,7 @@ use super::blocks::block_after;
 use super::events::count_of;
 use super::flags::{has_come, raise};
 use super::peers::{endpoint_of, fields_of, id_of};
-use super::sides::{OWN, SEED, quiet_port, sides_over};
+use super::sides::{OWN, SEED, Sides, quiet_port, sides_over};
 use asdp_messages::write_alive;
 use link_daemon::{Status, link_main};
 use link_live::Report;
@@ -20,8 +20,10 @@ use link_shared::Capture;
 use lk_base::{Clicks, Endpoint, Gate, NodeId};
 use lk_outside::{Arrival, Audio, Bound, ListPort, Next, Pace, Played, Port, Posted};
 use std::alloc::{AllocError, Global};
+use std::sync::Wait;
 use std::sync::atomic::AtomicU64;
 use std::test::Fail;
+use std::thread::Threads;
 
 /// How many rounds there are.
 const ROUNDS: u16 = 100;
@@ -180,18 +182,30 @@ impl<'a> Pace for Lines<'a> {
 
 #[test]
 fn the_loops_overlap(rt: HostRuntime) -> Result<(), Fail> {
-    let alloc = rt.alloc();
-    let words = spelled(alloc, &["live"])?;
-    let script = script_of(alloc)?;
-    let inner = quiet_port(alloc, 200)?;
-    let mut sides = sides_over(alloc, &script, 0)?;
+    let script = script_of(rt.alloc())?;
+    let mut sides = sides_over(rt.alloc(), &script, 0)?;
+    let inner = quiet_port(rt.alloc(), 200)?;
+    let words = spelled(rt.alloc(), "live")?;
+    assert!(rt; go_on_together(&rt, rt.alloc(), &words, &mut sides, inner));
+    assert!(rt; are_rounds(&sides.report));
+    Ok(())
+}
+
+// Whether a run does all, and gives each datagram and each block.
+fn go_on_together<R: Threads + Wait + Sync>(
+    rt: &R,
+    alloc: Global,
+    words: &[String],
+    sides: &mut Sides,
+    inner: ListPort,
+) -> bool {
     let marks = Marks::new();
     let mut port = Peers::new(&marks, inner);
     let mut audio = Blocks::new(&marks);
     let status = link_main(
-        &rt,
+        rt,
         alloc,
-        &words,
+        words,
         SEED,
         &mut sides.input,
         &mut port,
@@ -200,10 +214,7 @@ fn the_loops_overlap(rt: HostRuntime) -> Result<(), Fail> {
         &mut sides.out,
         &mut sides.report,
     );
-    assert_eq!(rt; status, Status::Done);
-    assert!(rt; audio.given == ROUNDS + 1 && port.given == ROUNDS);
-    assert!(rt; are_rounds(&sides.report));
-    Ok(())
+    status == Status::Done && audio.given == ROUNDS + 1 && port.given == ROUNDS
 }
 
 // Whether there was a datagram, a capture and a read in each round, with what was published before.

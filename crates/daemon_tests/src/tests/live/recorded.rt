@@ -25,6 +25,14 @@ use std::thread::Threads;
 
 const RUNS: u32 = 100;
 
+/// The words of a run in the group 0.
+const WORDS: &str = "live --record";
+
+/// Another group, and the words of a run in it.
+const GROUP: u16 = 41_153;
+
+const GROUP_WORDS: &str = "live --group 41153 --record";
+
 const HEAD: &str =
     "link 1\nsetup 500000 1\ngate 127.0.0.1:20808\nto 127.0.0.1:20809\nto 127.0.0.1:20810\n";
 
@@ -78,23 +86,26 @@ fn a_record_is_replayed_to_what_the_run_told(rt: HostRuntime) -> Result<(), Fail
         audio_commits: 0,
     };
     for number in 0..RUNS {
-        let run = replayed_run(&rt, rt.alloc(), &mut random, number % 2 == 0)?;
+        let group = if number % 4 < 2 { 0 } else { GROUP };
+        let run = replayed_run(&rt, rt.alloc(), &mut random, group, number % 2 == 0)?;
         all = sum_of(&all, &run);
     }
     assert!(rt; are_enough(&all), "{all:?}");
     Ok(())
 }
 
-// Makes a run with a record, whose commands are held until the port is closed or aren't, and replays that record.
+// Makes a run in a group with a record, whose commands are held until the port is closed or aren't, and replays that record.
 fn replayed_run<R: Threads + Wait + Sync + Abort>(
     rt: &R,
     alloc: Global,
     random: &mut Lcg64Xsh32,
+    group: u16,
     held: bool,
 ) -> Result<Amounts, AllocError> {
     let mut sides = drawn_sides(alloc, random)?;
-    let port = drawn_port(alloc, random)?;
-    let (status, port) = recorded_run(rt, alloc, &mut sides, port, held)?;
+    let port = drawn_port(alloc, random, group)?;
+    let words = if group == 0 { WORDS } else { GROUP_WORDS };
+    let (status, port) = recorded_run(rt, alloc, words, &mut sides, port, held)?;
     let replayed = is_replayed(rt, alloc, sides.out.bytes(), &sides.report, port.posts())?;
     assert!(rt; status == Status::Done && replayed);
     Ok(amounts_of(&sides.report, &port))
@@ -105,27 +116,28 @@ fn drawn_sides(alloc: Global, random: &mut Lcg64Xsh32) -> Result<Sides, AllocErr
     sides_over(alloc, &script, 10)
 }
 
-fn drawn_port(alloc: Global, random: &mut Lcg64Xsh32) -> Result<ListPort, AllocError> {
-    ListPort::new(alloc, arrivals_of(alloc, random)?, 2_000, Vec::new(alloc))
+fn drawn_port(alloc: Global, random: &mut Lcg64Xsh32, group: u16) -> Result<ListPort, AllocError> {
+    let arrivals = arrivals_of(alloc, random, group)?;
+    ListPort::new(alloc, arrivals, 2_000, Vec::new(alloc))
 }
 
 fn recorded_run<R: Threads + Wait + Sync>(
     rt: &R,
     alloc: Global,
+    words: &str,
     sides: &mut Sides,
     mut port: ListPort,
     held: bool,
 ) -> Result<(Status, ListPort), AllocError> {
-    let words = ["live", "--record"];
     if held {
-        return sides.run_held(rt, alloc, &words, port);
+        return sides.run_held(rt, alloc, words, port);
     }
-    let status = sides.run(rt, alloc, &words, &mut port, &mut ListPace::new(0))?;
+    let status = sides.run(rt, alloc, words, &mut port, &mut ListPace::new(0))?;
     Ok((status, port))
 }
 
-// Whether a record begins with how much there was, and is replayed to these datagrams, as much and its last state.
-fn is_replayed<R: Threads + Wait + Sync>(
+/// Whether a record begins with how much there was, and is replayed to these datagrams, as much and its last state.
+pub fn is_replayed<R: Threads + Wait + Sync>(
     rt: &R,
     alloc: Global,
     record: &[u8],
@@ -145,7 +157,7 @@ fn replay_of<R: Threads + Wait + Sync>(
     record: &[u8],
 ) -> Result<Vec<u8>, AllocError> {
     let mut texts = texts_over(alloc, record, 4096, 0, 0)?;
-    let status = run(rt, alloc, &["replay"], &mut texts.input, &mut texts.out)?;
+    let status = run(rt, alloc, "replay", &mut texts.input, &mut texts.out)?;
     if status != Status::Done {
         return Ok(Vec::new(alloc));
     }
@@ -276,18 +288,22 @@ fn put_command(
 }
 
 // Twenty arrivals of four peers, up to a tenth of a second after one another.
-fn arrivals_of(alloc: Global, random: &mut Lcg64Xsh32) -> Result<Vec<Arrival>, AllocError>
+fn arrivals_of(
+    alloc: Global,
+    random: &mut Lcg64Xsh32,
+    group: u16,
+) -> Result<Vec<Arrival>, AllocError>
     ensures { IfOk result (λ arrivals. All IsToCome arrivals.items) }
 {
     let mut arrivals = Vec::new(alloc);
     for place in 0..20u32 {
         let now = i64::from(100_000 * place + below(random, 100_000));
-        arrivals.push(arrival_of(random, now))?;
+        arrivals.push(arrival_of(random, group, now))?;
     }
     Ok(arrivals)
 }
 
-fn arrival_of(random: &mut Lcg64Xsh32, now: i64) -> Arrival
+fn arrival_of(random: &mut Lcg64Xsh32, group: u16, now: i64) -> Arrival
     requires { IsMoment now }
     ensures { IsToCome result }
 {
@@ -296,18 +312,28 @@ fn arrival_of(random: &mut Lcg64Xsh32, now: i64) -> Arrival
         return Arrival::Idle(now);
     }
     let peer = below(random, 4) as u16;
-    coming(peer, datagram_of(kind, peer, now), now)
+    let group = group_near(random, group);
+    coming(peer, datagram_of(kind, peer, group, now), now)
+}
+
+// The group, or at times the next one.
+fn group_near(random: &mut Lcg64Xsh32, group: u16) -> u16 {
+    if below(random, 8) == 0 {
+        group.wrapping_add(1)
+    } else {
+        group
+    }
 }
 
 // Peers are in the node's own session or in that of the peer 0.
-fn datagram_of(kind: u32, peer: u16, now: i64) -> Wire {
+fn datagram_of(kind: u32, peer: u16, group: u16, now: i64) -> Wire {
     let own = fields_of(NodeId(*OWN), now, None);
     let other = fields_of(id_of(0), now, Some(endpoint_of(peer)));
     match kind {
-        1 | 2 => write_alive(id_of(peer), 0, &own),
-        3 | 4 => write_alive(id_of(peer), 0, &other),
-        5 => write_response(id_of(peer), 0, &other),
-        6 => write_bye(id_of(peer), 0),
+        1 | 2 => write_alive(id_of(peer), group, &own),
+        3 | 4 => write_alive(id_of(peer), group, &other),
+        5 => write_response(id_of(peer), group, &other),
+        6 => write_bye(id_of(peer), group),
         _ => write_ping_message(&PingFields {
             host: now,
             previous: None,

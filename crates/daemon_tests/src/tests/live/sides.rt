@@ -50,7 +50,7 @@ impl Sides {
         &mut self,
         rt: &R,
         alloc: Global,
-        words: &[&str],
+        words: &str,
         port: &mut P,
         pace: &mut T,
     ) -> Result<Status, AllocError> {
@@ -74,7 +74,7 @@ impl Sides {
         &mut self,
         rt: &R,
         alloc: Global,
-        words: &[&str],
+        words: &str,
         port: ListPort,
     ) -> Result<(Status, ListPort), AllocError> {
         let over = AtomicU64::new(0);

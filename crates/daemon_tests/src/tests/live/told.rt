@@ -1,13 +1,18 @@
 //! What a run tells: the text that it writes, and its report.
 
 use super::events::count_of;
+use super::recorded::is_replayed;
 use super::sides::{Sides, quiet_port, sides_over};
 use client_state::State;
 use link_daemon::Status;
 use link_live::Report;
 use link_node::Event;
+use link_shared::Capture;
 use lk_outside::{ListPace, ListPort};
+use std::alloc::{AllocError, Global};
+use std::sync::Wait;
 use std::test::Fail;
+use std::thread::Threads;
 
 const SCRIPT: &[u8] = b"link 1\nsetup 500000 1\ngate 127.0.0.1:20808\nat 1000000 tempo 250000\n";
 
@@ -17,35 +22,70 @@ const LOOKING: &[u8] =
 // The state that is published last. Beat 2 is at 1,000,000, and so half a second of four beats a second before it is beat 0.
 const SUMMARY: &[u8] = b"# live 3 2 2 1 1 0 2 0\n# state 1 250000 0 500000 0 0 0 1 0 0 1 0\n";
 
-const HEAD: &[u8] = b"replay 1\nnode -ke:4:.` 7 500000 1 0\ngate 127.0.0.1:20808\n";
-
 // The first turn ticks, and the commit stands before that tick where it was handed over by then.
 const TICK_FIRST: &[u8] = b"tick 0\napp 0 1000000 t 250000 0 500000\nend 0\n";
 
 const COMMIT_FIRST: &[u8] = b"app 0 1000000 t 250000 0 500000\ntick 0\nend 0\n";
 
-/// Words, and whether they ask for the record.
-const CASES: &[(&[&str], bool)] = &[(&["live"], false), (&["live", "--record"], true)];
+/// Words, and the head of the record where they ask for it.
+const CASES: &[(&str, &str)] = &[
+    ("live", ""),
+    (
+        "live --record",
+        "replay 2\nnode -ke:4:.` 7 500000 1 0\ngroup 0\nquantum 4000000\ngate 127.0.0.1:20808\n",
+    ),
+    (
+        "live --group 65535 --record --quantum 0",
+        "replay 2\nnode -ke:4:.` 7 500000 1 0\ngroup 65535\nquantum 0\ngate 127.0.0.1:20808\n",
+    ),
+];
 
 #[test]
 fn a_run_tells_how_much_there_was_and_its_last_state(rt: HostRuntime) -> Result<(), Fail> {
-    for (words, recorded) in CASES {
-        let mut port = quiet_port(rt.alloc(), 0)?;
+    for (words, head) in CASES {
         let mut sides = sides_over(rt.alloc(), SCRIPT, 2)?;
-        let status = sides.run(&rt, rt.alloc(), words, &mut port, &mut ListPace::new(0))?;
         assert!(rt;
-            status == Status::Done && is_told(&sides, &port, *recorded),
-            "{words:?}"
+            is_told_and_replayed(&rt, rt.alloc(), words, head, &mut sides)?,
+            "{words}"
         );
     }
     Ok(())
 }
 
+// Whether a run by these words is told as the script has it, and its record is replayed to what it told.
+fn is_told_and_replayed<R: Threads + Wait + Sync>(
+    rt: &R,
+    alloc: Global,
+    words: &str,
+    head: &str,
+    sides: &mut Sides,
+) -> Result<bool, AllocError> {
+    if !tells(rt, alloc, words, head, sides)? {
+        return Ok(false);
+    }
+    if head.is_empty() {
+        return Ok(true);
+    }
+    is_replayed(rt, alloc, sides.out.bytes(), &sides.report, &[])
+}
+
+fn tells<R: Threads + Wait + Sync>(
+    rt: &R,
+    alloc: Global,
+    words: &str,
+    head: &str,
+    sides: &mut Sides,
+) -> Result<bool, AllocError> {
+    let mut port = quiet_port(alloc, 0)?;
+    let status = sides.run(rt, alloc, words, &mut port, &mut ListPace::new(0))?;
+    Ok(status == Status::Done && is_told(sides, &port, head))
+}
+
 // Whether the text and the report are those of the script, and nothing was sent.
-fn is_told(sides: &Sides, port: &ListPort, recorded: bool) -> bool {
+fn is_told(sides: &Sides, port: &ListPort, head: &str) -> bool {
     port.posts().is_empty()
         && has_three_events(&sides.report)
-        && is_text_of(sides.out.bytes(), recorded, &sides.report.events)
+        && is_text_of(sides.out.bytes(), head, &sides.report.events)
 }
 
 // Whether there is a tick, a commit and an end, and of all else as much as the summary says.
@@ -66,14 +106,14 @@ fn has_one(events: &[Event], letter: u8) -> bool {
     count_of(events, letter) == 1
 }
 
-fn is_text_of(text: &[u8], recorded: bool, events: &[Event]) -> bool {
+fn is_text_of(text: &[u8], head: &str, events: &[Event]) -> bool {
     let Some(record) = text.strip_prefix(SUMMARY) else {
         return false;
     };
-    if !recorded {
+    if head.is_empty() {
         return record.is_empty();
     }
-    record.strip_prefix(HEAD) == Some(events_told(events))
+    record.strip_prefix(head.as_bytes()) == Some(events_told(events))
 }
 
 fn events_told(events: &[Event]) -> &'static [u8] {
@@ -85,18 +125,27 @@ fn events_told(events: &[Event]) -> &'static [u8] {
 
 #[test]
 fn a_look_is_shown_what_was_committed_before(rt: HostRuntime) -> Result<(), Fail> {
-    let mut port = quiet_port(rt.alloc(), 0)?;
     let mut sides = sides_over(rt.alloc(), LOOKING, 2)?;
-    let status = sides.run(&rt, rt.alloc(), &["live"], &mut port, &mut ListPace::new(0))?;
-    assert!(rt; status == Status::Done && sides.report.captures.len() == 3);
-    assert!(rt;
-        sides
-            .report
-            .captures
+    assert!(rt; looks_last(&rt, rt.alloc(), &mut sides)?);
+    Ok(())
+}
+
+// Whether a run ends with a look, the third capture, that is shown all.
+fn looks_last<R: Threads + Wait + Sync>(
+    rt: &R,
+    alloc: Global,
+    sides: &mut Sides,
+) -> Result<bool, AllocError> {
+    let mut port = quiet_port(alloc, 0)?;
+    let status = sides.run(rt, alloc, "live", &mut port, &mut ListPace::new(0))?;
+    Ok(status == Status::Done && are_shown(&sides.report.captures))
+}
+
+fn are_shown(captures: &[Capture]) -> bool {
+    captures.len() == 3
+        && captures
             .last()
             .is_some_and(|capture| plays_fast(&capture.shown))
-    );
-    Ok(())
 }
 
 // Whether it plays at four beats a second.

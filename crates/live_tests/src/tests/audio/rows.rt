@@ -7,19 +7,22 @@ pub struct Row {
     /// How many blocks are asked for, and how many the device has.
     pub blocks: u16,
     pub device: u16,
-    /// The calls of the device that fail: the k-th ask, or the k-th play.
-    pub failing: &'static [(u8, u64)],
+    /// The call of the device that fails: the k-th ask, or the k-th play.
+    pub failing: (u8, u64),
     /// Whether a commit was made before.
     pub commits: bool,
     pub commands: &'static str,
     pub told: &'static str,
 }
 
-pub const ROWS: [Row; 17] = [
+/// A call that is never made.
+const NEVER: (u8, u64) = (NEXT, 0);
+
+pub const ROWS: &[Row] = &[
     Row {
         blocks: 0,
         device: 2,
-        failing: &[],
+        failing: NEVER,
         commits: false,
         commands: "",
         told: "| | | true 0+2 !0",
@@ -27,7 +30,7 @@ pub const ROWS: [Row; 17] = [
     Row {
         blocks: 3,
         device: 1,
-        failing: &[],
+        failing: NEVER,
         commits: false,
         commands: "",
         told: "500000- | | [] | true 1+0 !0",
@@ -35,7 +38,7 @@ pub const ROWS: [Row; 17] = [
     Row {
         blocks: 2,
         device: 2,
-        failing: &[],
+        failing: NEVER,
         commits: false,
         commands: "",
         told: "500000- 500000- | | [] [] | true 2+0 !0",
@@ -43,7 +46,7 @@ pub const ROWS: [Row; 17] = [
     Row {
         blocks: 1,
         device: 3,
-        failing: &[],
+        failing: NEVER,
         commits: false,
         commands: "",
         told: "500000- | | [] | true 1+2 !0",
@@ -51,7 +54,7 @@ pub const ROWS: [Row; 17] = [
     Row {
         blocks: 3,
         device: 3,
-        failing: &[(NEXT, 1)],
+        failing: (NEXT, 1),
         commits: false,
         commands: "block 1 play\n",
         told: "| | | false 0+3 !1",
@@ -59,7 +62,7 @@ pub const ROWS: [Row; 17] = [
     Row {
         blocks: 3,
         device: 3,
-        failing: &[(NEXT, 2)],
+        failing: (NEXT, 2),
         commits: false,
         commands: "block 1 play\n",
         told: "500000- | p1000000 s1000000 @1000000 | [] | false 1+2 !1",
@@ -67,7 +70,7 @@ pub const ROWS: [Row; 17] = [
     Row {
         blocks: 3,
         device: 3,
-        failing: &[(NEXT, 3)],
+        failing: (NEXT, 3),
         commits: false,
         commands: "block 1 play\n",
         told: "500000- 500000p | p1000000 s1000000 @1000000 | [] [2000000 2500000] | false 2+1 !1",
@@ -75,7 +78,7 @@ pub const ROWS: [Row; 17] = [
     Row {
         blocks: 3,
         device: 3,
-        failing: &[(PLAY, 1)],
+        failing: (PLAY, 1),
         commits: false,
         commands: "block 1 play\n",
         told: "500000- | | | false 1+2 !1",
@@ -83,7 +86,7 @@ pub const ROWS: [Row; 17] = [
     Row {
         blocks: 3,
         device: 3,
-        failing: &[(PLAY, 2)],
+        failing: (PLAY, 2),
         commits: false,
         commands: "block 1 play\nblock 2 stop\n",
         told: "500000- 500000p | p1000000 s1000000 @1000000 | [] | false 2+1 !1",
@@ -91,7 +94,7 @@ pub const ROWS: [Row; 17] = [
     Row {
         blocks: 3,
         device: 3,
-        failing: &[(PLAY, 3)],
+        failing: (PLAY, 3),
         commits: false,
         commands: "block 1 play\n",
         told: "500000- 500000p 500000p | p1000000 s1000000 @1000000 | [] [2000000 2500000] | false 3+0 !1",
@@ -99,7 +102,7 @@ pub const ROWS: [Row; 17] = [
     Row {
         blocks: 2,
         device: 2,
-        failing: &[],
+        failing: NEVER,
         commits: false,
         commands: "block 1 tempo 250000\n",
         told: "500000- 250000- | 250000,0,1000000 @1000000 | [] [] | true 2+0 !0",
@@ -107,7 +110,7 @@ pub const ROWS: [Row; 17] = [
     Row {
         blocks: 3,
         device: 3,
-        failing: &[],
+        failing: NEVER,
         commits: false,
         commands: "block 1 play\n",
         told: "500000- 500000p 500000p | p1000000 s1000000 @1000000 | [] [2000000 2500000] [3000000* 3500000] | true 3+0 !0",
@@ -115,7 +118,7 @@ pub const ROWS: [Row; 17] = [
     Row {
         blocks: 2,
         device: 2,
-        failing: &[],
+        failing: NEVER,
         commits: false,
         commands: "block 1 tempo 250000\nblock 1 play\n",
         told: "500000- 250000p | 250000,0,1000000 @1000000 250000,0,1000000 p1000000 s1000000 @1000000 | [] [2000000* 2250000 2500000 2750000] | true 2+0 !0",
@@ -123,7 +126,7 @@ pub const ROWS: [Row; 17] = [
     Row {
         blocks: 2,
         device: 2,
-        failing: &[],
+        failing: NEVER,
         commits: false,
         commands: "block 1 play\nblock 2 tempo 250000\n",
         told: "500000- 500000p | p1000000 s1000000 @1000000 250000,0,1500000 p1000000 s2000000 @2000000 | [] [2000000 2500000] | true 2+0 !0",
@@ -131,7 +134,7 @@ pub const ROWS: [Row; 17] = [
     Row {
         blocks: 3,
         device: 3,
-        failing: &[],
+        failing: NEVER,
         commits: false,
         commands: "block 2 stop\nblock 1 play\n",
         told: "500000- 500000p 500000- | p1000000 s1000000 @1000000 q2000000 s2000000 @2000000 | [] [2000000 2500000] [] | true 3+0 !0",
@@ -139,7 +142,7 @@ pub const ROWS: [Row; 17] = [
     Row {
         blocks: 2,
         device: 2,
-        failing: &[],
+        failing: NEVER,
         commits: false,
         commands: "block 3 play\nblock 9 tempo 250000\n",
         told: "500000- 500000- | | [] [] | true 2+0 !0",
@@ -147,7 +150,7 @@ pub const ROWS: [Row; 17] = [
     Row {
         blocks: 2,
         device: 2,
-        failing: &[],
+        failing: NEVER,
         commits: true,
         commands: "block 1 tempo 250000\n",
         told: "500000p 250000p | 250000,0,1000000 p1500000 s1000000 @1000000 | [1500000] [2000000* 2250000 2500000 2750000] | true 2+0 !0",

@@ -13,8 +13,8 @@ use super::told::{Told, tell};
 use super::twin::Twin;
 use super::watch::{Untils, Watch};
 use audio_handoff::{SeqState, StateCell};
-use link_live::network_loop;
-use link_node::{Config, Sends};
+use link_live::{NetEnd, network_loop};
+use link_node::{Config, Event, Sends};
 use link_shared::{AppPass, AudioPass, Link, LinkName, Opened, Parts};
 use std::alloc::{AllocError, Global};
 use std::marker::Brand;
@@ -102,7 +102,17 @@ fn told_of<C: StateCell<9>, N: LinkName, R: Wait + Abort>(
     } = Link::<C, N>::make(parts);
     fill(rt, way, &link, &mut audio, &mut app, given);
     let end = network_loop(rt, &mut hub, &link, way, watch, bound, sends);
-    let journal = hub.journal();
+    told_in(hub.journal(), given, watch, bound, end, twin)
+}
+
+fn told_in(
+    journal: &[Event],
+    given: &Given,
+    watch: &Watch,
+    bound: bool,
+    end: NetEnd,
+    twin: &mut Twin,
+) -> Told {
     let (wrong, cases) = judge(given, bound, journal, watch, end, twin);
     let (text, untils) = tell(journal, watch, end, opening_of(given));
     Told {

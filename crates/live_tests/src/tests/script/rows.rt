@@ -16,7 +16,7 @@ pub struct Row {
 /// Four beats.
 const BAR: i64 = 4_000_000;
 
-pub const ROWS: [Row; 12] = [
+pub const ROWS: &[Row] = &[
     Row {
         late: 0,
         quantum: BAR,

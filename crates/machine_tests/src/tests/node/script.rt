@@ -14,8 +14,10 @@ use std::process::Abort;
 // Moments are microseconds after the opening, unless they are told in host time.
 #[derive(Drop)]
 pub(super) enum Step {
-    // Another node, with this many gates, each with this many destinations, and with sync or not.
+    // Another node, with this many gates, each with this many destinations, and with sync or not. One of this group, with one gate
+    // that has one destination.
     Open(u8, u16, bool),
+    OpenIn(u16),
     // Time alone; the end.
     Tick(u32),
     End(u32),
@@ -87,14 +89,25 @@ pub(super) enum Step {
 
 // Runs a script over a node with one gate that sends no alives, until it opens another one.
 pub(super) fn play(rt: &impl Abort, alloc: Global, script: &[Step]) {
-    let mut stage = Stage::open(rt, alloc, 1, 0, true);
+    let mut stage = Stage::open(rt, alloc, 0, 1, 0, true);
     for (k, step) in script.iter().enumerate() {
-        if let Step::Open(gates, destinations, sync) = step {
-            stage = Stage::open(rt, alloc, *gates, *destinations, *sync);
+        if let Some(other) = opened(rt, alloc, step) {
+            stage = other;
         } else {
             stage.step = k;
             take(rt, &mut stage, step);
         }
+    }
+}
+
+// The node that the step opens, if it opens one.
+fn opened(rt: &impl Abort, alloc: Global, step: &Step) -> Option<Stage> {
+    match step {
+        Step::Open(gates, destinations, sync) => {
+            Some(Stage::open(rt, alloc, 0, *gates, *destinations, *sync))
+        }
+        Step::OpenIn(group) => Some(Stage::open(rt, alloc, *group, 1, 1, true)),
+        _ => None,
     }
 }
 
@@ -195,15 +208,17 @@ fn check_sent(rt: &impl Abort, stage: &Stage, step: &Step) -> bool {
             stage.check(rt, stage.is_told(*port, &told));
         }
         Step::SentResponse(gate, port, session, timeline, start) => {
-            let bytes = write_response(OWN, 0, &told(*gate, *session, *timeline, *start));
+            let answer = told(*gate, *session, *timeline, *start);
+            let bytes = write_response(OWN, stage.group, &answer);
             stage.check(rt, stage.is_sent(0, *gate, *port, &bytes));
         }
         Step::SentAlive(place, gate, port) => {
-            let bytes = write_alive(OWN, 0, &told(*gate, OWN, FIRST, STILL));
+            let bytes = write_alive(OWN, stage.group, &told(*gate, OWN, FIRST, STILL));
             stage.check(rt, stage.is_sent(*place, *gate, *port, &bytes));
         }
         Step::SentBye(place, gate, port) => {
-            stage.check(rt, stage.is_sent(*place, *gate, *port, &write_bye(OWN, 0)));
+            let bytes = write_bye(OWN, stage.group);
+            stage.check(rt, stage.is_sent(*place, *gate, *port, &bytes));
         }
         _ => return false,
     }

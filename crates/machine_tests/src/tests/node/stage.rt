@@ -26,6 +26,8 @@ pub(super) struct Stage {
     pub(super) change: Change,
     // A timeline of the client, to compare later ones with.
     pub(super) kept: Timeline,
+    // The node's group.
+    pub(super) group: u16,
     // How many gates there are, how many application commits were taken, and the number of the last audio commit.
     gates: u8,
     app: u64,
@@ -41,25 +43,32 @@ pub(super) struct Stage {
 impl Stage {
     ghost use Rattle.std.specs.Prelude.{◌≤◌};
 
-    // A node with this many gates, each with this many destinations.
+    // A node of this group with this many gates, each with this many destinations.
     pub(super) fn open(
         rt: &impl Abort,
         alloc: Global,
+        group: u16,
         gates: u8,
         destinations: u16,
         sync: bool,
     ) -> Stage {
         assert!(rt; gates >= 1 && gates <= 4);
-        Stage::made(alloc, gates, destinations, sync).expect(rt, "memory for a node")
+        Stage::made(alloc, group, gates, destinations, sync).expect(rt, "memory for a node")
     }
 
-    fn made(alloc: Global, gates: u8, destinations: u16, sync: bool) -> Result<Stage, AllocError>
+    fn made(
+        alloc: Global,
+        group: u16,
+        gates: u8,
+        destinations: u16,
+        sync: bool,
+    ) -> Result<Stage, AllocError>
         requires { (1 ≤ gates) × (gates ≤ 4) }
     {
         let sends = Sends::new(alloc)?;
         let node = Node::new(
             alloc,
-            &config(u16::from(gates), destinations, sync),
+            &config(group, u16::from(gates), destinations, sync),
             OPENING,
         )?;
         Ok(Stage {
@@ -67,6 +76,7 @@ impl Stage {
             sends,
             change: Change::Same,
             kept: FIRST,
+            group,
             gates,
             app: 0,
             audio: 0,

@@ -2,7 +2,7 @@
 
 ghost use Rattle.std.specs.Prelude.{◌≤◌, ◌-◌, ◌^◌, length};
 
-use super::script::{Kind, LIVE, REPLAY, joined};
+use super::script::{Kind, LIVE, NODE_OF_VERSION_2, REPLAY, joined};
 use crate::tests::expect;
 use link_text::{Reason, explain, explain_live};
 use std::alloc::{AllocError, Global};
@@ -48,9 +48,28 @@ fn what_a_head_lacks_is_told_by_its_column(rt: HostRuntime) {
             (
                 b"",
                 1,
-                "column 1: expected `replay 1`, found the end of the text",
+                "column 1: expected `replay 1` or `replay 2`, found the end of the text",
             ),
-            (b"replay 2", 1, "column 8: expected `replay 1`, found \"2\""),
+            (
+                b"replay",
+                1,
+                "column 7: expected `replay 1` or `replay 2`, found the end of the line",
+            ),
+            (
+                b"replay 3",
+                1,
+                "column 8: expected `replay 1` or `replay 2`, found \"3\"",
+            ),
+            (
+                b"link 1",
+                1,
+                "column 1: expected `replay 1` or `replay 2`, found \"link\"",
+            ),
+            (
+                b"replay 2 1",
+                1,
+                "column 10: expected the end of the line, found \"1\"",
+            ),
             (
                 b"replay 1 \n",
                 1,
@@ -59,7 +78,7 @@ fn what_a_head_lacks_is_told_by_its_column(rt: HostRuntime) {
             (
                 b"replay 1\r\n",
                 1,
-                "column 9: expected `replay 1`, found a carriage return (lines end in line feeds alone)",
+                "column 9: expected `replay 1` or `replay 2`, found a carriage return (lines end in line feeds alone)",
             ),
             (
                 b"replay 1\n#\n",
@@ -75,6 +94,113 @@ fn what_a_head_lacks_is_told_by_its_column(rt: HostRuntime) {
                 b"replay 1\nnode ABCDEFGH 7 1",
                 2,
                 "column 17: expected a tempo from 60060 to 3000000 microseconds per beat (500000 is 120 beats a minute), found \"1\"",
+            ),
+        ],
+    );
+}
+
+#[test]
+fn what_a_head_lacks_before_its_gates_is_told_by_its_version(rt: HostRuntime) {
+    expect_told(
+        &rt,
+        rt.alloc(),
+        Kind::Replay,
+        b"",
+        &[
+            (
+                b"replay 1\nnode ABCDEFGH 7 500000 1 0\ngroup 0",
+                3,
+                "column 1: expected `gate` and the endpoint of the node's first gate, found \"group\"",
+            ),
+            (
+                b"replay 2\nnode ABC",
+                2,
+                "column 6: expected an id of eight characters from ! to ~, found \"ABC\"",
+            ),
+        ],
+    );
+    expect_told(
+        &rt,
+        rt.alloc(),
+        Kind::Replay,
+        NODE_OF_VERSION_2,
+        &[
+            (
+                b"",
+                3,
+                "column 1: expected `group` and a number from 0 to 65535, which stand before the gates in version 2, found the end of the text",
+            ),
+            (
+                b"gate 1.2.3.4:5",
+                3,
+                "column 1: expected `group` and a number from 0 to 65535, which stand before the gates in version 2, found \"gate\"",
+            ),
+            (
+                b"group 1\n#\ngate 1.2.3.4:5",
+                5,
+                "column 1: expected `quantum` and a number from 0 to 1099511627776, which stand before the gates in version 2, found \"gate\"",
+            ),
+            (
+                b"group 1",
+                4,
+                "column 1: expected `quantum` and a number from 0 to 1099511627776, which stand before the gates in version 2, found the end of the text",
+            ),
+            (
+                b"group 1\nquantum 0\ntick 0",
+                5,
+                "column 1: expected `gate` and the endpoint of the node's first gate, found \"tick\"",
+            ),
+            (
+                b"group 1\nquantum 0\ngate 1.2.3.4:5\nquantum 0",
+                6,
+                "column 1: expected `gate`, `to` or an event: `rx`, `tick`, `app`, `audio` or `end`, found \"quantum\"",
+            ),
+        ],
+    );
+}
+
+#[test]
+fn what_a_group_and_a_quantum_lack_is_told_by_its_column(rt: HostRuntime) {
+    expect_told(
+        &rt,
+        rt.alloc(),
+        Kind::Replay,
+        NODE_OF_VERSION_2,
+        &[
+            (
+                b"group",
+                3,
+                "column 6: expected a number from 0 to 65535, found the end of the line",
+            ),
+            (
+                b"group 65536",
+                3,
+                "column 7: expected a number from 0 to 65535, found \"65536\"",
+            ),
+            (
+                b"group 1\r",
+                3,
+                "column 8: expected a number from 0 to 65535, found a carriage return (lines end in line feeds alone)",
+            ),
+            (
+                b"group 1 2",
+                3,
+                "column 9: expected the end of the line, found \"2\"",
+            ),
+            (
+                b"group 1\nquantum 1099511627777",
+                4,
+                "column 9: expected a number from 0 to 1099511627776 microbeats (4000000 is four beats), found \"1099511627777\"",
+            ),
+            (
+                b"group 1\nquantum -1",
+                4,
+                "column 9: expected a number from 0 to 1099511627776 microbeats (4000000 is four beats), found \"-1\"",
+            ),
+            (
+                b"group 1\nquantum 0 ",
+                4,
+                "column 11: expected the end of the line, found no word (words are parted by single spaces)",
             ),
         ],
     );

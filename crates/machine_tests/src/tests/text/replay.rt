@@ -2,7 +2,7 @@
 
 ghost use Rattle.link_text.specs.ReplayScript.{SaysSome};
 
-use super::script::{Kind, REPLAY, expect_faults, expect_repeated};
+use super::script::{Kind, NODE_OF_VERSION_2, REPLAY, expect_faults, expect_repeated};
 use crate::tests::expect;
 use link_node::Event;
 use link_text::{Head, check_replay, next_event};
@@ -212,9 +212,16 @@ fn a_script_begins_with_its_version_and_its_node(rt: HostRuntime) {
             (b"replay 1", 2),
             (b"replay 1\n", 2),
             (b"\n#a\nreplay 1\n\n", 5),
-            (b"replay 2\n", 1),
+            (b"replay 2", 2),
+            (b"replay 2\n\nreplay 1\n", 3),
+            (b"replay 3\n", 1),
+            (b"replay 0\n", 1),
+            (b"replay 12\n", 1),
             (b"replay 1 \n", 1),
+            (b"replay 2 1\n", 1),
             (b"replay 01\n", 1),
+            (b"replay 02\n", 1),
+            (b"replay\n", 1),
             (b" replay 1\n", 1),
             (b"replay 1\r\nnode ABCDEFGH 7 500000 1 0\r\n", 1),
             (b"node ABCDEFGH 7 500000 1 0\n", 1),
@@ -232,6 +239,10 @@ fn a_node_has_one_to_four_gates(rt: HostRuntime) {
         &[
             (b"to 1.2.3.4:5", 3),
             (b"tick 0", 3),
+            (b"group 0", 3),
+            (b"group 0\nquantum 4000000\ngate 1.2.3.4:5", 3),
+            (b"quantum 4000000\ngate 1.2.3.4:5", 3),
+            (b"gate 1.2.3.4:5\ngroup 0", 4),
             (b"gate 1.2.3.4", 3),
             (b"gate 1.2.3.4:5", 0),
             (b"gate 1.2.3.4:5 ", 3),
@@ -243,6 +254,42 @@ fn a_node_has_one_to_four_gates(rt: HostRuntime) {
             ),
             (
                 b"gate 1.2.3.4:5\ngate 1.2.3.4:5\ngate 1.2.3.4:5\ngate 1.2.3.4:5\ngate 1.2.3.4:5",
+                7,
+            ),
+        ],
+    );
+}
+
+#[test]
+fn a_script_of_version_2_has_its_group_and_its_quantum_before_its_gates(rt: HostRuntime) {
+    expect_faults(
+        &rt,
+        rt.alloc(),
+        Kind::Replay,
+        NODE_OF_VERSION_2,
+        &[
+            (b"", 3),
+            (b"\n#\n", 5),
+            (b"group 1", 4),
+            (b"group 1\nquantum 0", 5),
+            (b"group 1\nquantum 0\ngate 1.2.3.4:5", 0),
+            (
+                b"\n#\ngroup 1\n\nquantum 0\n#\ngate 1.2.3.4:5\nto 1.2.3.4:6\ntick 0\n",
+                0,
+            ),
+            (b"\n#\ngroup 1\n\ngate 1.2.3.4:5", 7),
+            (b"gate 1.2.3.4:5", 3),
+            (b"gate 1.2.3.4:5\ngroup 1\nquantum 0", 3),
+            (b"quantum 0\ngroup 1\ngate 1.2.3.4:5", 3),
+            (b"tick 0", 3),
+            (b"group 1\ngate 1.2.3.4:5", 4),
+            (b"group 1\ngroup 1\nquantum 0\ngate 1.2.3.4:5", 4),
+            (b"group 1\nquantum 0\nquantum 0\ngate 1.2.3.4:5", 5),
+            (b"group 1\nquantum 0\ntick 0", 5),
+            (b"group 1\nquantum 0\ngate 1.2.3.4:5\ngroup 1", 6),
+            (b"group 1\nquantum 0\ngate 1.2.3.4:5\nquantum 0", 6),
+            (
+                b"group 1\nquantum 0\ngate 1.2.3.4:5\ntick 0\ngate 1.2.3.4:5",
                 7,
             ),
         ],
@@ -263,19 +310,17 @@ fn a_gate_has_at_most_32_destinations(rt: HostRuntime) {
     );
 }
 
-// Fails where a head has another node than this, more gates than one, or another moment, or where its events begin elsewhere.
-fn expect_head(
-    rt: &impl Abort,
-    head: &Head,
-    node: (NodeId, u64, i64, bool),
-    now: i64,
-    first: usize,
-) {
+// Fails where a head has another version, group or quantum than these, where its node is not the one below or has more gates than
+// one, or where its events begin elsewhere.
+fn expect_head(rt: &impl Abort, head: &Head, profile: (u8, u16, i64), first: usize) {
     let config = &head.config;
+    let found = (head.version, config.group, config.quantum);
+    expect(rt, 0, &found, &profile);
     let found = (config.id, config.seed, config.mpb, config.sync);
-    expect(rt, 0, &found, &node);
+    let node = (NodeId(*b"QRSTUVWX"), 7, 480_000, false);
+    expect(rt, 1, &found, &node);
     let found = (config.gates.len(), head.now, head.first);
-    expect(rt, 1, &found, &(1, now, first));
+    expect(rt, 2, &found, &(1, 9, first));
 }
 
 #[test]
@@ -283,7 +328,17 @@ fn a_head_is_read_field_by_field(rt: HostRuntime) {
     let text =
         b"#\nreplay 1\nnode QRSTUVWX 7 480000 0 9\ngate 10.0.0.1:20809\nto 1.2.3.4:5\n\nend 9\n";
     match check_replay(text) {
-        Ok(head) => expect_head(&rt, &head, (NodeId(*b"QRSTUVWX"), 7, 480_000, false), 9, 72),
+        Ok(head) => expect_head(&rt, &head, (1, 0, 4_000_000), 72),
+        Err(bad) => expect(&rt, 0, &bad.line, &0),
+    }
+}
+
+#[test]
+fn a_head_of_version_2_has_a_group_and_a_quantum(rt: HostRuntime) {
+    let text = b"#\nreplay 2\nnode QRSTUVWX 7 480000 0 9\n#\ngroup 65535\nquantum 0\n\
+gate 10.0.0.1:20809\nto 1.2.3.4:5\n\nend 9\n";
+    match check_replay(text) {
+        Ok(head) => expect_head(&rt, &head, (2, 65_535, 0), 96),
         Err(bad) => expect(&rt, 0, &bad.line, &0),
     }
 }

@@ -18,7 +18,10 @@ pub enum Kind {
 /// The head of a replay script of one gate: three lines.
 pub const REPLAY: &[u8] = b"replay 1\nnode ABCDEFGH 7 500000 1 0\ngate 127.0.0.1:20808\n";
 
-/// That of a live script.
+/// The first two lines of a head of version 2.
+pub const NODE_OF_VERSION_2: &[u8] = b"replay 2\nnode ABCDEFGH 7 500000 1 0\n";
+
+/// The head of a live script.
 pub const LIVE: &[u8] = b"link 1\nsetup 500000 1\ngate 127.0.0.1:20808\n";
 
 /// In place of a line: more commands than a script may have.

@@ -2,7 +2,7 @@
 
 ghost use Rattle.std.specs.Prelude.{◌≤◌, ◌-◌, ◌^◌, length};
 
-use super::script::{REPLAY, Text, joined};
+use super::script::{NODE_OF_VERSION_2, REPLAY, Text, joined};
 use crate::tests::expect;
 use link_node::{Config, Event};
 use link_text::{check_replay, next_event};
@@ -138,6 +138,76 @@ fn an_id_has_eight_characters_from_an_exclamation_mark_to_a_tilde(rt: HostRuntim
             (b"node ABC EFGH 7 500000 1 0", Err(2)),
             (b"node ABCDEFG\x7f 7 500000 1 0", Err(2)),
             (b"node ABCDEFG\x1f 7 500000 1 0", Err(2)),
+        ],
+    );
+}
+
+fn profile_in(text: &[u8]) -> Result<(u16, i64), u32>
+    requires { length text.now ≤ 2 ^ 32 - 2 }
+{
+    match check_replay(text) {
+        Ok(head) => Ok((head.config.group, head.config.quantum)),
+        Err(bad) => Err(bad.line),
+    }
+}
+
+// The group and the quantum that the third and the fourth line of a script of version 2 say.
+fn profile_of(lines: &[u8]) -> Result<(u16, i64), u32> {
+    let mut text = joined(NODE_OF_VERSION_2, lines, 1);
+    let _gate = text.try_extend_from_slice(b"\ngate 127.0.0.1:20808\n");
+    profile_in(text.as_slice())
+}
+
+// Fails where the lines of a group and of a quantum say something else than a row tells.
+fn expect_profiles(rt: &impl Abort, rows: &[(&[u8], Result<(u16, i64), u32>)]) {
+    for (row, (lines, wanted)) in rows.iter().enumerate() {
+        expect(rt, row, &profile_of(lines), wanted);
+    }
+}
+
+#[test]
+fn a_group_is_a_number_of_16_bits(rt: HostRuntime) {
+    expect_profiles(
+        &rt,
+        &[
+            (b"group 0\nquantum 4000000", Ok((0, 4_000_000))),
+            (b"group 256\nquantum 4000000", Ok((256, 4_000_000))),
+            (b"group 65535\nquantum 4000000", Ok((65_535, 4_000_000))),
+            (b"group 65536\nquantum 4000000", Err(3)),
+            (b"group 4294967297\nquantum 4000000", Err(3)),
+            (b"group 01\nquantum 4000000", Err(3)),
+            (b"group -1\nquantum 4000000", Err(3)),
+            (b"group -0\nquantum 4000000", Err(3)),
+            (b"group\nquantum 4000000", Err(3)),
+            (b"group \nquantum 4000000", Err(3)),
+            (b"group 1 \nquantum 4000000", Err(3)),
+            (b"group 1 2\nquantum 4000000", Err(3)),
+            (b"group 1\r\nquantum 4000000", Err(3)),
+            (b"Group 1\nquantum 4000000", Err(3)),
+        ],
+    );
+}
+
+#[test]
+fn a_quantum_is_a_number_up_to_2_to_the_40(rt: HostRuntime) {
+    expect_profiles(
+        &rt,
+        &[
+            (b"group 1\nquantum 0", Ok((1, 0))),
+            (b"group 1\nquantum 1", Ok((1, 1))),
+            (
+                b"group 1\nquantum 1099511627776",
+                Ok((1, 1_099_511_627_776)),
+            ),
+            (b"group 1\nquantum 1099511627777", Err(4)),
+            (b"group 1\nquantum 18446744073709551616", Err(4)),
+            (b"group 1\nquantum 00", Err(4)),
+            (b"group 1\nquantum -0", Err(4)),
+            (b"group 1\nquantum -1", Err(4)),
+            (b"group 1\nquantum", Err(4)),
+            (b"group 1\nquantum 1 ", Err(4)),
+            (b"group 1\nquantum 1 2", Err(4)),
+            (b"group 1\nquanta 1", Err(4)),
         ],
     );
 }

@@ -393,6 +393,8 @@ fn four_gates() -> Config {
         seed: 18_446_744_073_709_551_615,
         mpb: 3_000_000,
         sync: true,
+        group: 65_535,
+        quantum: 1_099_511_627_776,
         gates,
     }
 }
@@ -425,8 +427,10 @@ fn a_head_is_told_line_by_line_and_ends(rt: HostRuntime) {
         &config,
         LAST,
         &[
-            b"replay 1\n",
+            b"replay 2\n",
             b"node !ABCDEF~ 18446744073709551615 3000000 1 36028797018963968\n",
+            b"group 65535\n",
+            b"quantum 1099511627776\n",
             b"gate 127.0.0.1:20808\n",
             b"to 224.76.78.75:20808\n",
             b"to 255.255.255.255:65535\n",
@@ -442,7 +446,7 @@ fn a_head_is_told_line_by_line_and_ends(rt: HostRuntime) {
         &rt,
         &mut line,
         &config,
-        &[11, 12, 4_294_967_295],
+        &[13, 14, 4_294_967_295],
         b"to 127.0.0.1:20808\n",
     );
 }
@@ -459,12 +463,14 @@ fn one_gate() -> Config {
         seed: 0,
         mpb: 60_060,
         sync: false,
+        group: 0,
+        quantum: 4_000_000,
         gates,
     }
 }
 
 #[test]
-fn the_head_of_one_gate_has_three_lines(rt: HostRuntime) {
+fn the_head_of_one_gate_has_five_lines(rt: HostRuntime) {
     let config = one_gate();
     let mut line = LineBuf::new();
     expect_head(
@@ -473,10 +479,12 @@ fn the_head_of_one_gate_has_three_lines(rt: HostRuntime) {
         &config,
         0,
         &[
-            b"replay 1\n",
+            b"replay 2\n",
             b"node abcdefgh 0 60060 0 0\n",
+            b"group 0\n",
+            b"quantum 4000000\n",
             b"gate 127.0.0.1:20808\n",
         ],
     );
-    expect_past(&rt, &mut line, &config, &[3], b"gate 127.0.0.1:20808\n");
+    expect_past(&rt, &mut line, &config, &[5], b"gate 127.0.0.1:20808\n");
 }

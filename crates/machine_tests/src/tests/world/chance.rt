@@ -1,9 +1,9 @@
 //! Worlds by chance: what holds of worlds is looked for in the values too.
 
-ghost use Rattle.std.specs.Prelude.{◌<◌};
+ghost use Rattle.std.specs.Prelude.{◌<◌, ◌≤◌};
 ghost use Rattle.link_world.specs.Standing.{peers_in};
 
-use super::{endpoint_of, held, world_of};
+use super::{endpoint_of, group_of, held, world_of};
 use crate::tests::{OPENING, expect};
 use asdp_messages::{Message, read_datagram};
 use client_state::Commit;
@@ -13,21 +13,28 @@ use lk_base::{ClientStart, Gate, NodeId, Timeline};
 use rand_core::utils::NextWord;
 use rand_pcg::Lcg64Xsh32;
 use std::alloc::{AllocError, Global};
+use std::process::Abort;
 use timeline_math::tidy;
 
 const WORLDS: u32 = 300;
+
+// And so many in which the peers are of two groups.
+const WORLDS_APART: u32 = 100;
 
 // Of the rounds the last ones are calm: each datagram comes once, and nobody commits.
 const ROUNDS: u32 = 300;
 
 const CALM: u32 = 220;
 
-// A session with a timeline that somebody made for it.
-type Made = (NodeId, Timeline);
+// A session with its timeline.
+type Held = (NodeId, Timeline);
+
+// A session with a timeline that somebody in a group made for it.
+type Made = (u16, NodeId, Timeline);
 
 fn has_session(made: &[Made], session: &NodeId) -> bool {
     for one in made {
-        if one.0 == *session {
+        if one.1 == *session {
             return true;
         }
     }
@@ -39,6 +46,8 @@ fn has_session(made: &[Made], session: &NodeId) -> bool {
 struct Course {
     random: Lcg64Xsh32,
     peers: u32,
+    // Whether the peers are of two groups.
+    apart: bool,
     turns: Vec<Turn>,
     made: Vec<Made>,
     // Microseconds since the opening, and how many more each peer's clock is ahead of the one before.
@@ -52,13 +61,14 @@ struct Course {
 impl Course {
     ghost use Rattle.std.specs.Prelude.{◌<◌};
 
-    fn new(alloc: Global, seed: u64) -> Course {
+    fn new(alloc: Global, seed: u64, apart: bool) -> Course {
         let mut random = Lcg64Xsh32::new(seed, 1);
         let peers = 2 + random.next_word() % 3;
         let ahead = i64::from(random.next_word() % 400_000);
         Course {
             random,
             peers,
+            apart,
             turns: Vec::new(alloc),
             made: Vec::new(alloc),
             time: 0,
@@ -167,8 +177,8 @@ impl Course {
     // What was made since the last round: by a founding, which gives a session of a new id, or by a commit.
     fn note(&mut self, world: &World) -> Result<(), AllocError> {
         for peer in 0..world.peer_count() {
-            let one = held(world, peer);
-            if self.committed == Some(peer) || !has_session(&self.made, &one.0) {
+            let one = held_in(world, peer, self.apart);
+            if self.committed == Some(peer) || !has_session(&self.made, &one.1) {
                 self.made.push(one)?;
             }
         }
@@ -190,7 +200,7 @@ impl Course {
     }
 
     fn round(&mut self, alloc: Global, calm: bool) -> Result<(), AllocError> {
-        let world = world_of(alloc, self.peers, &self.turns)?;
+        let world = world_of(alloc, self.peers, self.apart, &self.turns)?;
         self.go_on(&world, calm)
     }
 
@@ -204,13 +214,21 @@ impl Course {
     // The world after it.
     fn end(&mut self, alloc: Global) -> Result<World, AllocError> {
         self.go_to_the_end(alloc)?;
-        let world = world_of(alloc, self.peers, &self.turns)?;
+        let world = world_of(alloc, self.peers, self.apart, &self.turns)?;
         self.note(&world)?;
         Ok(world)
     }
 }
 
 // ---- what is looked for
+
+// What a peer holds, with its group.
+fn held_in(world: &World, peer: usize, apart: bool) -> Made
+    requires { peer < peers_in world.now }
+{
+    let (session, timeline) = held(world, peer);
+    (group_of((peer % 4) as u32, apart), session, timeline)
+}
 
 fn is_made(made: &[Made], one: &Made) -> bool {
     for other in made {
@@ -221,21 +239,21 @@ fn is_made(made: &[Made], one: &Made) -> bool {
     false
 }
 
-// What the datagram tells, if it tells a state.
+// What the datagram tells, if it tells a state, and in which group.
 fn told(bytes: &[u8]) -> Option<Made> {
     if bytes.len() > 513 {
         return None;
     }
     match read_datagram(bytes) {
         Ok(Message::Alive(msg) | Message::Response(msg)) => {
-            Some((msg.fields.session, tidy(&msg.fields.timeline)))
+            Some((msg.group, msg.fields.session, tidy(&msg.fields.timeline)))
         }
         _ => None,
     }
 }
 
-// All that is told and all that is held was made.
-fn have_origins(made: &[Made], world: &World) -> bool {
+// All that is told and all that is held was made, in that group.
+fn have_origins(made: &[Made], world: &World, apart: bool) -> bool {
     let mut all = true;
     for sending in world.sent() {
         if let Some(one) = told(&sending.bytes) {
@@ -243,7 +261,7 @@ fn have_origins(made: &[Made], world: &World) -> bool {
         }
     }
     for peer in 0..world.peer_count() {
-        all = all && is_made(made, &held(world, peer));
+        all = all && is_made(made, &held_in(world, peer, apart));
     }
     all
 }
@@ -254,19 +272,19 @@ fn have_own_origins(made: &[Made], session: &NodeId) -> bool {
     for (k, one) in made.iter().enumerate() {
         for other in made.iter().skip(k) {
             own = own
-                && (one.0 != *session
-                    || other.0 != *session
-                    || one.1 == other.1
-                    || one.1.beat != other.1.beat);
+                && (one.1 != *session
+                    || other.1 != *session
+                    || one.2 == other.2
+                    || one.2.beat != other.2.beat);
         }
     }
     own
 }
 
 // Nothing that was made for the session has a greater origin.
-fn is_greatest(made: &[Made], held: &Made) -> bool {
+fn is_greatest(made: &[Made], held: &Held) -> bool {
     for one in made {
-        if one.0 == held.0 && one.1.beat > held.1.beat {
+        if one.1 == held.0 && one.2.beat > held.1.beat {
             return false;
         }
     }
@@ -287,26 +305,71 @@ fn agree(made: &[Made], world: &World) -> bool {
     all
 }
 
-// All are in one session, and hold the greatest timeline that was made for it.
-fn have_converged(made: &[Made], world: &World) -> bool {
+// The first peer of the group of a peer.
+fn first_like(peer: usize, apart: bool) -> usize
+    ensures { result ≤ peer }
+{
+    if apart && peer % 2 == 1 { 1 } else { 0 }
+}
+
+// All of a group are in one session, and hold the greatest timeline that was made for it.
+fn have_converged(made: &[Made], world: &World, apart: bool) -> bool {
     let mut all = true;
     for k in 0..world.peer_count() {
         let one = held(world, k);
-        all = all && one.0 == held(world, 0).0 && is_greatest(made, &one);
+        let first = held(world, first_like(k, apart));
+        all = all && one.0 == first.0 && is_greatest(made, &one);
     }
     all
 }
 
+// Whether it is an alive or a bye, which go to all; the others go to those who are heard.
+fn is_for_all(bytes: &[u8]) -> bool {
+    if bytes.len() > 513 {
+        return false;
+    }
+    match read_datagram(bytes) {
+        Ok(Message::Alive(_) | Message::Bye { .. }) => true,
+        _ => false,
+    }
+}
+
+// Nobody answers or measures a peer of another group.
+fn stay_apart(world: &World, apart: bool) -> bool {
+    let mut all = true;
+    for sending in world.sent() {
+        let from = group_of(u32::from(sending.gate.0), apart);
+        let to = group_of(u32::from(sending.to.port.wrapping_sub(20_000)), apart);
+        all = all && (from == to || is_for_all(&sending.bytes));
+    }
+    all
+}
+
+// In how many of so many worlds all of a group came into one session. Fails where one doesn't keep what is promised.
+fn converged_among(rt: &impl Abort, alloc: Global, worlds: u32, apart: bool) -> u32 {
+    let mut converged = 0;
+    for seed in 0..worlds {
+        let mut course = Course::new(alloc, u64::from(seed), apart);
+        let world = course.end(alloc).expect(rt, "memory for a world");
+        let row = seed as usize;
+        expect(rt, row, &have_origins(&course.made, &world, apart), &true);
+        expect(rt, row, &agree(&course.made, &world), &true);
+        expect(rt, row, &stay_apart(&world, apart), &true);
+        let all = have_converged(&course.made, &world, apart);
+        converged = u32::wrapping_add(converged, u32::from(all));
+    }
+    converged
+}
+
 #[test]
 fn worlds_by_chance_keep_what_is_promised(rt: HostRuntime) {
-    let mut converged = 0;
-    for seed in 0..WORLDS {
-        let mut course = Course::new(rt.alloc(), u64::from(seed));
-        let world = course.end(rt.alloc()).expect(&rt, "memory for a world");
-        let row = seed as usize;
-        expect(&rt, row, &have_origins(&course.made, &world), &true);
-        expect(&rt, row, &agree(&course.made, &world), &true);
-        converged = u32::wrapping_add(converged, u32::from(have_converged(&course.made, &world)));
-    }
+    let converged = converged_among(&rt, rt.alloc(), WORLDS, false);
     assert!(rt; converged >= WORLDS / 3, "{converged}");
+}
+
+#[test]
+fn groups_by_chance_have_nothing_in_common(rt: HostRuntime) {
+    let converged = converged_among(&rt, rt.alloc(), WORLDS_APART, true);
+    // In a third of them there are two peers, each alone in its group.
+    assert!(rt; converged >= WORLDS_APART / 3 * 2, "{converged}");
 }

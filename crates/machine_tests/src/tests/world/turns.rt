@@ -117,5 +117,5 @@ fn script_of(alloc: Global, parts: &[Part<'_>]) -> Result<Vec<Turn>, AllocError>
 
 // The world of two peers after a script.
 pub fn world_by(alloc: Global, parts: &[Part<'_>]) -> Result<World, AllocError> {
-    world_of(alloc, 2, &script_of(alloc, parts)?)
+    world_of(alloc, 2, false, &script_of(alloc, parts)?)
 }

@@ -1,4 +1,4 @@
-use Rattle.live_tests.proofs.tests.live_run.told_on.Given as goal
+use Rattle.live_tests.proofs.tests.live_run.run_on.Given as goal
 
 abbrev pub ghosts-run_of-N-LinkName : goal.ghosts-run_of-N-LinkName
 ghosts-run_of-N-LinkName g a = record {
