@@ -1,13 +1,16 @@
 #!/usr/bin/env python3
-"""What a whole run of the gate costs from nothing: bench/gate.py [PROCESSORS] runs it on so many processors (2 if not given).
+"""What a run of the gate costs: bench/gate.py [PROCESSORS] [--kept] runs it on so many processors (2 if not given).
 
-That is `rt ci --anew` where `rt help` speaks of --anew, and else `rt ci`, which proves all from nothing then; with four processors and more
-one prover a processor, as in `.ci/run`. It watches the provers that
-rt starts, and puts the figures into docs/GATE.md, between its two marks: how long the run took, and for each crate the seconds of one
-processor that its proof, the proof of its tests and its must-fail edits took, with the check that the edits begin with. Beside each stands
-its budget, from the table that people keep between two other marks of that page. A table of runs, between two marks too, gets a row for
-so many processors in place of the one that it had; rows of other numbers stay. Nothing is written where the run fails. The commit has to
-be clean, so that the figures are those of a commit.
+From nothing it is `rt ci --anew` where `rt help` speaks of --anew, and else `rt ci`, which proves all from nothing then; with --kept it is
+`rt ci`, which proves only what no run on this machine has passed. With four processors and more there is one prover a processor, as in
+`.ci/run`. It watches the provers that rt starts, and puts the figures into docs/GATE.md, between its two marks: how long the run took, and
+for each crate the seconds of one processor that its proof, the proof of its tests and its must-fail edits took, with the check that the
+edits begin with. Where the page has figures of a commit since which neither the crate nor one below it changed, the least of the two
+counts, since what else is at work on a machine only adds to it, and a crate that wasn't proved anew keeps its own. Beside each stands its
+budget, from the table that people keep between two other marks of that page, times how slow the machine was: the seconds of the crates of
+a third table, the yardstick, over those that it has for them. None of them may have changed since the commit that it names. A table of
+runs from nothing, between two marks too, gets a row for so many processors in place of the one that it had; rows of other numbers stay.
+Nothing is written where the run fails. The commit has to be clean, so that the figures are those of a commit.
 """
 import os
 import platform
@@ -24,9 +27,12 @@ PAGE = os.path.join(HERE, "docs", "GATE.md")
 BEGIN, END = "<!-- figures: written by bench/gate.py -->", "<!-- end of the figures -->"
 TICK = os.sysconf("SC_CLK_TCK")
 BUDGET, BUDGET_END = "<!-- budget -->", "<!-- end of the budget -->"
+YARDSTICK, YARDSTICK_END = "<!-- yardstick -->", "<!-- end of the yardstick -->"
 RUNS, RUNS_END = "<!-- runs: written by bench/gate.py -->", "<!-- end of the runs -->"
 KINDS = ("proof", "tests", "edits")
 ALL = "all"
+# What stands for a figure that no run has given.
+UNKNOWN = "?"
 
 
 class Failed(Exception):
@@ -148,12 +154,92 @@ def budgets_of(text):
     return found, whole
 
 
-def beside(taken, budget):
-    """A figure with its budget, where it has one, and whether it is over."""
+def yardstick_of(text):
+    """The seconds by crate that a table has, and the commit in its head at which they were measured."""
+    rows = [[cell.strip().strip("`") for cell in line.strip().strip("|").split("|")] for line in text.splitlines() if line.startswith("|")]
+    commit = re.search(r"at ([0-9a-f]{7,})", rows[0][1]) if rows and len(rows[0]) == 2 else None
+    if not commit or not rows[2:] or not all(len(row) == 2 and row[1].isdigit() for row in rows[2:]):
+        raise Failed("the yardstick is no table of crates and their seconds, with `at COMMIT` in its head")
+    changed = [name for name, _ in rows[2:] if not is_same(commit[1], name)]
+    if changed:
+        raise Failed(f"these crates of the yardstick changed since {commit[1]}, so they can't be in it: {', '.join(changed)}")
+    return {name: int(seconds) for name, seconds in rows[2:]}
+
+
+def slowness(figures, yardstick):
+    """How many times the yardstick's seconds its crates took."""
+    taken = [figures[name][0][kind] or 0 for name in yardstick for kind in KINDS]
+    return sum(taken) / sum(yardstick.values())
+
+
+def below(name):
+    """The crate and those that it stands on."""
+    with open(os.path.join(HERE, "crates.txt"), encoding="utf-8") as file:
+        lines = (line.split("#")[0].split(":") for line in file if ":" in line)
+        stands_on = {words[0].split()[0]: words[1].split() for words in lines if words[0].strip()}
+    found, todo = [], [name]
+    while todo:
+        one = todo.pop()
+        if one in stands_on and one not in found:
+            found.append(one)
+            todo += stands_on[one]
+    return found
+
+
+def is_same(commit, name):
+    """Whether neither the crate nor one below it changed since a commit."""
+    words = ["git", "diff", "--quiet", commit, "HEAD", "--", *(f"crates/{one}" for one in below(name))]
+    return subprocess.run(words, cwd=HERE, stderr=subprocess.DEVNULL).returncode == 0
+
+
+def figures_of(text):
+    """The seconds by crate and kind that the page has, each crate's with the commit that they were measured at."""
+    whole, found = re.search(r"at commit ([0-9a-f]+)", text), {}
+    for line in text.splitlines():
+        cells = [cell.strip() for cell in line.strip().strip("|").split("|")]
+        if len(cells) not in (5, 6) or not re.fullmatch(r"`\w+`", cells[0]):
+            continue
+        taken = [re.match(r"\d+", cells[at]) for at in (1, 2, 4)]
+        commit = cells[5] if len(cells) == 6 else whole and whole[1]
+        found[cells[0].strip("`")] = ({kind: float(one[0]) for kind, one in zip(KINDS, taken) if one}, commit)
+    return found
+
+
+def has_kind(name, kind):
+    """Whether the crate has what takes these seconds."""
+    if kind != "tests":
+        return kind == "proof" or edits_of(name) > 0
+    for at, _, files in os.walk(os.path.join(HERE, "crates", name, "src")):
+        for one in files:
+            with open(os.path.join(at, one), encoding="utf-8") as file:
+                if "#[test]" in file.read():
+                    return True
+    return False
+
+
+def joined(names, sums, old, commit):
+    """The seconds by crate and kind, None where they aren't known, each crate's with a commit: those of this run, and those that the page
+    has of the same crate."""
+    found = {}
+    for name in names:
+        before, at = old.get(name, ({}, None))
+        before = before if at and is_same(at, name) else {}
+        new, row = sums.get(name, {}), {}
+        for kind in KINDS:
+            seconds = [one[kind] for one in (new, before) if one.get(kind)]
+            row[kind] = min(seconds) if seconds else None if has_kind(name, kind) else 0.0
+        found[name] = row, commit if any(new.values()) else at if before else ""
+    return found
+
+
+def beside(taken, budget, slow):
+    """A figure with its budget on a machine that is so slow, where it has one, and whether it is over."""
+    if taken is None:
+        return UNKNOWN, False
     if budget is None:
         return f"{taken:.0f}", False
-    is_over = round(taken) > budget
-    of = f" of {budget}" if budget or is_over else ""
+    is_over = round(taken) > round(budget * slow)
+    of = f" of {budget * slow:.0f}" if budget or is_over else ""
     return f"{taken:.0f}{of}{' **over**' if is_over else ''}", is_over
 
 
@@ -162,22 +248,26 @@ def prose(text):
     return textwrap.wrap(text, 140, break_long_words=False, break_on_hyphens=False)
 
 
-def table(names, sums, edits, budgets, whole):
-    """The lines of the figures, and how many of them are over. `edits` has the number of each crate's edits."""
-    lines, over = ["| Crate | Its proof | Its tests' proof | Must-fail edits | Their proofs |", "|---|---|---|---|---|"], 0
-    for name in names:
+def table(figures, budgets, whole, yardstick):
+    """The lines of the figures, and how many of them are over."""
+    slow = slowness(figures, yardstick)
+    lines, over = ["| Crate | Its proof | Its tests' proof | Must-fail edits | Their proofs | Commit |", "|---|---|---|---|---|---|"], 0
+    for name, (taken, commit) in figures.items():
         row = {}
         for kind in KINDS:
-            row[kind], is_over = beside(sums.get(name, {}).get(kind, 0), budgets[name][kind] if name in budgets else None)
-            over += is_over
-        lines.append(f"| `{name}` | {row['proof']} | {row['tests']} | {edits[name]} | {row['edits']} |")
-    of = {kind: sum(taken[kind] for taken in sums.values()) for kind in KINDS}
-    lines.append(f"| {ALL} | {of['proof']:.0f} | {of['tests']:.0f} | {sum(edits.values())} | {of['edits']:.0f} |")
-    together, is_over = beside(sum(of.values()), whole)
-    over += is_over
-    lacking, gone = [name for name in names if name not in budgets], [name for name in budgets if name not in names]
-    say = [f"Seconds of all provers together: {together}."]
-    say += [f"**Over their budgets: {over}.**" if over else "None is over its budget." if lacking else "All are within their budgets."]
+            row[kind], more = beside(taken[kind], budgets[name][kind] if name in budgets else None, slow)
+            over += more
+        lines.append(f"| `{name}` | {row['proof']} | {row['tests']} | {edits_of(name)} | {row['edits']} | {commit} |")
+    of = {kind: sum(taken[kind] or 0 for taken, _ in figures.values()) for kind in KINDS}
+    lines.append(f"| {ALL} | {of['proof']:.0f} | {of['tests']:.0f} | {sum(map(edits_of, figures))} | {of['edits']:.0f} | |")
+    together, more = beside(sum(of.values()), whole, slow)
+    over += more
+    unknown = [name for name, (taken, _) in figures.items() if None in taken.values()]
+    lacking, gone = [name for name in figures if name not in budgets], [name for name in budgets if name not in figures]
+    say = [f"The yardstick's crates took {slow:.2f} times its seconds, and the budgets are taken so many times."]
+    say += [f"Seconds of all provers together: {together}."]
+    say += [f"**Over their budgets: {over}.**" if over else "None is over its budget." if lacking or unknown else "All are within their budgets."]
+    say += [f"Not all known: {', '.join(f'`{name}`' for name in unknown)}."] * bool(unknown)
     say += [f"Without a budget: {', '.join(f'`{name}`' for name in lacking)}."] * bool(lacking)
     say += [f"In the budget, and no crate: {', '.join(f'`{name}`' for name in gone)}."] * bool(gone)
     return [*lines, "", *prose(" ".join(say))], over
@@ -196,9 +286,10 @@ def keeps_proofs():
     return "--anew" in subprocess.run(["rt", "help"], cwd=HERE, stdout=subprocess.PIPE, stderr=subprocess.STDOUT, text=True).stdout
 
 
-def measured(processors, budgets, whole):
-    """Runs the gate, and returns the lines of its figures, its row among the runs, and how many figures are over their budgets."""
-    words = ["rt", "ci", *["--anew"] * keeps_proofs()]
+def measured(processors, is_anew, old, budgets, whole, yardstick):
+    """Runs the gate, and returns the lines of its figures, its row among the runs, and how many figures are over their budgets. `old` has
+    the figures of the page."""
+    words = ["rt", "ci", *["--anew"] * (is_anew and keeps_proofs())]
     began, before = time.monotonic(), resource.getrusage(resource.RUSAGE_CHILDREN)
     run = subprocess.Popen(
         ["taskset", "-c", f"0-{processors - 1}", *words],
@@ -221,9 +312,8 @@ def measured(processors, budgets, whole):
     if status:
         raise Failed(f"{' '.join(words)} ended with status {status}: {last}")
     worked = after.ru_utime + after.ru_stime - before.ru_utime - before.ru_stime
-    names, sums = crates(), watch.sums()
-    lines, over = table(names, sums, {name: edits_of(name) for name in names}, budgets, whole)
-    commit = told(["git", "rev-parse", "--short", "HEAD"])
+    sums, commit = watch.sums(), told(["git", "rev-parse", "--short", "HEAD"])
+    lines, over = table(joined(crates(), sums, old, commit), budgets, whole, yardstick)
     head = (
         f"`bench/gate.py` ran `{' '.join(words)}` of `{told(['rt', 'version'])}` at commit {commit} on {processors} processors "
         f"({processor()}): **{took / 60:.0f} minutes**, in which they worked {worked / 60:.0f} minutes together; all provers at once held "
@@ -234,14 +324,20 @@ def measured(processors, budgets, whole):
     row = (
         f"| {processors} | {took / 60:.0f} | {worked / 60:.0f} | {together:.0f} | {watch.most / 2**30:.1f} GB | {commit} | `{kit}` |"
     )
-    return [*prose(head), "", "Seconds of one processor, and of how many by the budget:", "", *lines], row, over
+    say = (
+        "Seconds of one processor, and of how many by the budget: the least that a run took since the crate or one below it last changed, "
+        "and the commit of the last such run."
+    )
+    return [*prose(head), "", *prose(say), "", *lines], row, over
 
 
 def main():
-    if len(sys.argv) > 2 or not all(word.isdigit() and int(word) > 0 for word in sys.argv[1:]):
-        print("usage: bench/gate.py [PROCESSORS], a number from 1 on", file=sys.stderr)
+    is_anew = "--kept" not in sys.argv[1:]
+    numbers = [word for word in sys.argv[1:] if word != "--kept"]
+    if len(numbers) > 1 or not all(word.isdigit() and int(word) > 0 for word in numbers):
+        print("usage: bench/gate.py [PROCESSORS] [--kept], where PROCESSORS is a number from 1 on", file=sys.stderr)
         return 2
-    processors = int(sys.argv[1]) if len(sys.argv) > 1 else 2
+    processors = int(numbers[0]) if numbers else 2
     try:
         if told(["git", "status", "--porcelain"]):
             raise Failed("the checkout has changes that are in no commit: commit them first")
@@ -249,14 +345,17 @@ def main():
             page = file.read()
         begin, end = between(page, BEGIN, END)
         first, last = between(page, BUDGET, BUDGET_END)
+        start, stop = between(page, YARDSTICK, YARDSTICK_END)
         between(page, RUNS, RUNS_END)
-        lines, row, over = measured(processors, *budgets_of(page[first:last]))
+        yardstick = yardstick_of(page[start:stop])
+        lines, row, over = measured(processors, is_anew, figures_of(page[begin:end]), *budgets_of(page[first:last]), yardstick)
     except Failed as error:
         print(f"gate: {error}", file=sys.stderr)
         return 1
     page = page[:begin] + "\n" + "\n".join(lines) + "\n" + page[end:]
-    begin, end = between(page, RUNS, RUNS_END)
-    page = page[:begin] + "\n" + "\n".join(runs_with(page[begin:end], processors, row)) + "\n" + page[end:]
+    if is_anew:
+        begin, end = between(page, RUNS, RUNS_END)
+        page = page[:begin] + "\n" + "\n".join(runs_with(page[begin:end], processors, row)) + "\n" + page[end:]
     with open(PAGE, "w", encoding="utf-8") as file:
         file.write(page)
     print(f"gate: docs/GATE.md has the figures; over their budgets: {over}")

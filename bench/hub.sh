@@ -129,6 +129,8 @@ fn config() -> Config
         seed: 1,
         mpb: 500_000,
         sync: false,
+        group: 0,
+        quantum: 4_000_000,
         gates,
     }
 }

@@ -75,6 +75,8 @@ fn config() -> Config
         seed: 7,
         mpb: 500_000,
         sync: true,
+        group: 0,
+        quantum: 4_000_000,
         gates,
     }
 }

@@ -76,6 +76,8 @@ fn config_of(peer: u32) -> Config
         seed: u64::from(peer),
         mpb: 500_000,
         sync: true,
+        group: 0,
+        quantum: 4_000_000,
         gates,
     }
 }

@@ -2,10 +2,12 @@
 """Runs two of the built program's `live` beside each other over the loopback interface: checks/live.py PROGRAM.
 
 Each lists the other as a destination; one changes the tempo, and the audio thread of the other starts to play. Looked at are, of each run,
-its status, its clicks, what else it tells on standard error, and what its summary counts; its record, which the program and the plain
-reading of checks/node.py replay to what the summary tells; and of both, that each has an id of its own, drawn from a seed of its own, that
-what one heard is what the other's replayed record sends, and that they end with one tempo, both playing, in the session that both told
-before one said goodbye.
+its status, its clicks, what else it tells on standard error, and what its summary counts; its record, whose head has the group and the
+quantum of the words, and which the program and the plain reading of checks/node.py replay to what the summary tells; and of both, that each
+has an id of its own, drawn from a seed of its own, that what one heard is what the other's replayed record sends, and that they end with
+one tempo, both playing, in the session that both told before one said goodbye.
+Then three runs beside each other, two of one group and one of another: the two count each other as peers, and the third counts nobody,
+though all of them hear what the others broadcast.
 Further runs: one finds its gate's port taken, one has a destination that the system refuses, one has no `at` command, one counts its
 accents in four microbeats, and one has a command for a block past its last one.
 The last line is 'N passed, N failed'.
@@ -25,6 +27,8 @@ END = BLOCKS * BLOCK
 # By then both are in one session: they tell of themselves four times a second, and a measurement is 51 pings.
 TEMPO_AT, PLAY_IN = END // 2, 7 * BLOCKS // 10
 NEW_TEMPO = 400_000
+# Of three runs, for as many blocks. The third one's group has the two bytes of the others' in another order.
+GROUPS, GROUP_BLOCKS = (258, 258, 513), 200
 TOLD = "jorazhil: "
 ROOM = "room for 262144 events"
 COUNTS = "events states reads captures app audio plays clicks".split()
@@ -62,9 +66,11 @@ def script(port, peers, commands):
 class Run:
     """A live run, from its beginning on."""
 
-    def __init__(self, program, port, peers, commands, blocks=BLOCKS, quantum=4_000_000):
-        self.program, self.port, self.script, self.sent = program, port, script(port, peers, commands), []
+    def __init__(self, program, port, peers, commands, blocks=BLOCKS, quantum=4_000_000, group=None):
+        self.program, self.port, self.script, self.sent, self.states = program, port, script(port, peers, commands), [], []
+        self.quantum, self.group = quantum, group or 0
         words, pipe = [program, "live", "--blocks", str(blocks), "--quantum", str(quantum), "--record"], subprocess.PIPE
+        words += [] if group is None else ["--group", str(group)]
         self.child = subprocess.Popen(words, stdin=pipe, stdout=pipe, stderr=pipe, text=True)
         self.child.stdin.write(self.script)
         self.child.stdin.close()
@@ -116,14 +122,22 @@ class Run:
         want("what is told", told, [*setup, *before, f"the journal took {events} of 262144 events", *behind])
         want("the first lines", [line[len(TOLD) :] for line in lines[: len(setup)]], setup)
 
+    def expect_head(self):
+        """The record is of version 2, and says the group and the quantum of the words."""
+        [version, _, *profile] = [line for line in self.lines if not line.startswith("#")][:4]
+        want("the front of the record", [version, *profile], ["replay 2", f"group {self.group}", f"quantum {self.quantum}"])
+
     def expect_replayed(self):
-        """The record is a replay script of this run, for the program and for the plain reading. Keeps what it sends."""
+        """The record is a replay script of this run, for the program and for the plain reading. Keeps what it sends and shows."""
+        self.expect_head()
         output = self.told("replay", self.output)
         want_lines("the replayed record", output, node.output_of(*node.read_script(self.output.encode()), Counter()))
         lines = output.splitlines()
         done = numbers(lines[-1], "done", ["events", "states", "sends"])
         self.expect_counts(events=done["events"], states=done["states"])
-        want("the last state", self.lines[1], "# " + [line for line in lines if line.startswith("state ")][-1])
+        states = [line for line in lines if line.startswith("state ")]
+        want("the last state", self.lines[1], "# " + states[-1])
+        self.states = [numbers(line, "state", STATE) for line in states]
         want_lines("the gates of the record", self.gates(self.output), self.gates(self.script))
         want("the last event", self.lines[-1].split(" ")[0], "end")
         self.sent = [line.split(" ") for line in lines if line.startswith("tx ")]
@@ -140,6 +154,11 @@ class Run:
     def heard(self):
         """The moment and the digits of each datagram that came."""
         return [(int(words[1]), words[4]) for words in (line.split(" ") for line in self.lines) if words[0] == "rx"]
+
+    def messages(self, datagrams):
+        """The kinds, and the groups of those that have one, of some datagrams in hex."""
+        words = self.spoken(datagrams)
+        return {said[0] for said in words}, {int(said[3]) for said in words if said[0] in ("alive", "response", "bye")}
 
     def session(self):
         """The session of the last alive that went out before a goodbye was heard."""
@@ -207,6 +226,31 @@ def both_runs(one, other):
     want("the session that the second tells last", other.session(), one.session())
 
 
+def three_runs(program):
+    """Each lists both others as destinations."""
+    ports, last = free_ports(3), [f"at {GROUP_BLOCKS * BLOCK} look"]
+    runs = []
+    for port, group in zip(ports, GROUPS):
+        runs.append(Run(program, port, [other for other in ports if other != port], last, GROUP_BLOCKS, group=group))
+    for run in runs:
+        run.end()
+    return runs
+
+
+def groups_apart(*runs):
+    for run in runs:
+        want("the status and the end of standard error", (run.status, run.error[-400:] if run.status else ""), (0, ""))
+        run.expect_replayed()
+    want("the most peers that each counts", [max(state["peers"] for state in run.states) for run in runs], [1, 1, 0])
+    heard = [run.messages([digits for _, digits in run.heard()]) for run in runs]
+    sent = [run.messages([words[4] for words in run.sent]) for run in runs]
+    own, another = GROUPS[0], GROUPS[2]
+    want("the groups that each hears", [groups for _, groups in heard], [{own, another}, {own, another}, {own}])
+    want("the groups that each sends with", [groups for _, groups in sent], [{own}, {own}, {another}])
+    # Nobody has answered or measured the third one, nor it the others.
+    want("the kinds that the third hears, and sends", (heard[2][0] - {"bye"}, sent[2][0]), ({"alive"}, {"alive", "bye"}))
+
+
 def setup_told(port, blocks, bars="bars of 4 beats"):
     return [f"live at 127.0.0.1:{port}; {blocks}, {ROOM}, {bars}"]
 
@@ -269,6 +313,7 @@ def without_commands(program):
 def short_quantum(program):
     """A quantum of four microbeats, as somebody writes who means four beats: each click is an accent, and it is told."""
     run = short_run(program, ["at 0 tempo 60060", "at 20000 play", "at 400000 look"], 25, 4)
+    run.expect_head()
     run.expect_clicks()
     clicks = {line.split(" ")[2] for line in run.error.splitlines() if not line.startswith(TOLD)}
     want("the kinds of clicks", clicks, {"accent"})
@@ -285,11 +330,13 @@ def late_block(program):
 
 def main(program):
     one, other = two_runs(program)
+    three = three_runs(program)
     checks = [
         ("the run that changes the tempo", each_run, one, 1, 0),
         ("the run that starts to play", each_run, other, 0, 1),
         ("the ids of both runs", two_ids, one, other),
         ("both runs", both_runs, one, other),
+        ("three runs of two groups", groups_apart, *three),
         ("a run whose port is taken", taken_port, program),
         ("a run with a destination that the system refuses", refused, program),
         ("a run without an at command", without_commands, program),
@@ -303,7 +350,7 @@ def main(program):
         except (Differs, LookupError, ValueError) as fault:
             failed += 1
             print(f"{name}: {type(fault).__name__}: {fault}")
-    for run in (one, other):
+    for run in (one, other, *three):
         print("\n".join(run.lines[:2]))
     print(f"{len(checks) - failed} passed, {failed} failed")
     return 1 if failed else 0

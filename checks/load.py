@@ -103,7 +103,7 @@ class Load:
 
     def __init__(self, seed):
         gate = node.Gate(local(20808), [local(20809)])
-        self.node = node.Node(node.Config(b"LOADNODE", seed, 500_000, 1, OPENED, [gate]))
+        self.node = node.Node(node.Config(b"LOADNODE", seed, 500_000, 1, OPENED, 0, 4_000_000, [gate]))
         self.words, self.now, self.count, self.kinds = node.Ids(seed, 2), OPENED, 0, Counter()
         self.states, self.sends = 1, 0
 
@@ -114,13 +114,13 @@ class Load:
         if kind < 4:
             timeline = node.Timeline(400_000 + 1000 * j, 1000 * self.count, 0)
             session = b"LOADNODE" if j < 8 else sender
-            return "alive", ("rx", self.now, 0, endpoint, node.write_state(1, sender, session, timeline, node.STOPPED, endpoint))
+            return "alive", ("rx", self.now, 0, endpoint, node.write_state(1, 0, sender, session, timeline, node.STOPPED, endpoint))
         if kind == 4:
             return "ping", ("rx", self.now, 0, endpoint, node.write_ping(self.now))
         if kind < 7:
             return "tick", ("tick", self.now)
         if j % 2 == 0:
-            return "bye", ("rx", self.now, 0, endpoint, b"_asdp_v\x01\x03\0\0\0" + sender)
+            return "bye", ("rx", self.now, 0, endpoint, node.write_bye(0, sender))
         state = self.node.published
         new = edited(state, 300_000 + 100 * (c % 1000), self.now)
         return "commit", ("app_commit", self.now, self.now, new if new != state.timeline else None, None)

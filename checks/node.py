@@ -12,7 +12,7 @@ LIMIT = 2**60
 Timeline = namedtuple("Timeline", "mpb beat time")
 # A start of a session has its moment in beats, one of a client in host time.
 Start = namedtuple("Start", "playing at stamp")
-Config = namedtuple("Config", "id seed mpb sync now gates")
+Config = namedtuple("Config", "id seed mpb sync now group quantum gates")
 Gate = namedtuple("Gate", "local peers")
 Row = namedtuple("Row", "session endpoint limit")
 State = namedtuple("State", "timeline start sync peers app audio")
@@ -139,11 +139,15 @@ def read_pong(payload):
     return values[b"sess"], ghost, host, previous
 
 
-def write_state(kind, sender, session, timeline, start, endpoint):
+def write_state(kind, group, sender, session, timeline, start, endpoint):
     line = eight(timeline.mpb) + eight(timeline.beat) + eight(timeline.time)
     begun = bytes([start.playing]) + eight(start.at) + eight(start.stamp)
     payload = entry(b"tmln", line) + entry(b"sess", session) + entry(b"stst", begun) + entry(b"mep4", endpoint)
-    return b"_asdp_v\x01" + bytes([kind, 5, 0, 0]) + sender + payload
+    return b"_asdp_v\x01" + bytes([kind, 5]) + group.to_bytes(2, "big") + sender + payload
+
+
+def write_bye(group, sender):
+    return b"_asdp_v\x01\x03\0" + group.to_bytes(2, "big") + sender
 
 
 def write_ping(host, previous=None):
@@ -195,10 +199,16 @@ class Node:
     def send(self, gate, endpoint, datagram):
         self.sends.append((gate, endpoint, datagram))
 
-    def spread(self, datagram_of):
+    def send_message(self, name, gate, endpoint, datagram):
+        """A message that carries the group; those of a group that isn't 0 are counted."""
+        self.send(gate, endpoint, datagram)
+        if self.config.group != 0:
+            self.reached[f"{name} in another group than 0"] += 1
+
+    def spread(self, name, datagram_of):
         for gate, setup in enumerate(self.config.gates):
             for endpoint in setup.peers:
-                self.send(gate, endpoint, datagram_of(setup))
+                self.send_message(name, gate, endpoint, datagram_of(setup))
 
     def rx(self, gate, endpoint, datagram):
         if len(datagram) > 512 or len(datagram) < 9:
@@ -211,20 +221,32 @@ class Node:
         if datagram[:8] == b"_link_v\x01" and kind == 2:
             self.pong(gate, endpoint, read_pong(payload))
         if datagram[:8] == b"_asdp_v\x01" and len(datagram) >= 20:
-            self.discovery(gate, endpoint, kind, datagram[9], datagram[10:12], datagram[12:20], datagram[20:])
+            group = int.from_bytes(datagram[10:12], "big")
+            self.discovery(gate, endpoint, kind, datagram[9], group, datagram[12:20], datagram[20:])
 
     def discovery(self, gate, endpoint, kind, ttl, group, sender, payload):
         state = read_state(payload) if kind in (1, 2) else None
-        if sender == self.id or group != b"\0\0":
+        if sender == self.id or kind != 3 and state is None:
             return
-        if kind == 3 and self.rows.pop((gate, sender), None):
-            self.reached["row ended by a bye"] += 1
-        if state is None:
-            return
-        if kind == 1:
-            local = self.config.gates[gate].local
-            self.send(gate, endpoint, write_state(2, self.id, self.session, self.timeline, self.start, local))
-        self.take(gate, sender, ttl, *state)
+        if group != self.config.group:
+            self.pass_over(kind, group, (gate, sender))
+        elif kind == 3:
+            if self.rows.pop((gate, sender), None):
+                self.reached["row ended by a bye"] += 1
+        else:
+            if kind == 1:
+                local = self.config.gates[gate].local
+                self.send_message("response", gate, endpoint, write_state(2, self.config.group, *self.shared(), local))
+            self.take(gate, sender, ttl, *state)
+
+    def pass_over(self, kind, group, key):
+        """Nothing comes of a message of another group. Which ones there were is counted."""
+        if kind != 3:
+            self.reached["state of another group passed over"] += 1
+        elif key in self.rows:
+            self.reached["bye of another group passed over"] += 1
+        if group == 0:
+            self.reached["group 0 passed over"] += 1
 
     def take(self, gate, sender, ttl, timeline, session, start, endpoint):
         if (gate, sender) not in self.rows and sum(key[0] == gate for key in self.rows) == 128:
@@ -372,7 +394,7 @@ class Node:
         return gate, self.rows[gate, sender].endpoint
 
     def end(self):
-        self.spread(lambda _: b"_asdp_v\x01\x03\0\0\0" + self.id)
+        self.spread("bye", lambda _: write_bye(self.config.group, self.id))
 
     def settle(self):
         peers = len({sender for (_, sender), row in self.rows.items() if row.session == self.session})
@@ -388,7 +410,7 @@ class Node:
     def tell(self):
         if self.broadcast is None or self.moment >= self.broadcast + (50_000 if self.changed else 250_000):
             self.reached["told early" if self.broadcast is not None and self.moment < self.broadcast + 250_000 else "told"] += 1
-            self.spread(lambda setup: write_state(1, self.id, self.session, self.timeline, self.start, setup.local))
+            self.spread("alive", lambda setup: write_state(1, self.config.group, *self.shared(), setup.local))
             self.broadcast, self.changed = self.moment, False
 
 
@@ -403,6 +425,14 @@ def number(word, least, greatest):
     if not re.fullmatch("0|-?[1-9][0-9]*", word) or not least <= int(word) <= greatest:
         raise ValueError
     return int(word)
+
+
+def number_behind(kind, words, greatest):
+    """What a line of two words says, of which the first is given and the second a number from 0."""
+    word, said = words
+    if word != kind:
+        raise ValueError
+    return number(said, 0, greatest)
 
 
 def moment(word):
@@ -448,16 +478,22 @@ class Script:
     """Takes the lines in order; a ValueError says that with this one they begin no script."""
 
     def __init__(self):
-        self.setup, self.gates, self.events, self.number, self.begun = None, [], [], 0, False
+        self.version, self.setup, self.group, self.quantum = None, None, None, None
+        self.gates, self.events, self.number = [], [], 0
+
+    def config(self):
+        return Config(*self.setup, self.group, self.quantum, self.gates)
 
     def line(self, line):
         words = line.split(" ")
-        if not self.begun:
-            if line != "replay 1":
-                raise ValueError
-            self.begun = True
+        if self.version is None:
+            self.begin(line)
         elif self.setup is None:
             self.node(words)
+        elif self.group is None:
+            self.group = number_behind("group", words, 65_535)
+        elif self.quantum is None:
+            self.quantum = number_behind("quantum", words, 2**40)
         elif words[0] == "gate" and not self.events and len(self.gates) < 4:
             (_, local) = words
             self.gates.append(Gate(endpoint_of(local), []))
@@ -468,6 +504,13 @@ class Script:
             self.gates[-1].peers.append(endpoint_of(peer))
         else:
             self.events.append(self.event(*words))
+
+    def begin(self, line):
+        if line not in ("replay 1", "replay 2"):
+            raise ValueError
+        self.version = int(line[-1])
+        if self.version == 1:
+            self.group, self.quantum = 0, 4_000_000
 
     def node(self, words):
         word, name, seed, mpb, sync, now = words
@@ -504,7 +547,7 @@ def read_script(text):
                 raise Fault(k) from None
     if not script.gates:
         raise Fault(len(lines) + 1)
-    return Config(*script.setup, script.gates), script.events
+    return script.config(), script.events
 
 
 def state_line(count, node, state):

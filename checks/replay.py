@@ -1,10 +1,11 @@
 #!/usr/bin/env python3
 """Compares the built program's `replay` with a plain reading of the rules, checks/node.py: checks/replay.py PROGRAM [SEED].
 
-The scripts are drawn from the seed (1 where not given). Long and short stories of a node: what comes next is drawn with the plain reading
-beside it, so that moments fall on limits and deadlines, pongs fit the measurement that runs and commits the timeline that counts. Stories
-in which measurements end at an exact lead, tables are full, and an origin is spent. Scripts with one change: each word of every kind of
-line at the ends of its range, past them, misspelled, lost and doubled. And stories with a changed word, line or byte. Exit status, standard
+The scripts are of both versions and drawn from the seed (1 where not given). Long and short stories of a node, in most of them of another
+group than 0: what comes next is drawn with the plain reading beside it, so that moments fall on limits and deadlines, pongs fit the
+measurement that runs and commits the timeline that counts; some messages are of other groups. Stories in which measurements end at an exact
+lead, tables are full, and an origin is spent. Scripts with one change: each word of every kind of line at the ends of its range, past them,
+misspelled, lost and doubled, and lines lost, doubled and exchanged. And stories with a changed word, line or byte. Exit status, standard
 output and, under status 8, the line that standard error names first are compared. The first script that differs is shortened and printed. A
 rule that no story reaches is a failure. Beside them stand the scripts that checks/worked.py has for `replay`, whose answers were worked out
 by hand; the plain reading has to give them too. The last line is 'N passed, N failed'.
@@ -24,7 +25,8 @@ HOUR = 3_600_000_000
 REACHED = (
     "ping answered, row ended by a bye, gate full, sessions full, timeline taken, start taken, pong passed over, failed by another session, failed by silence, "
     "measured anew, joined, stayed, current one not measured, other one not measured, other one forgotten, origin spent, timeline kept, timeline committed, "
-    "start committed, founded, told, told early"
+    "start committed, founded, told, told early, state of another group passed over, bye of another group passed over, group 0 passed over, "
+    "response in another group than 0, alive in another group than 0, bye in another group than 0"
 ).split(", ")
 
 
@@ -36,13 +38,17 @@ class Story:
         self.name = "".join(chr(draw.randrange(33, 127)) for _ in range(8))
         self.now = self.one(0, 1, 1_000_000, draw.randrange(10**12), LAST - draw.randrange(100 * 10**6)) if now is None else now
         seed = self.one(0, 1, 2**64 - 1, draw.randrange(2**64))
-        self.put("replay 1")
+        version = self.one(1, 2, 2, 2)
+        self.put(f"replay {version}")
         self.put(f"node {self.name} {seed} {self.mpb()} {draw.randrange(2)} {self.now}")
+        if version == 2:
+            self.put(f"group {self.one(0, 1, 256, 258, 65_535, draw.randrange(65_536))}")
+            self.put(f"quantum {self.one(0, 1, 4_000_000, 2**40, draw.randrange(2**40))}")
         for gate in range(self.one(1, 1, 1, 2, 3, 4) if gates is None else gates):
             self.put(f"gate {self.endpoint()}")
             for _ in range(self.one(0, 0, 1, 1, 2, 3, 32 if draw.random() < 0.2 else 1) if peers is None else peers):
                 self.put(f"to {self.endpoint()}")
-        self.sent, self.node = [], node.Node(node.Config(*self.script.setup, self.script.gates))
+        self.sent, self.node = [], node.Node(self.script.config())
         strangers = [bytes(draw.randrange(256) for _ in range(8)) for _ in range(3)]
         self.ids = [b"PEER000%d" % k for k in range(4)] + strangers + [b"\0" * 8, b"\xff" * 8]
         # By how much the pongs say that the measured session is ahead, the number of the last audio commit, and how often
@@ -117,7 +123,17 @@ class Story:
         digits = digits.upper() if self.draw.random() < 0.2 else digits
         self.event(f"rx {self.later() if now is None else now} {gate} {endpoint or self.endpoint()} {digits}")
 
-    def state(self, kind, sender, session, line, start, endpoint=b"\x7f\0\0\1\x51\x48", ttl=5, group=0):
+    def group(self):
+        """Of a message, as it stands in its head: mostly the node's own, else one that has a bit or a byte of it, or is 0 or 1."""
+        own = self.node.config.group
+        group = self.one(*[own] * 12, 0, 1, own ^ 1, own ^ 256, own % 256 * 256 + own // 256)
+        return group.to_bytes(2, "big")
+
+    def own_group(self):
+        return self.node.config.group.to_bytes(2, "big")
+
+    def state(self, kind, sender, session, line, start, endpoint=b"\x7f\0\0\1\x51\x48", ttl=5, group=None):
+        group = self.own_group() if group is None else group
         parts = [node.entry(b"tmln", b"".join(map(node.eight, line))), node.entry(b"sess", session)]
         if start:
             parts.append(node.entry(b"stst", bytes([start[0]]) + node.eight(start[1]) + node.eight(start[2])))
@@ -126,7 +142,7 @@ class Story:
         if self.draw.random() < 0.1:
             parts.append(self.one(node.entry(b"mep6", bytes(18)), node.entry(b"none", b""), parts[0], parts[1], node.entry(b"sess", self.node.session)))
             self.draw.shuffle(parts)
-        return b"_asdp_v\x01" + bytes([kind, ttl, *group.to_bytes(2, "big")]) + sender + b"".join(parts)
+        return b"_asdp_v\x01" + bytes([kind, ttl]) + group + sender + b"".join(parts)
 
     def drawn_state(self):
         held = self.node
@@ -136,7 +152,7 @@ class Story:
         line = (mpb, self.time(held.timeline.beat, held.timeline.beat + 1), self.time())
         start = self.one(None, (self.one(0, 1, 255), self.time(), self.time(held.start.stamp, held.start.stamp + 1)))
         endpoint = self.one(None, b"\x7f\0\0\1\x51\x48", b"\x0a\0\0\1\x51\x49", bytes(6))
-        return self.state(self.one(1, 1, 2), sender, session, line, start, endpoint, self.one(0, 1, 5, 5, 5, 255), self.one(0, 0, 0, 0, 0, 0, 1, 256))
+        return self.state(self.one(1, 1, 2), sender, session, line, start, endpoint, self.one(0, 1, 5, 5, 5, 255), self.group())
 
     def hear(self):
         self.rx(self.drawn_state())
@@ -145,9 +161,8 @@ class Story:
         rows = list(self.node.rows) or [(0, self.ids[0])]
         gate, sender = self.one(*rows)
         sender = self.one(sender, sender, sender, sender, self.node.id, self.ids[0])
-        group = self.one(b"\0\0", b"\0\0", b"\0\0", b"\0\1")
         payload = bytes(self.one(0, 0, 3))
-        self.rx(b"_asdp_v\x01\x03" + bytes([self.one(0, 5)]) + group + sender + payload, self.one(gate, gate, gate, 0))
+        self.rx(b"_asdp_v\x01\x03" + bytes([self.one(0, 5)]) + self.group() + sender + payload, self.one(gate, gate, gate, 0))
 
     def ping(self):
         length = self.one(0, 8, 16, 31, 32, 32, 33, 34, 503, 504)
@@ -256,7 +271,7 @@ def measured(draw):
         due = story.node.remeasuring
         if draw.random() < 0.15:
             for gate, sender in list(story.node.rows):
-                story.rx(b"_asdp_v\x01\x03\0\0\0" + sender, gate, now=story.now)
+                story.rx(node.write_bye(story.node.config.group, sender), gate, now=story.now)
         if due is not None:
             for row in range(draw.randrange(3)):
                 peer_of(story, story.node.session, story.ids[row], line=(500_000, draw.choice([5_000_000, story.node.timeline.beat + 1]), 0))
@@ -347,6 +362,10 @@ def spent(draw):
 
 # For each place of a word what may stand there and just not any more; the first of each is what stands there in the whole script.
 ENDS = {
+    "ONE": "1 2 0 3 10 11 1.0".split(),
+    "TWO": "2 1 0 3 20 22 02 +2 -2 2.0 2\r".split(" "),
+    "GROUP": ["1", "0", "65535", "65536", "65537", str(2**32), str(2**64)],
+    "QUANTUM": ["4000000", "0", str(2**40), str(2**40 + 1), str(2**63), str(2**64)],
     "ID": "ABCDEFGH !ABCDEF~ ABCDEFG ABCDEFGHI ABCDEFG\x7f ABCDEFG\t ABCDEFG\u00e9".split(" "),
     "SEED": ["0", str(2**64 - 1), str(2**64)],
     "MPB": "500000 60060 60059 3000000 3000001".split(),
@@ -362,9 +381,19 @@ ENDS = {
     ).split(" "),
 }
 MISSPELLED = ["", "-0", "-1", "-01", "00", "01", "+1", "1.", "0x1", "1\r", "1\t", "\u00b2", "\u0661", "#", "x", "-", "9" * 40, "-" + "9" * 40]
-WHOLE = """\
-replay 1
+HEADS = [
+    """\
+replay ONE
 node ID SEED MPB BIT NOW
+""",
+    """\
+replay TWO
+node ID SEED MPB BIT NOW
+group GROUP
+quantum QUANTUM
+""",
+]
+BEHIND = """\
 gate ENDPOINT
 gate ENDPOINT
 to ENDPOINT
@@ -379,33 +408,52 @@ end NOW
 """
 
 
-def edges():
-    """A script that has lines of all kinds, with a word changed, taken out or parted by two spaces, or with a line taken out or doubled."""
-    spelled = lambda words: " ".join(ENDS.get(word, [word])[0] for word in words)
-    whole = [line.split(" ") for line in WHOLE.splitlines()]
-    text = lambda lines: ("\n".join(lines) + "\n").encode()
-    lines = [spelled(words) for words in whole]
+def spelled(words):
+    return [ENDS.get(word, [word])[0] for word in words]
+
+
+def text_of(lines):
+    return ("\n".join(lines) + "\n").encode()
+
+
+def edges(head):
+    """A script of this head that has lines of all kinds, with one change; and what may stand at its ends, and how often."""
+    whole = [line.split(" ") for line in (head + BEHIND).splitlines()]
+    lines, first = [" ".join(spelled(words)) for words in whole], len(head.splitlines())
     for at, words in enumerate(whole):
-        yield text(lines[:at] + lines[at + 1 :])
-        yield text(lines[: at + 1] + lines[at:])
-        yield text(lines[:at])
-        yield text([*lines[:at], "#", *lines[at : at + 1], "", *lines[at + 1 :]])
-        for place, word in enumerate(words):
-            wrong = ENDS[word] + MISSPELLED if word in ENDS else [word + "s", word[:-1], word.upper(), word + "\r"]
-            for other in wrong:
-                yield text(lines[:at] + [spelled(words[:place] + [other] + words[place + 1 :])] + lines[at + 1 :])
-            yield text(lines[:at] + [spelled(words[:place] + words[place + 1 :])] + lines[at + 1 :])
-            yield text(lines[:at] + [spelled(words[:place] + [""] + words[place:])] + lines[at + 1 :])
+        yield from lines_changed(lines, at)
+        for line in words_changed(words):
+            yield text_of(lines[:at] + [line] + lines[at + 1 :])
     gates = ["gate 1.2.3.4:5", "to 1.2.3.4:5"]
-    for more in ("", " ", "\r", "#", " #", "#\r", "end 5", "end 5 ", " end 5", "replay 1", "replay 2", "app 5 t 500000 0 0 s 1 0 0", *gates):
-        yield text(lines + [more])
-        yield text([more] + lines)
+    others = ["replay 1", "replay 2", "group 1", "quantum 5", "app 5 t 500000 0 0 s 1 0 0", *gates]
+    for more in ("", " ", "\r", "#", " #", "#\r", "end 5", "end 5 ", " end 5", *others):
+        yield text_of(lines + [more])
+        yield text_of([more] + lines)
     for count in (2, 3, 4, 5):
-        yield text(lines[:2] + lines[2:3] * count + lines[5:])
+        yield text_of(lines[:first] + lines[first : first + 1] * count + lines[first + 3 :])
     for count in (31, 32, 33):
-        yield text(lines[:4] + lines[4:5] * count + lines[2:3])
-    yield text(lines)[:-1]
-    yield text(lines) + b"\0"
+        yield text_of(lines[: first + 2] + lines[first + 2 : first + 3] * count + lines[first : first + 1])
+    yield text_of(lines)[:-1]
+    yield text_of(lines) + b"\0"
+
+
+def lines_changed(lines, at):
+    """The text with the line at a place taken out, doubled, exchanged with the next or behind others, and with nothing from there on."""
+    yield text_of(lines[:at] + lines[at + 1 :])
+    yield text_of(lines[: at + 1] + lines[at:])
+    yield text_of(lines[:at])
+    yield text_of(lines[:at] + lines[at : at + 2][::-1] + lines[at + 2 :])
+    yield text_of([*lines[:at], "#", *lines[at : at + 1], "", *lines[at + 1 :]])
+    for more in (["group 1"], ["quantum 5"], ["group 1", "quantum 5"]):
+        yield text_of(lines[:at] + more + lines[at:])
+
+
+def words_changed(words):
+    """The line with one word changed, taken out or parted by two spaces."""
+    for place, word in enumerate(words):
+        wrong = ENDS[word] + MISSPELLED if word in ENDS else [word + "s", word[:-1], word.upper(), word + "\r"]
+        for other in (*([one] for one in wrong), [], ["", *spelled([word])]):
+            yield " ".join(spelled(words[:place]) + other + spelled(words[place + 1 :]))
 
 
 def broken(draw):
@@ -445,7 +493,8 @@ def scripts(draw):
     for kind, count in ((measured, 150), (silent, 80), (crowded, 30), (sessions, 12), (spent, 30)):
         for _ in range(count):
             yield kind(draw).text()
-    yield from edges()
+    for head in HEADS:
+        yield from edges(head)
     for _ in range(300):
         yield broken(draw)
 

@@ -19,7 +19,11 @@ COMMANDS = {
     "decode": ["Usage: jorazhil decode < DATAGRAMS", "16,777,216 bytes"],
     "filter": ["Usage: jorazhil filter < PAIRS", "last 512 pairs", "16,777,216 bytes"],
     "load": ["Usage: jorazhil load <SEED> <COUNT>", "from 1 to 524288"],
-    "live": ["Usage: jorazhil live [OPTIONS] < SCRIPT", "--events <N>", "--blocks <N>", "--quantum <N>", "--record", "2 hours 55 minutes"],
+    "live": [
+        "Usage: jorazhil live [OPTIONS] < SCRIPT",
+        *("--events <N>", "--blocks <N>", "--quantum <N>", "--group <N>", "--record"),
+        "2 hours 55 minutes",
+    ],
 }
 GENERAL = ["Usage: jorazhil <COMMAND>", "jorazhil help COMMAND", "JORAZHIL_TRY=1", "Exit status:", *(f"jorazhil {name} " for name in COMMANDS)]
 FORMS = ["Usage: jorazhil <COMMAND>", *(f"jorazhil {name} " for name in COMMANDS)]

@@ -21,7 +21,16 @@ TOOL = os.path.join(HERE, "tools", "session.py")
 EXAMPLES = os.path.join(HERE, "examples")
 SVG = "{http://www.w3.org/2000/svg}"
 
-HEAD = "replay 1\nnode QRSTUVWX 1 500000 1 1000000\ngate 127.0.0.1:20809\nto 127.0.0.1:20808\n"
+NODE = "node QRSTUVWX 1 500000 1 1000000\n"
+GATE = "gate 127.0.0.1:20809\nto 127.0.0.1:20808\n"
+HEAD = "replay 1\n" + NODE + GATE
+
+
+def head_of(group):
+    """A head of version 2."""
+    return f"replay 2\n{NODE}group {group}\nquantum 4000000\n{GATE}"
+
+
 OWN, SLOW, FAST = b"QRSTUVWX", node.Timeline(500_000, 0, 0), node.Timeline(400_000, 600_000, 300_000)
 PLACE = node.endpoint_of("127.0.0.1:20808")
 OPENS = (
@@ -30,12 +39,12 @@ OPENS = (
 )
 
 
-def response(now, sender, session=OWN, line=SLOW, start=node.STOPPED):
-    return f"rx {now} 0 127.0.0.1:20808 {node.write_state(2, sender, session, line, start, PLACE).hex()}\n"
+def response(now, sender, session=OWN, line=SLOW, start=node.STOPPED, group=0):
+    return f"rx {now} 0 127.0.0.1:20808 {node.write_state(2, group, sender, session, line, start, PLACE).hex()}\n"
 
 
-def bye(now, sender):
-    return f"rx {now} 0 127.0.0.1:20808 {(b'_asdp_v' + bytes([1, 3, 0, 0, 0]) + sender).hex()}\n"
+def bye(now, sender, group=0):
+    return f"rx {now} 0 127.0.0.1:20808 {node.write_bye(group, sender).hex()}\n"
 
 
 def ping(now, payload):
@@ -106,12 +115,37 @@ SCRIPTS = [
     ),
 ]
 
+# In the group 258, with messages of other groups at the moments of those that are heard: none of them brought anything.
+GROUP_TEXT = (
+    head_of(258)
+    + response(1_100_000, b"ABCDEFGH", group=258)
+    + response(1_300_000, b"IJKLMNOP", b"IJKLMNOP")
+    + response(1_300_000, b"ABCDEFGH", line=FAST, group=258)
+    + response(1_300_000, b"RSTUVWXY", b"IJKLMNOP", group=513)
+    + "tick 1350000\n"
+    + bye(1_400_000, b"ABCDEFGH", 513)
+    + bye(1_400_000, b"ABCDEFGH", 258)
+    + bye(1_400_000, b"ABCDEFGH")
+    + "end 1500000\n"
+)
+GROUP_TOLD = (
+    OPENS.replace(" alone:", " alone in the group 258:")
+    + "0:00.100  ABCDEFGH at 127.0.0.1:20808 comes: 1 peer\n"
+    "0:00.300  the tempo is now 150.00 beats per minute, 400000 microseconds per beat (peer ABCDEFGH at 127.0.0.1:20808)\n"
+    "0:00.300  the beat moves: beat 0.000000 is now at 0:00.060000, and this moment is beat 0.600, as before (peer ABCDEFGH at 127.0.0.1:20808)\n"
+    "0:00.400  ABCDEFGH at 127.0.0.1:20808 says goodbye: no peer is left\n"
+    "0:00.400  a session of the new id >pz1+Yoc is founded\n"
+    "0:00.500  the node says goodbye to 127.0.0.1:20808\n"
+    "0:00.500  the recording ends: 9 events, 4 states shown, 2 datagrams sent\n"
+)
+
 # Of the pictures of examples: tempo steps, peer steps, spans in which it plays, sessions, offsets told, and marks with those of the legend.
 PICTURES = {
     "one-alive": (0, 0, 0, 1, 0, 0),
     "several-peers": (0, 0, 0, 1, 0, 0),
     "two-peers": (1, 2, 1, 2, 1, 3 + 2),
     "three-peers": (4, 6, 2, 3, 3, 4 + 5 + 4 + 4),
+    "two-groups": (0, 2, 0, 2, 1, 0),
 }
 
 
@@ -169,10 +203,13 @@ def examples(program, folder):
 
 
 def made_here(program, folder):
-    for name, events, lines in SCRIPTS:
-        text = "# live 1 2 3 4 5 6 7 8\n# state 0 500000\n" + HEAD + events
-        yield name, tell(["--program", program, "--svg", os.path.join(folder, "made.svg")], text.encode()), (0, OPENS + lines, "")
-        counted(read(folder, "made.svg"))
+    run = ["--program", program, "--svg", os.path.join(folder, "made.svg")]
+    for head in (HEAD, head_of(0)):
+        for name, events, lines in SCRIPTS:
+            text = "# live 1 2 3 4 5 6 7 8\n# state 0 500000\n" + head + events
+            yield f"{name}, behind `{head[:8]}`", tell(run, text.encode()), (0, OPENS + lines, "")
+            counted(read(folder, "made.svg"))
+    yield "messages of other groups", tell(run, GROUP_TEXT.encode()), (0, GROUP_TOLD, "")
     # An id of signs that mean something in XML, a gate without a place, and starts that aren't shared.
     name = "<&\"'>abc"
     text = f"replay 1\nnode {name} 1 2999999 0 7\ngate 127.0.0.1:20809\ntick 8\nend 3600000007\n"
@@ -197,14 +234,14 @@ def refused(program, folder):
     stored = lambda text: ["--output", write(folder, "output", text)]  # noqa: E731
     path = os.path.join(folder, "output")
     cases = [
-        ([], b"", "line 1: expected `replay 1`, found the end of the text"),
-        ([], b"# nothing\n\n", "line 3: expected `replay 1`, found the end of the text"),
+        ([], b"", "line 1: expected `replay 1` or `replay 2`, found the end of the text"),
+        ([], b"# nothing\n\n", "line 3: expected `replay 1` or `replay 2`, found the end of the text"),
         (
             [],
             b"link 1\nsetup 500000 1\n",
-            "line 1: expected `replay 1`, found `link 1`, a live script; what `live --record` writes of its run can be told",
+            "line 1: expected `replay 1` or `replay 2`, found `link 1`, a live script; what `live --record` writes of its run can be told",
         ),
-        ([], b"\xff\xfer\0e\0p\0", 'line 1: expected `replay 1`, found "\\xff\\xfer\\x00e\\x00p\\x00"'),
+        ([], b"\xff\xfer\0e\0p\0", 'line 1: expected `replay 1` or `replay 2`, found "\\xff\\xfer\\x00e\\x00p\\x00"'),
         (
             [],
             HEAD.replace("\n", "\r\n").encode(),
@@ -215,6 +252,24 @@ def refused(program, folder):
             HEAD.replace("STUVWX", "").encode(),
             "line 2: expected `node` and a node's id, seed, tempo, sync and opening moment, found \"node QR 1 500000 1 1000000\"",
         ),
+        ([], b"replay 3\n", 'line 1: expected `replay 1` or `replay 2`, found "replay 3"'),
+        ([], b"replay 2\n", "line 2: expected `node` and a node's id, seed, tempo, sync and opening moment, found the end of the text"),
+        ([], b"replay 2\n" + NODE.encode(), "line 3: expected `group` and a number from 0 to 65535, found the end of the text"),
+        ([], HEAD.replace("1", "2", 1).encode(), 'line 3: expected `group` and a number from 0 to 65535, found "gate 127.0.0.1:20809"'),
+        ([], head_of(65_536).encode(), 'line 3: expected `group` and a number from 0 to 65535, found "group 65536"'),
+        ([], head_of("01").encode(), 'line 3: expected `group` and a number from 0 to 65535, found "group 01"'),
+        (
+            [],
+            head_of(1).replace("quantum 4000000\n", "").encode(),
+            'line 4: expected `quantum` and a number from 0 to 1099511627776, found "gate 127.0.0.1:20809"',
+        ),
+        (
+            [],
+            head_of(1).replace("4000000", "1099511627777").encode(),
+            'line 4: expected `quantum` and a number from 0 to 1099511627776, found "quantum 1099511627777"',
+        ),
+        ([], head_of(1)[: -len(GATE)].encode(), "line 5: expected `gate` and an endpoint, found the end of the text"),
+        ([], head_of(1).replace("2", "1", 1).encode(), 'line 3: expected `gate` and an endpoint, found "group 1"'),
         ([], HEAD[:41].encode() + b"\n", "line 3: expected `gate` and an endpoint, found the end of the text"),
         ([], HEAD.encode() + b"tick 5\nwait 5\n", 'line 6: expected an event: `rx`, `tick`, `app`, `audio` or `end`, found "wait 5"'),
         ([], HEAD.encode() + b"tick 05\n", 'line 5: expected `tick` and a moment, found "tick 05"'),

@@ -10,8 +10,12 @@ import socket
 import subprocess
 import sys
 
-HEAD = b"replay 1\nnode QRSTUVWX 1 500000 1 1000000\ngate 127.0.0.1:20809\n"
+NODE = b"node QRSTUVWX 1 500000 1 1000000\n"
 GATE = b"gate 127.0.0.1:20809\n"
+HEAD = b"replay 1\n" + NODE + GATE
+# The front of a head of version 2, and a whole one.
+FRONT = b"replay 2\n" + NODE
+HEAD_2 = FRONT + b"group 1\nquantum 4000000\n" + GATE
 OPENING = b"state 0 500000 0 1000000 0 0 0 1 0 1000000 0 0\n"
 
 # A gate at a port that the system picks, and a last command that ends the run at once.
@@ -46,6 +50,7 @@ Options:
       --blocks <N>   how many blocks of 20 milliseconds are played at most, from 0 to 524288 [default: 262144]
       --quantum <N>  the length in microbeats that accents and phases are counted in, from 0, which is none, \
 to 1099511627776 [default: 4000000]
+      --group <N>    the group of the nodes that hear each other, from 0, which all Link programs are in, to 65535 [default: 0]
       --record       also writes the run's replay script
 """
 INPUT = b"jorazhil: standard input could not be read: %s; nothing was written\n"
@@ -75,7 +80,16 @@ GATE_OR_COMMAND = b"`gate`, `to` or a command: `at` or `block`"
 ACT = b"`tempo`, `force`, `request`, `play`, `stop` or `look`"
 BLOCK_ACT = b"`tempo`, `play` or `stop`"
 MOMENT = b"a moment from 0 to 36028797018963968 microseconds"
+VERSION = b"`replay 1` or `replay 2`"
+NODE_LINE = b"`node` and a node's id, seed, tempo, sync and opening moment"
+GROUP_LINE = b"`group` and a number from 0 to 65535, which stand before the gates in version 2"
+GROUP = b"a number from 0 to 65535"
+QUANTUM_LINE = b"`quantum` and a number from 0 to 1099511627776, which stand before the gates in version 2"
+QUANTUM = b"a number from 0 to 1099511627776 microbeats (4000000 is four beats)"
+GATE_LINE = b"`gate` and the endpoint of the node's first gate"
+GATE_TO_OR_EVENT = b"`gate`, `to` or an event: `rx`, `tick`, `app`, `audio` or `end`"
 EVENT = b"an event: `rx`, `tick`, `app`, `audio` or `end`"
+TEXT_END = b"the end of the text"
 SAMPLE = b"a sample count from -1152921504606846976 to 1152921504606846976"
 HOST = b"a host time from -1152921504606846976 to 1152921504606846976 microseconds"
 LINE_END = b"the end of the line"
@@ -133,13 +147,47 @@ TEXTS = [
     ),
     (["live", "--blocks"], LINK, 2, words_at_fault(b"a value is required for '--blocks <N>' but none was supplied", LIVE)),
     (["live", "--quantum", "-1"], LINK, 2, words_at_fault(b"unexpected argument '-1' found", LIVE)),
+    (["live", "--group", "65536"], LINK, 2, words_at_fault(b"invalid value '65536' for '--group <N>': 65536 is not in 0..=65535", LIVE)),
+    (["live", "--group", "-1"], LINK, 2, words_at_fault(b"unexpected argument '-1' found", LIVE)),
+    (["live", "--group", "x"], LINK, 2, words_at_fault(b"invalid value 'x' for '--group <N>': invalid digit found in string", LIVE)),
+    (["live", "--group"], LINK, 2, words_at_fault(b"a value is required for '--group <N>' but none was supplied", LIVE)),
+    (["live", "--group", "1", "--group", "2"], LINK, 2, words_at_fault(b"the argument '--group <N>' cannot be used multiple times", LIVE)),
     (["live", "--event", "5"], LINK, 2, words_at_fault(b"unexpected argument '--event' found", LIVE)),
     (["live", "--bogus"], LINK, 2, words_at_fault(b"unexpected argument '--bogus' found", LIVE)),
     (["live", "x"], LINK, 2, words_at_fault(b"unexpected argument 'x' found", LIVE)),
     (["live", "--record", "x"], LINK, 2, words_at_fault(b"unexpected argument 'x' found", LIVE)),
     (["live", "--record", "--record"], LINK, 2, words_at_fault(b"the argument '--record' cannot be used multiple times", LIVE)),
-    (["replay"], b"replay 2\n", 8, at_fault(1, 8, b"`replay 1`", b'"2"')),
-    (["replay"], b"replay 1\n", 8, at_fault(2, 1, b"`node` and a node's id, seed, tempo, sync and opening moment", b"the end of the text")),
+    (["replay"], b"", 8, at_fault(1, 1, VERSION, TEXT_END)),
+    (["replay"], b"replay 3\n", 8, at_fault(1, 8, VERSION, b'"3"')),
+    (["replay"], b"replay 02\n", 8, at_fault(1, 8, VERSION, b'"02"')),
+    (["replay"], b"replay\n", 8, at_fault(1, 7, VERSION, LINE_END)),
+    (["replay"], b"replay 2 \n", 8, at_fault(1, 10, LINE_END, NO_WORD)),
+    (["replay"], b"replay 2\r\n", 8, at_fault(1, 9, VERSION, CARRIAGE_RETURN)),
+    (["replay"], b"replay 2\n", 8, at_fault(2, 1, NODE_LINE, TEXT_END)),
+    (["replay"], b"replay 1\n", 8, at_fault(2, 1, NODE_LINE, TEXT_END)),
+    # The lines of the group and of the quantum: none, others, wrong words and too many.
+    (["replay"], FRONT, 8, at_fault(3, 1, GROUP_LINE, TEXT_END)),
+    (["replay"], FRONT + GATE, 8, at_fault(3, 1, GROUP_LINE, b'"gate"')),
+    (["replay"], FRONT + b"quantum 4000000\n", 8, at_fault(3, 1, GROUP_LINE, b'"quantum"')),
+    (["replay"], FRONT + b"group\n", 8, at_fault(3, 6, GROUP, LINE_END)),
+    (["replay"], FRONT + b"group  1\n", 8, at_fault(3, 7, GROUP, NO_WORD)),
+    (["replay"], FRONT + b"group 65536\nquantum 4000000\n" + GATE, 8, at_fault(3, 7, GROUP, b'"65536"')),
+    (["replay"], FRONT + b"group 01\n", 8, at_fault(3, 7, GROUP, b'"01"')),
+    (["replay"], FRONT + b"group -1\n", 8, at_fault(3, 7, GROUP, b'"-1"')),
+    (["replay"], FRONT + b"group 1 1\n", 8, at_fault(3, 9, LINE_END, b'"1"')),
+    (["replay"], FRONT + b"group 1\r\n", 8, at_fault(3, 8, GROUP, CARRIAGE_RETURN)),
+    (["replay"], FRONT + b"group 1\n", 8, at_fault(4, 1, QUANTUM_LINE, TEXT_END)),
+    (["replay"], FRONT + b"group 1\n" + GATE, 8, at_fault(4, 1, QUANTUM_LINE, b'"gate"')),
+    (["replay"], FRONT + b"group 1\ngroup 1\n", 8, at_fault(4, 1, QUANTUM_LINE, b'"group"')),
+    (["replay"], FRONT + b"group 1\n# too much\nquantum 1099511627777\n" + GATE, 8, at_fault(5, 9, QUANTUM, b'"1099511627777"')),
+    (["replay"], FRONT + b"group 1\nquantum +4000000\n", 8, at_fault(4, 9, QUANTUM, b'"+4000000"')),
+    (["replay"], FRONT + b"group 1\nquantum 4000000 \n", 8, at_fault(4, 17, LINE_END, NO_WORD)),
+    (["replay"], HEAD_2[: -len(GATE)], 8, at_fault(5, 1, GATE_LINE, TEXT_END)),
+    (["replay"], HEAD_2[: -len(GATE)] + b"quantum 4000000\n", 8, at_fault(5, 1, GATE_LINE, b'"quantum"')),
+    (["replay"], HEAD_2 + b"group 1\n", 8, at_fault(6, 1, GATE_TO_OR_EVENT, b'"group"')),
+    (["replay"], HEAD_2 + b"tick 5\nquantum 5\n", 8, at_fault(7, 1, EVENT, b'"quantum"')),
+    (["replay"], HEAD_2 + b"rx 0 1 127.0.0.1:1 00\n", 8, at_fault(6, 6, b"0, the number of the only gate", b'"1"')),
+    (["replay"], b"replay 1\n" + NODE + b"group 0\n", 8, at_fault(3, 1, GATE_LINE, b'"group"')),
     (
         ["replay"],
         HEAD.replace(b"500000", b"60059"),
@@ -155,7 +203,7 @@ TEXTS = [
     (["replay"], HEAD + GATE * 2 + b"rx 0 3 127.0.0.1:1 00\n", 8, at_fault(6, 6, b"the number of a gate from 0 to 2", b'"3"')),
     (["replay"], HEAD + GATE * 3 + b"rx 0 4 127.0.0.1:1 00\n", 8, at_fault(7, 6, b"the number of a gate from 0 to 3", b'"4"')),
     (["replay"], HEAD + b"tick 5\r\n", 8, at_fault(4, 7, MOMENT, b"a carriage return (lines end in line feeds alone)")),
-    (["live"], b"", 8, at_fault(1, 1, b"`link 1`", b"the end of the text")),
+    (["live"], b"", 8, at_fault(1, 1, b"`link 1`", TEXT_END)),
     (["live"], b"replay 1\n", 8, at_fault(1, 1, b"`link 1`", b'"replay"')),
     (["live"], b"link 1\nat x tempo\n", 8, at_fault(2, 1, b"`setup` and a tempo and a sync", b'"at"')),
     (["live"], LINK + b"# a comment\n\nlook\n", 8, at_fault(6, 1, GATE_OR_COMMAND, b'"look"')),
@@ -207,6 +255,14 @@ NO_LIVE_RUN = [
     ["live", "--events", "18446744073709551616"],
     ["live", "--blocks", "524289"],
     ["live", "--quantum", "1099511627777"],
+    ["live", "--group", "65536"],
+    ["live", "--group", "18446744073709551616"],
+    ["live", "--group="],
+    ["live", "--group=-0"],
+    ["live", "--group", "1.0"],
+    ["live", "--group", "1", "--group", "1"],
+    ["live", "--group=1", "--quantum=1", "--group=1"],
+    ["live", "--groups", "1"],
     ["live", "--events", "7", "--events", "8"],
     ["live", "--events=7", "--events=7"],
     ["live", "--quantum", "1", "--blocks", "2", "--quantum", "1"],

@@ -1,9 +1,11 @@
 """Runs worked out by hand, for the checks of `decode` and `replay`: what is read, and what has to come of it.
 
 In the texts `=` stands for the lines of a head, `@` for the alive of a peer, `&` for what the node of the head answers, and `%` for the
-line of its opening.
+line of its opening. `~` is the first two lines of a head of version 2, with the same node, `!` the same alive in group 1, and `?` what is
+answered in that group.
 """
 HEAD = "replay 1\nnode QRSTUVWX 1 500000 1 1000000\ngate 127.0.0.1:20809\n"
+FRONT = "replay 2\nnode QRSTUVWX 1 500000 1 1000000\n"
 OPENING = "state 0 500000 0 1000000 0 0 0 1 0 1000000 0 0\n"
 # The node ABCDEFGH in its own session: 500000 microseconds per beat from beat 0 at time 0, no start, the endpoint 127.0.0.1:20808.
 ALIVE = (
@@ -16,7 +18,9 @@ RESPONSE = (
 )
 ALIVE_TOLD = "alive 4142434445464748 5 0 500000 0 0 4142434445464748 0 0 0 127.0.0.1:20808\n"
 RESPONSE_TOLD = "response 5152535455565758 5 0 500000 0 0 5152535455565758 0 0 0 127.0.0.1:20809\n"
-LETTERS = {"=": HEAD, "%": OPENING, "@": ALIVE, "&": RESPONSE}
+# The same two in group 1, whose two bytes stand before the id.
+ALIVE_OF_1, RESPONSE_OF_1 = (told.replace("050000", "050001", 1) for told in (ALIVE, RESPONSE))
+LETTERS = {"=": HEAD, "~": FRONT, "%": OPENING, "@": ALIVE, "&": RESPONSE, "!": ALIVE_OF_1, "?": RESPONSE_OF_1}
 
 # Texts of datagrams, and what is told of them.
 DECODED = [
@@ -214,6 +218,51 @@ REPLAYED = [
             "done 1 1 1\n"
         ),
     ),
+    # A node of group 1 passes over an alive of group 0, and answers one of group 1 in group 1.
+    (
+        "~group 1\nquantum 4000000\ngate 127.0.0.1:20809\nrx 1000100 0 127.0.0.1:20808 @\nrx 1000100 0 127.0.0.1:20808 !\n",
+        "%tx 1000100 0 127.0.0.1:20808 ?\ndone 2 1 1\n",
+    ),
+    # One of group 0 hears that group alone, as one of version 1 does.
+    (
+        "~group 0\nquantum 0\ngate 127.0.0.1:20809\nrx 1000100 0 127.0.0.1:20808 !\nrx 1000100 0 127.0.0.1:20808 @\n",
+        "%tx 1000100 0 127.0.0.1:20808 &\ndone 2 1 1\n",
+    ),
+    # The groups 1 and 256 have the same two bytes in another order.
+    (
+        "~group 256\nquantum 4000000\ngate 127.0.0.1:20809\nrx 1000100 0 127.0.0.1:20808 !\n",
+        "%done 1 1 0\n",
+    ),
+    # In group 258: a tick broadcasts and an end says goodbye.
+    (
+        "~group 258\nquantum 1099511627776\ngate 127.0.0.1:20809\nto 127.0.0.1:20808\ntick 1000000\nend 2000000\n",
+        (
+            "%tx 1000000 0 127.0.0.1:20808 5f617364705f7601010501025152535455565758746d6c6e00000018000000000007a1200000000000000000000000000000000073657373000000085152535455565758737473740000001100000000000000000000000000000000006d657034000000067f0000015149\n"
+            "tx 2000000 0 127.0.0.1:20808 5f617364705f7601030001025152535455565758\n"
+            "done 2 1 2\n"
+        ),
+    ),
+    # A peer of the own session in group 1 isn't gone with a goodbye of group 0 or 256, but when 5 s to live and 1 s more are over.
+    (
+        (
+            "~group 1\nquantum 4000000\ngate 127.0.0.1:20809\n"
+            "rx 2000000 0 127.0.0.1:20808 5f617364705f7601020500014142434445464748746d6c6e00000018000000000007a1200000000000000000000000000000000073657373000000085152535455565758737473740000001100000000000000000000000000000000006d657034000000067f0000015148\n"
+            "rx 3000000 0 127.0.0.1:20808 5f617364705f7601030000004142434445464748\n"
+            "rx 3000000 0 127.0.0.1:20808 5f617364705f7601030001004142434445464748\n"
+            "tick 7999999\n"
+            "tick 8000000\n"
+        ),
+        "%state 1 500000 0 1000000 0 0 0 1 1 2000000 0 0\nstate 2 500000 0 1000000 0 0 0 1 0 8000000 0 0\ndone 5 3 0\n",
+    ),
+    # With one of group 1 it is, at once.
+    (
+        (
+            "~group 1\nquantum 4000000\ngate 127.0.0.1:20809\n"
+            "rx 2000000 0 127.0.0.1:20808 5f617364705f7601020500014142434445464748746d6c6e00000018000000000007a1200000000000000000000000000000000073657373000000085152535455565758737473740000001100000000000000000000000000000000006d657034000000067f0000015148\n"
+            "rx 3000000 0 127.0.0.1:20808 5f617364705f7601030000014142434445464748\n"
+        ),
+        "%state 1 500000 0 1000000 0 0 0 1 1 2000000 0 0\nstate 2 500000 0 1000000 0 0 0 1 0 3000000 0 0\ndone 2 3 0\n",
+    ),
     # An end says goodbye, and what comes after it is answered as before.
     (
         (
@@ -235,7 +284,43 @@ REPLAYED = [
 EDGES = [
     ("", 1),
     ("# nothing else\n", 2),
-    ("replay 2\n", 1),
+    ("replay 2\n", 2),
+    ("replay 3\n", 1),
+    ("replay 0\n", 1),
+    ("replay 02\n", 1),
+    ("replay 2 \n", 1),
+    ("replay 1 2\n", 1),
+    ("~", 3),
+    ("~group 1\n", 4),
+    ("~group 1\n# no quantum\n", 5),
+    ("~group 1\nquantum 4000000\n", 5),
+    ("~gate 127.0.0.1:20809\n", 3),
+    ("~group 1\ngate 127.0.0.1:20809\n", 4),
+    ("~quantum 4000000\ngroup 1\ngate 127.0.0.1:20809\n", 3),
+    ("~quantum 4000000\ngate 127.0.0.1:20809\n", 3),
+    ("~group 1\ngroup 1\nquantum 4000000\ngate 127.0.0.1:20809\n", 4),
+    ("~group 1\nquantum 4000000\nquantum 4000000\ngate 127.0.0.1:20809\n", 5),
+    ("~gate 127.0.0.1:20809\ngroup 1\nquantum 4000000\n", 3),
+    ("~group 1\nquantum 4000000\ngate 127.0.0.1:20809\ngroup 1\n", 6),
+    ("~group 1\nquantum 4000000\ngate 127.0.0.1:20809\ntick 5\nquantum 4000000\n", 7),
+    ("~group 0\nquantum 0\ngate 127.0.0.1:20809\n", 0),
+    ("~\n# the greatest\ngroup 65535\n\nquantum 1099511627776\ngate 127.0.0.1:20809", 0),
+    ("~group 65536\nquantum 4000000\ngate 127.0.0.1:20809\n", 3),
+    ("~\n# too great\ngroup 65536\nquantum 4000000\ngate 127.0.0.1:20809\n", 5),
+    ("~group 01\nquantum 4000000\ngate 127.0.0.1:20809\n", 3),
+    ("~group +1\nquantum 4000000\ngate 127.0.0.1:20809\n", 3),
+    ("~group -0\nquantum 4000000\ngate 127.0.0.1:20809\n", 3),
+    ("~group -1\nquantum 4000000\ngate 127.0.0.1:20809\n", 3),
+    ("~group\nquantum 4000000\ngate 127.0.0.1:20809\n", 3),
+    ("~group 1 1\nquantum 4000000\ngate 127.0.0.1:20809\n", 3),
+    ("~group 1\nquantum 1099511627777\ngate 127.0.0.1:20809\n", 4),
+    ("~group 1\nquantum 04000000\ngate 127.0.0.1:20809\n", 4),
+    ("~group 1\nquantum -4000000\ngate 127.0.0.1:20809\n", 4),
+    ("~group 1\nquantum 4000000\r\ngate 127.0.0.1:20809\n", 4),
+    ("~group 1\nquantum \ngate 127.0.0.1:20809\n", 4),
+    ("replay 1\nnode QRSTUVWX 1 500000 1 1000000\ngroup 0\nquantum 4000000\ngate 127.0.0.1:20809\n", 3),
+    ("replay 1\nnode QRSTUVWX 1 500000 1 1000000\nquantum 4000000\ngate 127.0.0.1:20809\n", 3),
+    ("=group 0\n", 4),
     ("replay 1\r\n", 1),
     ("replay 1", 2),
     ("replay 1\n\n# no node\ngate 127.0.0.1:20809\n", 4),

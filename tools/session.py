@@ -4,8 +4,8 @@
 A recording is a replay script (docs/FORMATS.md), by hand or of `jorazhil live --record`. What its node sent and showed isn't worked out
 here: the states and datagrams are those that `jorazhil replay` writes for it, and what a datagram says is what `jorazhil decode` tells,
 which is asked once for all that came and all that were sent (and again where they are more than it takes at once). From the script are
-taken the node's id, the moment of its opening, and its events. Times are since the opening, m:ss.mmm in minutes and seconds; those of beats
-have microseconds. In brackets behind a change stands whose it was.
+taken the node's id, its group, the moment of its opening, and its events. Times are since the opening, m:ss.mmm in minutes and seconds;
+those of beats have microseconds. In brackets behind a change stands whose it was.
 
 A line of the output is told of the event that it follows from. Where several events have one moment, the output doesn't always tell which
 of them it was: a state is then told of a datagram rather than of a tick, and of no peer where the datagrams of several could have brought
@@ -13,12 +13,12 @@ it. A peer that is heard no more is told by the number of peers alone. Which ses
 A new one stands where its output tells when it began: at the pong or the departure behind which a state is shown; and where there is none
 at the datagram that tells it, with the words "by now".
 """
-import re
 import sys
 from collections import deque, namedtuple
 
 sys.dont_write_bytecode = True
-from shared import Drawing, Lane, Words, clock, decimals, end_of, fault, lines_of, quoted, read_file, round_step, run  # noqa: E402
+from recording import Sent, State, datagrams, read_decoded, read_output, read_script, said_in  # noqa: E402
+from shared import Drawing, Lane, Words, clock, decimals, end_of, fault, quoted, read_file, round_step, run  # noqa: E402
 from shared import LEFT_X, RIGHT_X, SECOND, write_picture  # noqa: E402
 
 OPTIONS = """\
@@ -37,156 +37,10 @@ A program that isn't built yet is proved first, which takes its time; with JORAZ
 Exit status: 0 where all was told, or where nobody reads on; 2 with a sentence on standard error for anything else.
 """
 
+# Running the program.
+
 # What `decode` takes at once, in bytes.
 DECODED_AT_ONCE = 16_777_216
-# A pong that is sent ends in the ping's payload, whatever that was: what the node says stands in the digits before.
-PONG, PONG_DIGITS = "5f6c696e6b5f760102", 82
-
-NUMBER, ENDPOINT = "(0|-?[1-9][0-9]{0,19})", r"([0-9.]{7,15}:[0-9]{1,5})"
-NODE = re.compile(f"node ([!-~]{{8}}) {NUMBER} {NUMBER} ([01]) {NUMBER}")
-EVENT = "an event: `rx`, `tick`, `app`, `audio` or `end`"
-EVENTS = {
-    "rx": (re.compile(f"rx {NUMBER} ([0-3]) {ENDPOINT} (-|[0-9A-Fa-f]+)"), "`rx`, a moment, a gate, an endpoint and a datagram in hex"),
-    "tick": (re.compile(f"tick {NUMBER}"), "`tick` and a moment"),
-    "app": (re.compile(f"app {NUMBER} .+"), "`app`, a moment and a commit"),
-    "audio": (re.compile(f"audio {NUMBER} {NUMBER} .+"), "`audio`, a moment, a number and a commit"),
-    "end": (re.compile(f"end {NUMBER}"), "`end` and a moment"),
-}
-STATE = re.compile("state" + f" {NUMBER}" * 12)
-SENT = re.compile(f"tx {NUMBER} ([0-3]) {ENDPOINT} ([0-9a-f]+)")
-DONE = re.compile("done" + f" {NUMBER}" * 3)
-ID = "[0-9a-f]{16}"
-DECODED = re.compile(
-    f"(alive|response) {ID} [0-9]+ [0-9]+( -?[0-9]+){{3}} {ID} [01]( -?[0-9]+){{2}} [0-9.:-]+|bye {ID} [0-9]+ [0-9]+|ping [0-9a-f-]+"
-    f"|pong {ID}( -?[0-9]+){{3}}|(other|fault) .+"
-)
-
-# The moment is the node's, the greatest so far. Of commits: how many applications' were taken, and the audio thread's last number.
-Event = namedtuple("Event", "line kind now moment apps audio gate endpoint digits")
-Script = namedtuple("Script", "name opened mpb sync places events")
-State = namedtuple("State", "line number mpb beat time playing start stamp sync peers moment apps audio")
-Sent = namedtuple("Sent", "line now gate endpoint digits")
-# The lines in their order, each a State or a Sent.
-Output = namedtuple("Output", "states sent lines done")
-
-
-# Reading.
-
-
-def read_script(text):
-    lines = lines_of(text, "")
-    said = [(count, line) for count, line in enumerate(lines, 1) if line and not line.startswith("#")]
-    said.append((len(lines) + 1, None))
-    number, first = said[0]
-    if first == "link 1":
-        raise fault("", number, "`replay 1`", "`link 1`, a live script; what `live --record` writes of its run can be told")
-    if first != "replay 1":
-        raise fault("", number, "`replay 1`", quoted(first))
-    number, second = said[1]
-    node = NODE.fullmatch(second or "")
-    if not node:
-        raise fault("", number, "`node` and a node's id, seed, tempo, sync and opening moment", quoted(second))
-    opened, places, gates, head = int(node[5]), [], 0, 2
-    for number, line in said[2:]:
-        words = (line or "").split(" ")
-        if words[0] == "gate" and re.fullmatch(ENDPOINT, " ".join(words[1:])):
-            gates += 1
-        elif words[0] == "to" and gates and re.fullmatch(ENDPOINT, " ".join(words[1:])):
-            places.append((gates - 1, words[1]))
-        else:
-            break
-        head += 1
-    if not gates:
-        raise fault("", number, "`gate` and an endpoint", quoted(line))
-    events = read_events(said[head:-1], opened, gates)
-    return Script(node[1], opened, int(node[3]), int(node[4]), places, events)
-
-
-def read_events(said, opened, gates):
-    events, moment, apps, audio = [], opened, 0, 0
-    for number, line in said:
-        kind = line.split(" ", 1)[0]
-        form, expected = EVENTS.get(kind, (None, EVENT))
-        found = form and form.fullmatch(line)
-        if not found:
-            raise fault("", number, expected, quoted(line))
-        now, gate, endpoint, digits = int(found[1]), None, None, None
-        moment = max(moment, now)
-        if kind == "rx":
-            gate, endpoint, digits = int(found[2]), found[3], "" if found[4] == "-" else found[4].lower()
-            if gate >= gates:
-                raise fault("", number, f"a gate below {gates}", quoted(found[2]))
-            if len(digits) % 2 or len(digits) > 1026:
-                raise fault("", number, "two hex digits for each byte, of 513 bytes at most", f"{len(digits)} digits")
-        elif kind == "app":
-            apps += 1
-        elif kind == "audio":
-            audio = int(found[2])
-        events.append(Event(number, kind, now, moment, apps, audio, gate, endpoint, digits))
-    return events
-
-
-def read_output(text, where, script):
-    """What `replay` writes, where it can be that of this script."""
-    states, sent, lines, done = [], [], [], None
-    all_lines = lines_of(text, where)
-    for number, line in enumerate(all_lines, 1):
-        if done:
-            raise fault(where, number, "nothing behind the line `done`", quoted(line))
-        if found := STATE.fullmatch(line):
-            states.append(State(number, *map(int, found.groups())))
-            lines.append(states[-1])
-            if states[-1].number != len(states) - 1:
-                raise fault(where, number, f"state {len(states) - 1}", f"state {states[-1].number}")
-        elif (found := SENT.fullmatch(line)) and len(found[4]) % 2 == 0:
-            sent.append(Sent(number, int(found[1]), int(found[2]), found[3], found[4]))
-            lines.append(sent[-1])
-        elif found := DONE.fullmatch(line):
-            done = number
-            counts, wanted = tuple(map(int, found.groups())), (len(script.events), len(states), len(sent))
-            if counts[0] != wanted[0]:
-                raise fault(where, number, f"the output of this recording, which has {wanted[0]} events", f"that of {counts[0]}")
-            if counts != wanted:
-                raise fault(where, number, f"`done {wanted[0]} {wanted[1]} {wanted[2]}` behind these lines", quoted(line))
-        else:
-            raise fault(where, number, "a line that `replay` writes: `state`, `tx` or `done`", quoted(line))
-        if number == 1:
-            check_opening(where, line, states, script)
-    if not done:
-        raise fault(where, len(all_lines) + 1, "`done` and three counts" if states else "the opening state", "the end of the text")
-    return Output(states, sent, lines, done)
-
-
-def check_opening(where, line, states, script):
-    wanted = (script.mpb, script.sync, script.opened, 0, 0, 0)
-    if not states or (states[0].mpb, states[0].sync, states[0].moment, states[0].peers, states[0].apps, states[0].audio) != wanted:
-        raise fault(where, 1, "the opening state of this recording's node", quoted(line))
-
-
-def said_in(digits):
-    """Of a datagram that was sent, the digits of what the node says."""
-    return digits[:PONG_DIGITS] if digits.startswith(PONG) else digits
-
-
-def datagrams(script, output):
-    """Those that came and those that were sent, each once."""
-    came = (event.digits for event in script.events if event.kind == "rx")
-    return list(dict.fromkeys([*came, *(said_in(sent.digits) for sent in output.sent)]))
-
-
-def read_decoded(text, where, digits):
-    """The words that `decode` tells, by the digits of the datagram."""
-    lines = lines_of(text, where)
-    for number, line in enumerate(lines, 1):
-        if not DECODED.fullmatch(line):
-            raise fault(where, number, "what `decode` tells of a datagram", quoted(line))
-    if len(lines) != len(digits):
-        expected = f"a line for each of the {len(digits)} datagrams of this recording"
-        raise fault(where, min(len(lines), len(digits)) + 1, expected, f"{len(lines)}")
-    return {one: line.split(" ") for one, line in zip(digits, lines)}
-
-
-# Running the program.
 
 
 def run_decode(program, digits):
@@ -214,6 +68,11 @@ FELL, FELL_BY_ONE, REQUIRED = "fell", "fell by one", "required"
 MANY = 200
 
 
+def is_heard(words, group):
+    """Whether a datagram, as it is told, can be heard in a group. Pings and pongs have none, and are heard in all."""
+    return words[0] not in ("alive", "response", "bye") or int(words[3]) == group
+
+
 def slots_of(script, told):
     slots = []
     for index, event in enumerate(script.events):
@@ -226,7 +85,7 @@ def slots_of(script, told):
                 slots.append(Slot(index, ("bye", event.now), REQUIRED))
         elif event.kind != "rx":
             slots.append(Slot(index, state, REQUIRED))
-        else:
+        elif is_heard(told[event.digits], script.group):
             kind = told[event.digits][0]
             if kind == "alive":
                 slots += [Slot(index, ("response", *here), None), Slot(index, state, None)]
@@ -403,7 +262,8 @@ class Story:
     def opening(self, state):
         shared = "starts are shared" if state.sync else "starts aren't shared"
         beat = f"beat {beat_words(state.beat)} is at {self.time(state.time, 6)}"
-        self.tell(-1, OPENING, f"{self.script.name} opens alone: {tempo_words(state.mpb)}, {beat}, {self.playing_words(state)}, {shared}")
+        opens = f"{self.script.name} opens alone" + (f" in the group {self.script.group}" if self.script.group else "")
+        self.tell(-1, OPENING, f"{opens}: {tempo_words(state.mpb)}, {beat}, {self.playing_words(state)}, {shared}")
         self.tempo.append(Change(state.moment, state.mpb, "", ""))
         self.peers.append(Change(state.moment, state.peers, "", ""))
 
@@ -441,6 +301,8 @@ class Story:
         for index in range(first, event):
             digits = self.script.events[index].digits
             words = self.told[digits] if digits is not None else [""]
+            if not is_heard(words, self.script.group):
+                continue
             if words[0] in ("alive", "response"):
                 self.heard_at.setdefault(words[7], index)
             elif words[0] == "bye":

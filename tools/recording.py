@@ -1,0 +1,170 @@
+"""Reading a recording, and what `replay` and `decode` write for it."""
+import re
+from collections import namedtuple
+
+from shared import fault, lines_of, quoted
+
+# A pong that is sent ends in the ping's payload, whatever that was: what the node says stands in the digits before.
+PONG, PONG_DIGITS = "5f6c696e6b5f760102", 82
+
+NUMBER, ENDPOINT = "(0|-?[1-9][0-9]{0,19})", r"([0-9.]{7,15}:[0-9]{1,5})"
+NODE = re.compile(f"node ([!-~]{{8}}) {NUMBER} {NUMBER} ([01]) {NUMBER}")
+VERSIONS = "`replay 1` or `replay 2`"
+EVENT = "an event: `rx`, `tick`, `app`, `audio` or `end`"
+EVENTS = {
+    "rx": (re.compile(f"rx {NUMBER} ([0-3]) {ENDPOINT} (-|[0-9A-Fa-f]+)"), "`rx`, a moment, a gate, an endpoint and a datagram in hex"),
+    "tick": (re.compile(f"tick {NUMBER}"), "`tick` and a moment"),
+    "app": (re.compile(f"app {NUMBER} .+"), "`app`, a moment and a commit"),
+    "audio": (re.compile(f"audio {NUMBER} {NUMBER} .+"), "`audio`, a moment, a number and a commit"),
+    "end": (re.compile(f"end {NUMBER}"), "`end` and a moment"),
+}
+STATE = re.compile("state" + f" {NUMBER}" * 12)
+SENT = re.compile(f"tx {NUMBER} ([0-3]) {ENDPOINT} ([0-9a-f]+)")
+DONE = re.compile("done" + f" {NUMBER}" * 3)
+ID = "[0-9a-f]{16}"
+DECODED = re.compile(
+    f"(alive|response) {ID} [0-9]+ [0-9]+( -?[0-9]+){{3}} {ID} [01]( -?[0-9]+){{2}} [0-9.:-]+|bye {ID} [0-9]+ [0-9]+|ping [0-9a-f-]+"
+    f"|pong {ID}( -?[0-9]+){{3}}|(other|fault) .+"
+)
+
+# The moment is the node's, the greatest so far. Of commits: how many applications' were taken, and the audio thread's last number.
+Event = namedtuple("Event", "line kind now moment apps audio gate endpoint digits")
+Script = namedtuple("Script", "name opened mpb sync group places events")
+State = namedtuple("State", "line number mpb beat time playing start stamp sync peers moment apps audio")
+Sent = namedtuple("Sent", "line now gate endpoint digits")
+# The lines in their order, each a State or a Sent.
+Output = namedtuple("Output", "states sent lines done")
+
+
+def read_script(text):
+    lines = lines_of(text, "")
+    said = [(count, line) for count, line in enumerate(lines, 1) if line and not line.startswith("#")]
+    said.append((len(lines) + 1, None))
+    version = read_version(*said[0])
+    number, second = said[1]
+    node = NODE.fullmatch(second or "")
+    if not node:
+        raise fault("", number, "`node` and a node's id, seed, tempo, sync and opening moment", quoted(second))
+    group, head = 0, 2
+    if version == 2:
+        group, head = read_number(*said[2], "group", 65_535), 4
+        read_number(*said[3], "quantum", 2**40)
+    opened, (gates, places) = int(node[5]), read_gates(said[head:])
+    events = read_events(said[head + gates + len(places) : -1], opened, gates)
+    return Script(node[1], opened, int(node[3]), int(node[4]), group, places, events)
+
+
+def read_version(number, first):
+    if first == "link 1":
+        raise fault("", number, VERSIONS, "`link 1`, a live script; what `live --record` writes of its run can be told")
+    if first not in ("replay 1", "replay 2"):
+        raise fault("", number, VERSIONS, quoted(first))
+    return int(first[-1])
+
+
+def read_number(number, line, word, most):
+    """What stands behind the word of a line of the head."""
+    found = re.fullmatch(f"{word} (0|[1-9][0-9]{{0,12}})", line or "")
+    if not found or int(found[1]) > most:
+        raise fault("", number, f"`{word}` and a number from 0 to {most}", quoted(line))
+    return int(found[1])
+
+
+def read_gates(said):
+    """How many gates there are, and where each of their destinations is."""
+    gates, places = 0, []
+    for number, line in said:
+        words = (line or "").split(" ")
+        if words[0] == "gate" and re.fullmatch(ENDPOINT, " ".join(words[1:])):
+            gates += 1
+        elif words[0] == "to" and gates and re.fullmatch(ENDPOINT, " ".join(words[1:])):
+            places.append((gates - 1, words[1]))
+        else:
+            break
+    if not gates:
+        raise fault("", number, "`gate` and an endpoint", quoted(line))
+    return gates, places
+
+
+def read_events(said, opened, gates):
+    events, moment, apps, audio = [], opened, 0, 0
+    for number, line in said:
+        kind = line.split(" ", 1)[0]
+        form, expected = EVENTS.get(kind, (None, EVENT))
+        found = form and form.fullmatch(line)
+        if not found:
+            raise fault("", number, expected, quoted(line))
+        now, gate, endpoint, digits = int(found[1]), None, None, None
+        moment = max(moment, now)
+        if kind == "rx":
+            gate, endpoint, digits = int(found[2]), found[3], "" if found[4] == "-" else found[4].lower()
+            if gate >= gates:
+                raise fault("", number, f"a gate below {gates}", quoted(found[2]))
+            if len(digits) % 2 or len(digits) > 1026:
+                raise fault("", number, "two hex digits for each byte, of 513 bytes at most", f"{len(digits)} digits")
+        elif kind == "app":
+            apps += 1
+        elif kind == "audio":
+            audio = int(found[2])
+        events.append(Event(number, kind, now, moment, apps, audio, gate, endpoint, digits))
+    return events
+
+
+def read_output(text, where, script):
+    """What `replay` writes, where it can be that of this script."""
+    states, sent, lines, done = [], [], [], None
+    all_lines = lines_of(text, where)
+    for number, line in enumerate(all_lines, 1):
+        if done:
+            raise fault(where, number, "nothing behind the line `done`", quoted(line))
+        if found := STATE.fullmatch(line):
+            states.append(State(number, *map(int, found.groups())))
+            lines.append(states[-1])
+            if states[-1].number != len(states) - 1:
+                raise fault(where, number, f"state {len(states) - 1}", f"state {states[-1].number}")
+        elif (found := SENT.fullmatch(line)) and len(found[4]) % 2 == 0:
+            sent.append(Sent(number, int(found[1]), int(found[2]), found[3], found[4]))
+            lines.append(sent[-1])
+        elif found := DONE.fullmatch(line):
+            done = number
+            counts, wanted = tuple(map(int, found.groups())), (len(script.events), len(states), len(sent))
+            if counts[0] != wanted[0]:
+                raise fault(where, number, f"the output of this recording, which has {wanted[0]} events", f"that of {counts[0]}")
+            if counts != wanted:
+                raise fault(where, number, f"`done {wanted[0]} {wanted[1]} {wanted[2]}` behind these lines", quoted(line))
+        else:
+            raise fault(where, number, "a line that `replay` writes: `state`, `tx` or `done`", quoted(line))
+        if number == 1:
+            check_opening(where, line, states, script)
+    if not done:
+        raise fault(where, len(all_lines) + 1, "`done` and three counts" if states else "the opening state", "the end of the text")
+    return Output(states, sent, lines, done)
+
+
+def check_opening(where, line, states, script):
+    wanted = (script.mpb, script.sync, script.opened, 0, 0, 0)
+    if not states or (states[0].mpb, states[0].sync, states[0].moment, states[0].peers, states[0].apps, states[0].audio) != wanted:
+        raise fault(where, 1, "the opening state of this recording's node", quoted(line))
+
+
+def said_in(digits):
+    """Of a datagram that was sent, the digits of what the node says."""
+    return digits[:PONG_DIGITS] if digits.startswith(PONG) else digits
+
+
+def datagrams(script, output):
+    """Those that came and those that were sent, each once."""
+    came = (event.digits for event in script.events if event.kind == "rx")
+    return list(dict.fromkeys([*came, *(said_in(sent.digits) for sent in output.sent)]))
+
+
+def read_decoded(text, where, digits):
+    """The words that `decode` tells, by the digits of the datagram."""
+    lines = lines_of(text, where)
+    for number, line in enumerate(lines, 1):
+        if not DECODED.fullmatch(line):
+            raise fault(where, number, "what `decode` tells of a datagram", quoted(line))
+    if len(lines) != len(digits):
+        expected = f"a line for each of the {len(digits)} datagrams of this recording"
+        raise fault(where, min(len(lines), len(digits)) + 1, expected, f"{len(lines)}")
+    return {one: line.split(" ") for one, line in zip(digits, lines)}
