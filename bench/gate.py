@@ -167,9 +167,10 @@ def yardstick_of(text):
 
 
 def slowness(figures, yardstick):
-    """How many times the yardstick's seconds its crates took."""
-    taken = [figures[name][0][kind] or 0 for name in yardstick for kind in KINDS]
-    return sum(taken) / sum(yardstick.values())
+    """How many times the yardstick's seconds its crates took, those of which all figures are known; 1 where there is none."""
+    known = [name for name in yardstick if None not in figures[name][0].values()]
+    taken = sum(sum(figures[name][0].values()) for name in known)
+    return taken / sum(yardstick[name] for name in known) if known else 1.0
 
 
 def below(name):
