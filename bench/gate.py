@@ -1,16 +1,18 @@
 #!/usr/bin/env python3
-"""What a run of the gate costs: bench/gate.py [PROCESSORS] [--kept] runs it on so many processors (2 if not given).
+"""What a run of the gate costs: bench/gate.py [PROCESSORS] [--kept [CRATE ..]] runs it on so many processors (2 if not given).
 
 From nothing it is `rt ci --anew` where `rt help` speaks of --anew, and else `rt ci`, which proves all from nothing then; with --kept it is
-`rt ci`, which proves only what no run on this machine has passed. With four processors and more there is one prover a processor, as in
-`.ci/run`. It watches the provers that rt starts, and puts the figures into docs/GATE.md, between its two marks: how long the run took, and
-for each crate the seconds of one processor that its proof, the proof of its tests and its must-fail edits took, with the check that the
-edits begin with. Where the page has figures of a commit since which neither the crate nor one below it changed, the least of the two
-counts, since what else is at work on a machine only adds to it, and a crate that wasn't proved anew keeps its own. Beside each stands its
-budget, from the table that people keep between two other marks of that page, times how slow the machine was: the seconds of the crates of
-a third table, the yardstick, over those that it has for them. None of them may have changed since the commit that it names. A table of
-runs from nothing, between two marks too, gets a row for so many processors in place of the one that it had; rows of other numbers stay.
-Nothing is written where the run fails. The commit has to be clean, so that the figures are those of a commit.
+`rt ci`, which proves only what no run on this machine has passed, or `rt ci CRATE ..`, which does so for these and those below. With four
+processors and more there is one prover a processor, as in `.ci/run`. It watches the provers that rt starts, and puts the figures into
+docs/GATE.md, between its two marks: how long the run took, and for each crate the seconds of one processor that its proof, the proof of its
+tests and its must-fail edits took, with the check that the edits begin with. They are divided by how slow the machine was: the seconds that
+the crates of a table of that page, the yardstick, took in the run, over those that it has for them. None of these crates may have changed
+since the commit that the table names; where a run proves none of them, the first is proved after it. Where the page has figures of a commit
+since which neither the crate nor one below it changed, the least of the two counts, since what else is at work on a machine only adds to
+it, and a crate that wasn't proved anew keeps its own. Beside each stands its budget, from the table that people keep between two other
+marks. A table of runs from nothing, between two marks too, gets a row for so many processors in place of the one that it had, as the clock
+told it; rows of other numbers stay. Nothing is written where the run fails. The commit has to be clean, so that the figures are those of a
+commit.
 """
 import os
 import platform
@@ -166,11 +168,11 @@ def yardstick_of(text):
     return {name: int(seconds) for name, seconds in rows[2:]}
 
 
-def slowness(figures, yardstick):
-    """How many times the yardstick's seconds its crates took, those of which all figures are known; 1 where there is none."""
-    known = [name for name in yardstick if None not in figures[name][0].values()]
-    taken = sum(sum(figures[name][0].values()) for name in known)
-    return taken / sum(yardstick[name] for name in known) if known else 1.0
+def slowness(sums, yardstick):
+    """How many times the yardstick's seconds its crates took in a run, those that it proved whole; None where there is none."""
+    known = [name for name in yardstick if all(sums.get(name, {}).get(kind) or not has_kind(name, kind) for kind in KINDS)]
+    taken = sum(sum(sums[name].values()) for name in known)
+    return taken / sum(yardstick[name] for name in known) if known else None
 
 
 def below(name):
@@ -218,29 +220,29 @@ def has_kind(name, kind):
     return False
 
 
-def joined(names, sums, old, commit):
-    """The seconds by crate and kind, None where they aren't known, each crate's with a commit: those of this run, and those that the page
-    has of the same crate."""
+def joined(names, sums, slow, old, commit):
+    """The seconds by crate and kind, None where they aren't known, each crate's with a commit: those of this run, on a machine that is so
+    slow, and those that the page has of the same crate, the least of them."""
     found = {}
     for name in names:
         before, at = old.get(name, ({}, None))
         before = before if at and is_same(at, name) else {}
         new, row = sums.get(name, {}), {}
         for kind in KINDS:
-            seconds = [one[kind] for one in (new, before) if one.get(kind)]
+            seconds = [new[kind] / slow] * bool(new.get(kind)) + [before[kind]] * bool(before.get(kind))
             row[kind] = min(seconds) if seconds else None if has_kind(name, kind) else 0.0
         found[name] = row, commit if any(new.values()) else at if before else ""
     return found
 
 
-def beside(taken, budget, slow):
-    """A figure with its budget on a machine that is so slow, where it has one, and whether it is over."""
+def beside(taken, budget):
+    """A figure with its budget, where it has one, and whether it is over."""
     if taken is None:
         return UNKNOWN, False
     if budget is None:
         return f"{taken:.0f}", False
-    is_over = round(taken) > round(budget * slow)
-    of = f" of {budget * slow:.0f}" if budget or is_over else ""
+    is_over = round(taken) > budget
+    of = f" of {budget}" if budget or is_over else ""
     return f"{taken:.0f}{of}{' **over**' if is_over else ''}", is_over
 
 
@@ -249,23 +251,22 @@ def prose(text):
     return textwrap.wrap(text, 140, break_long_words=False, break_on_hyphens=False)
 
 
-def table(figures, budgets, whole, yardstick):
-    """The lines of the figures, and how many of them are over."""
-    slow = slowness(figures, yardstick)
+def table(figures, budgets, whole, slow):
+    """The lines of the figures, and how many of them are over. The machine of the last run was so slow."""
     lines, over = ["| Crate | Its proof | Its tests' proof | Must-fail edits | Their proofs | Commit |", "|---|---|---|---|---|---|"], 0
     for name, (taken, commit) in figures.items():
         row = {}
         for kind in KINDS:
-            row[kind], more = beside(taken[kind], budgets[name][kind] if name in budgets else None, slow)
+            row[kind], more = beside(taken[kind], budgets[name][kind] if name in budgets else None)
             over += more
         lines.append(f"| `{name}` | {row['proof']} | {row['tests']} | {edits_of(name)} | {row['edits']} | {commit} |")
     of = {kind: sum(taken[kind] or 0 for taken, _ in figures.values()) for kind in KINDS}
     lines.append(f"| {ALL} | {of['proof']:.0f} | {of['tests']:.0f} | {sum(map(edits_of, figures))} | {of['edits']:.0f} | |")
-    together, more = beside(sum(of.values()), whole, slow)
+    together, more = beside(sum(of.values()), whole)
     over += more
     unknown = [name for name, (taken, _) in figures.items() if None in taken.values()]
     lacking, gone = [name for name in figures if name not in budgets], [name for name in budgets if name not in figures]
-    say = [f"The yardstick's crates took {slow:.2f} times its seconds, and the budgets are taken so many times."]
+    say = [f"In this run the yardstick's crates took {slow:.2f} times its seconds, by which the seconds of the run are divided."]
     say += [f"Seconds of all provers together: {together}."]
     say += [f"**Over their budgets: {over}.**" if over else "None is over its budget." if lacking or unknown else "All are within their budgets."]
     say += [f"Not all known: {', '.join(f'`{name}`' for name in unknown)}."] * bool(unknown)
@@ -287,10 +288,8 @@ def keeps_proofs():
     return "--anew" in subprocess.run(["rt", "help"], cwd=HERE, stdout=subprocess.PIPE, stderr=subprocess.STDOUT, text=True).stdout
 
 
-def measured(processors, is_anew, old, budgets, whole, yardstick):
-    """Runs the gate, and returns the lines of its figures, its row among the runs, and how many figures are over their budgets. `old` has
-    the figures of the page."""
-    words = ["rt", "ci", *["--anew"] * (is_anew and keeps_proofs())]
+def watched(processors, words):
+    """Runs rt on so many processors, and returns what watched it, how long it took, what it worked, and the last line that it wrote."""
     began, before = time.monotonic(), resource.getrusage(resource.RUSAGE_CHILDREN)
     run = subprocess.Popen(
         ["taskset", "-c", f"0-{processors - 1}", *words],
@@ -312,9 +311,20 @@ def measured(processors, is_anew, old, budgets, whole, yardstick):
     took, after = time.monotonic() - began, resource.getrusage(resource.RUSAGE_CHILDREN)
     if status:
         raise Failed(f"{' '.join(words)} ended with status {status}: {last}")
-    worked = after.ru_utime + after.ru_stime - before.ru_utime - before.ru_stime
+    return watch, took, after.ru_utime + after.ru_stime - before.ru_utime - before.ru_stime, last
+
+
+def measured(processors, is_anew, some, old, budgets, whole, yardstick):
+    """Runs the gate, or of it these crates, and returns the lines of its figures, its row among the runs, and how many figures are over
+    their budgets. `old` has the figures of the page. Where the run proves no crate of the yardstick, its first one is proved after it."""
+    words = ["rt", "ci", *["--anew"] * (is_anew and keeps_proofs()), *some]
+    watch, took, worked, last = watched(processors, words)
     sums, commit = watch.sums(), told(["git", "rev-parse", "--short", "HEAD"])
-    lines, over = table(joined(crates(), sums, old, commit), budgets, whole, yardstick)
+    slow = slowness(sums, yardstick)
+    if slow is None and yardstick:
+        slow = slowness(watched(processors, ["rt", "ci", "--anew", next(iter(yardstick))])[0].sums(), yardstick)
+    slow = slow or 1.0
+    lines, over = table(joined(crates(), sums, slow, old, commit), budgets, whole, slow)
     head = (
         f"`bench/gate.py` ran `{' '.join(words)}` of `{told(['rt', 'version'])}` at commit {commit} on {processors} processors "
         f"({processor()}): **{took / 60:.0f} minutes**, in which they worked {worked / 60:.0f} minutes together; all provers at once held "
@@ -326,17 +336,18 @@ def measured(processors, is_anew, old, budgets, whole, yardstick):
         f"| {processors} | {took / 60:.0f} | {worked / 60:.0f} | {together:.0f} | {watch.most / 2**30:.1f} GB | {commit} | `{kit}` |"
     )
     say = (
-        "Seconds of one processor, and of how many by the budget: the least that a run took since the crate or one below it last changed, "
-        "and the commit of the last such run."
+        "Seconds of one processor, divided by how many times slower the machine was than the yardstick's, and of how many by the budget: the "
+        "least of the runs since the crate or one below it last changed, and the commit of the last such run."
     )
     return [*prose(head), "", *prose(say), "", *lines], row, over
 
 
 def main():
     is_anew = "--kept" not in sys.argv[1:]
-    numbers = [word for word in sys.argv[1:] if word != "--kept"]
-    if len(numbers) > 1 or not all(word.isdigit() and int(word) > 0 for word in numbers):
-        print("usage: bench/gate.py [PROCESSORS] [--kept], where PROCESSORS is a number from 1 on", file=sys.stderr)
+    some = [word for word in sys.argv[1:] if word in crates()]
+    numbers = [word for word in sys.argv[1:] if word != "--kept" and word not in some]
+    if len(numbers) > 1 or not all(word.isdigit() and int(word) > 0 for word in numbers) or some and is_anew:
+        print("usage: bench/gate.py [PROCESSORS] [--kept [CRATE ..]], where PROCESSORS is a number from 1 on", file=sys.stderr)
         return 2
     processors = int(numbers[0]) if numbers else 2
     try:
@@ -349,7 +360,7 @@ def main():
         start, stop = between(page, YARDSTICK, YARDSTICK_END)
         between(page, RUNS, RUNS_END)
         yardstick = yardstick_of(page[start:stop])
-        lines, row, over = measured(processors, is_anew, figures_of(page[begin:end]), *budgets_of(page[first:last]), yardstick)
+        lines, row, over = measured(processors, is_anew, some, figures_of(page[begin:end]), *budgets_of(page[first:last]), yardstick)
     except Failed as error:
         print(f"gate: {error}", file=sys.stderr)
         return 1
