@@ -3,11 +3,11 @@ use Rattle.std.proofs.Common.{◌≡◌, ℕ, ◌<◌, ℤ, Bool, true, false, �
 use Rattle.std.proofs.lemmas.Bool.Decides.{Decides-int_eq}
 use Rattle.std.specs.Option.{ForSome}
 use Rattle.std.specs.Ordering.{int_eq}
-use Rattle.lk_base.specs.Ranges.{IsWithinLimit}
+use Rattle.lk_base.specs.Ranges.{IsQuantum, IsWithinLimit}
 use Rattle.lk_base.specs.Timeline.{IsTidy}
 use Rattle.lk_base.specs.declared.start.ClientStart.{ClientStart}
 use Rattle.lk_base.specs.declared.timeline.Timeline.{Timeline}
-use Rattle.client_state.specs.Commit.{IsTidyCommit, IsTidyStart, same_bool, same_playing, same_timeline, timeline_between, start_between, commit_between}
+use Rattle.client_state.specs.Commit.{IsTidyCommit, IsTidyStart, same_bool, same_playing, same_timeline, timeline_between, start_between, quantum_between, commit_between}
 use Rattle.client_state.specs.Edits.{timeline_at}
 use Rattle.client_state.specs.Shown.{laid_over, shown_over}
 use Rattle.client_state.specs.State.{IsTidyState}
@@ -62,6 +62,10 @@ between-time old shown new now =
     carried (λ start. start.time) (same_playing new old) (same_playing new shown) new old (record new { stamp = now }) refl
     (λ same. (same_playing-equal new old same).1)
 
+pub between-quantum : (old shown new : ℤ) → unwrap_or (quantum_between old shown new) old ≡ new
+between-quantum old shown new =
+    carried (λ quantum. quantum) (int_eq new old) (int_eq new shown) new old new refl (Decides-int_eq new old).0
+
 pub shown_over-later : (number taken : ℕ) (commit : Commit) (state : State) → taken < number → shown_over (Some (number, commit)) taken state ≡ laid_over commit state
 unfolding shown_over
 shown_over-later number taken commit state lt =
@@ -79,16 +83,18 @@ laid_over-tidy commit state of_commit of_state = record {
   start = unwrapped (λ start. IsWithinLimit start.time) commit.start state.start (λ start e. (of_commit.start start e).time) of_state.start;
   stamp = unwrapped (λ start. IsWithinLimit start.stamp) commit.start state.start (λ start e. (of_commit.start start e).stamp) of_state.stamp;
   moment = of_state.moment;
+  quantum = unwrapped IsQuantum commit.quantum state.quantum of_commit.quantum of_state.quantum;
 }
 
 some_if : {X : Type 0} (P : X → Type 0) (none : Bool) (x : X) → P x → ForSome (if none then None else Some x) P
 some_if P true x h = λ y e. absurd (cc)
 some_if P false x h = λ y e. let same : x ≡ y = cc in subst P same h
 
-pub commit_between-tidy : (old shown new : State) (now : ℤ) → IsTidy new.timeline → IsWithinLimit new.start.time → IsWithinLimit now → IsTidyCommit (commit_between old shown new now)
+pub commit_between-tidy : (old shown new : State) (now : ℤ) → IsTidy new.timeline → IsWithinLimit new.start.time → IsQuantum new.quantum → IsWithinLimit now → IsTidyCommit (commit_between old shown new now)
 unfolding commit_between
-commit_between-tidy old shown new now tidy time within = record {
+commit_between-tidy old shown new now tidy time range within = record {
   timeline = some_if IsTidy (same_timeline new.timeline old.timeline && same_timeline new.timeline shown.timeline) new.timeline tidy;
   start = some_if IsTidyStart (same_playing new.start old.start && same_playing new.start shown.start) (record new.start { stamp = now }) (record { time = time; stamp = within });
+  quantum = some_if IsQuantum (int_eq new.quantum old.quantum && int_eq new.quantum shown.quantum) new.quantum range;
   at = within;
 }

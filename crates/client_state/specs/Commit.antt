@@ -2,7 +2,7 @@
 use Rattle.std.specs.Prelude.{ℕ, ℤ, Bool, ◌&&◌, not, if◌then◌else◌, Option, Some, None}
 use Rattle.std.specs.Option.{ForSome}
 use Rattle.std.specs.Ordering.{int_eq}
-use Rattle.lk_base.specs.Ranges.{IsWithinLimit}
+use Rattle.lk_base.specs.Ranges.{IsQuantum, IsWithinLimit}
 use Rattle.lk_base.specs.Timeline.{IsTidy}
 use Rattle.lk_base.specs.declared.start.ClientStart.{ClientStart}
 use Rattle.lk_base.specs.declared.timeline.Timeline.{Timeline}
@@ -16,6 +16,7 @@ pub record IsTidyStart (start : ClientStart) : Type 0 where
 pub record IsTidyCommit (commit : Commit) : Type 0 where
   pub timeline : ForSome commit.timeline IsTidy
   pub start : ForSome commit.start IsTidyStart
+  pub quantum : ForSome commit.quantum IsQuantum
   pub at : IsWithinLimit commit.at
 
 -- an own last commit is tidy, if there is one
@@ -41,9 +42,14 @@ abbrev pub start_between : ClientStart → ClientStart → ClientStart → ℤ �
 start_between old shown new now =
     if same_playing new old && same_playing new shown then None else Some (record new { stamp = now })
 
+-- the new quantum, where it differs from the old or the shown one
+abbrev pub quantum_between : ℤ → ℤ → ℤ → Option ℤ
+quantum_between old shown new = if int_eq new old && int_eq new shown then None else Some new
+
 unfoldable pub commit_between : State → State → State → ℤ → Commit
 commit_between old shown new now = record {
   timeline = timeline_between old.timeline shown.timeline new.timeline;
   start = start_between old.start shown.start new.start now;
+  quantum = quantum_between old.quantum shown.quantum new.quantum;
   at = now;
 }

@@ -1,5 +1,6 @@
 -- What the edits of a state give.
-use Rattle.std.specs.Prelude.{ℕ, ℤ, pos, ◌+ℤ◌, ◌-ℤ◌, Bool, nat_lt, if◌then◌else◌}
+use Rattle.std.specs.Prelude.{ℕ, ℤ, pos, ◌^◌, ◌+ℤ◌, ◌-ℤ◌, Bool, nat_lt, if◌then◌else◌}
+use Rattle.std.specs.Int.{int_max, int_min}
 use Rattle.lk_base.specs.Rounding.{clipped_of}
 use Rattle.lk_base.specs.declared.start.ClientStart.{ClientStart}
 use Rattle.lk_base.specs.declared.timeline.Timeline.{Timeline}
@@ -45,6 +46,10 @@ next_time_of tl beat at q = encoded_time tl (clipped_of (next_match_of (encoded_
 unfoldable pub requested_of : ℕ → Timeline → ℤ → ℤ → ℤ → Timeline
 requested_of peers tl beat at q =
     if nat_lt 0 peers then forced_of tl beat (next_time_of tl beat at q) q else forced_of tl beat at q
+
+-- the nearest length that a quantum may have
+abbrev pub quantum_set_of : ℤ → ℤ
+quantum_set_of quantum = int_max (pos 0) (int_min quantum (pos (2 ^ 40)))
 
 abbrev pub played_of : ClientStart → Bool → ℤ → ClientStart
 played_of start playing time = record start { playing = playing; time = time }

@@ -3,10 +3,13 @@ use Rattle.std.specs.Prelude.{ℕ, nat_lt, if◌then◌else◌, Option, Some, No
 use Rattle.client_state.specs.declared.commit.Commit.{Commit}
 use Rattle.client_state.specs.declared.state.State.{State}
 
--- the commit's timeline and start in place of the state's
+-- the commit's timeline, start and quantum in place of the state's
 abbrev pub laid_over : Commit → State → State
-laid_over commit state =
-    record state { timeline = unwrap_or commit.timeline state.timeline; start = unwrap_or commit.start state.start }
+laid_over commit state = record state {
+  timeline = unwrap_or commit.timeline state.timeline;
+  start = unwrap_or commit.start state.start;
+  quantum = unwrap_or commit.quantum state.quantum;
+}
 
 unfoldable pub shown_over : Option (ℕ × Commit) → ℕ → State → State
 shown_over (Some (number, commit)) taken state = if nat_lt taken number then laid_over commit state else state

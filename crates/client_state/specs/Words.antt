@@ -1,11 +1,13 @@
--- States and commits as rows of nine words, and back: the one place that says which word is what. Signed numbers are
+-- States and commits as rows of eleven words, and back: the one place that says which word is what. Signed numbers are
 -- stored in two's complement.
 use Rattle.std.specs.Prelude.{ℕ, ℤ, ◌+◌, ◌*◌, ◌/◌, ◌%◌, ◌^◌, ◌==◌, Bool, if◌then◌else◌, List, [], ◌∷◌, slice_index, Option, Some, None}
-use Rattle.std.specs.Int.{w64, cast_signed, cast_unsigned}
+use Rattle.std.specs.Int.{w64, cast_signed, cast_unsigned, from_be_bytes, to_be_bytes}
 use Rattle.lk_base.specs.Rounding.{clipped_of}
+use Rattle.lk_base.specs.declared.ids.NodeId.{NodeId}
 use Rattle.lk_base.specs.declared.start.ClientStart.{ClientStart}
 use Rattle.lk_base.specs.declared.timeline.Timeline.{Timeline}
 use Rattle.timeline_math.specs.Tidying.{tidy_of}
+use Rattle.client_state.specs.Edits.{quantum_set_of}
 use Rattle.client_state.specs.declared.commit.Commit.{Commit}
 use Rattle.client_state.specs.declared.state.State.{State}
 
@@ -23,6 +25,16 @@ clipped_of_word word = clipped_of (number_of_word word)
 
 abbrev pub timeline_of_words : ℕ → ℕ → ℕ → Timeline
 timeline_of_words mpb beat time = tidy_of (record { mpb = number_of_word mpb; beat = number_of_word beat; time = number_of_word time })
+
+abbrev pub quantum_of_word : ℕ → ℤ
+quantum_of_word word = quantum_set_of (number_of_word word)
+
+-- an id's eight bytes as a number, the first of them weighing most, and back
+abbrev pub word_of_id : NodeId → ℕ
+word_of_id id = from_be_bytes w64 id.0
+
+abbrev pub id_of_word : ℕ → NodeId
+id_of_word word = record { 0 = to_be_bytes w64 word }
 
 -- a flag as a number, and the flag of this weight in a word
 abbrev pub flag_of : Bool → ℕ → ℕ
@@ -48,6 +60,8 @@ words_of_state state =
     ∷ word_of state.moment
     ∷ state.app
     ∷ state.audio
+    ∷ word_of_id state.session
+    ∷ word_of state.quantum
     ∷ []
 
 unfoldable pub state_of_words : List ℕ → State
@@ -63,11 +77,13 @@ state_of_words words = record {
   moment = clipped_of_word (slice_index words 6);
   app = slice_index words 7;
   audio = slice_index words 8;
+  session = id_of_word (slice_index words 9);
+  quantum = quantum_of_word (slice_index words 10);
 }
 
 -- ---- a commit
 
--- a timeline is 1, a start is 2, and one that plays is 4 more
+-- a timeline is 1, a start is 2, one that plays is 4 more, and a quantum is 8
 abbrev pub timeline_flag_of : Option Timeline → ℕ
 timeline_flag_of None = 0
 timeline_flag_of (Some tl) = 1
@@ -76,6 +92,10 @@ abbrev pub start_flags_of : Option ClientStart → ℕ
 start_flags_of None = 0
 start_flags_of (Some start) = 2 + flag_of start.playing 4
 
+abbrev pub quantum_flag_of : Option ℤ → ℕ
+quantum_flag_of None = 0
+quantum_flag_of (Some quantum) = 8
+
 -- the words of a number of something that may be absent: 0 then
 abbrev pub word_if : {A : Type 0} → (A → ℤ) → Option A → ℕ
 word_if number None = 0
@@ -83,7 +103,7 @@ word_if number (Some a) = word_of (number a)
 
 unfoldable pub words_of_commit : Commit → List ℕ
 words_of_commit commit =
-    (timeline_flag_of commit.timeline + start_flags_of commit.start)
+    (timeline_flag_of commit.timeline + start_flags_of commit.start + quantum_flag_of commit.quantum)
     ∷ word_if (λ tl. tl.mpb) commit.timeline
     ∷ word_if (λ tl. tl.beat) commit.timeline
     ∷ word_if (λ tl. tl.time) commit.timeline
@@ -92,6 +112,8 @@ words_of_commit commit =
     ∷ word_of commit.at
     ∷ 0
     ∷ 0
+    ∷ 0
+    ∷ word_if (λ quantum. quantum) commit.quantum
     ∷ []
 
 abbrev pub start_of_words : ℕ → ℕ → ℕ → ClientStart
@@ -107,5 +129,6 @@ commit_of_words words = record {
       if flag_in (slice_index words 0) 2
       then Some (start_of_words (slice_index words 0) (slice_index words 4) (slice_index words 5))
       else None;
+  quantum = if flag_in (slice_index words 0) 8 then Some (quantum_of_word (slice_index words 10)) else None;
   at = clipped_of_word (slice_index words 6);
 }

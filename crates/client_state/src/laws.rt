@@ -7,7 +7,7 @@ ghost use Rattle.lk_base.specs.declared.timeline.Timeline.{Timeline};
 ghost use Rattle.timeline_math.specs.Beats.{beat_at};
 ghost use Rattle.client_state.specs.Commit.{IsTidyCommit};
 ghost use Rattle.client_state.specs.Edits.{tempo_set_of, match_of, forced_of, requested_of};
-ghost use Rattle.client_state.specs.State.{IsTidyState};
+ghost use Rattle.client_state.specs.State.{IsId, IsTidyState};
 ghost use Rattle.client_state.specs.Timelines.{going_on, zero_time_of, client_from_session_of, session_from_client_of};
 ghost use Rattle.client_state.specs.Unclipped.{IsUnclippedTempo, IsUnclippedForce, IsUnclippedRequest, IsUnclippedReturn, wide_beat_at};
 ghost use Rattle.client_state.specs.Words.{words_of_state, state_of_words, words_of_commit, commit_of_words};
@@ -67,9 +67,9 @@ pub fn returned_timelines_keep_beats()
         → unsigned_abs (beat_at (client_from_session_of client given now offset) time -ℤ beat_at client time) ≤ 2 }
 {}
 
-/// A tidy state and a tidy commit are read back from their rows. The second premise holds of all states in code.
+/// A tidy state and a tidy commit are read back from their rows. The second and third premises hold of all states in code.
 pub fn rows_are_read_back()
-    ensures state { (state : State) → IsTidyState state → state.peers < 2 ^ 32
+    ensures state { (state : State) → IsTidyState state → state.peers < 2 ^ 32 → IsId state.session
         → state_of_words (words_of_state state) ≡ state }
     ensures commit { (commit : Commit) → IsTidyCommit commit → commit_of_words (words_of_commit commit) ≡ commit }
 {}

@@ -21,5 +21,5 @@ pub use laws::{
 };
 pub use own::{Own, shown};
 pub use starts::{later_start, start_to_client, start_to_session};
-pub use state::State;
+pub use state::{QUANTUM_MAX, State};
 pub use timelines::{OriginSpent, client_from_session, session_from_client};

@@ -15,7 +15,7 @@ pub struct Own {
     pub last: Option<(u64, Commit)>,
 }
 
-/// The state with the timeline and the start of one's own last commit laid over it, where that commit's number is above
+/// The state with the timeline, the start and the quantum of one's own last commit laid over it, where that commit's number is above
 /// the number of those taken; else the state.
 #[tactic(auto, unfolding(crate::specs::Shown::shown_over))]
 pub fn shown(own: &Own, taken: u64, state: &State) -> State
@@ -34,7 +34,7 @@ pub fn shown(own: &Own, taken: u64, state: &State) -> State
     }
 }
 
-// The state with the commit's timeline and start in place of its own.
+// The state with the commit's timeline, start and quantum in place of its own.
 fn laid_over(commit: &Commit, state: &State) -> State
     ensures value { result ≡ spec.laid_over commit.now state.now }
     ensures tidy { IsTidyState state.now → IsTidyCommit commit.now → IsTidyState result }
@@ -42,5 +42,6 @@ fn laid_over(commit: &Commit, state: &State) -> State
     let mut over = *state;
     over.timeline = commit.timeline.unwrap_or(state.timeline);
     over.start = commit.start.unwrap_or(state.start);
+    over.quantum = commit.quantum.unwrap_or(state.quantum);
     over
 }

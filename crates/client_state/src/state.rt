@@ -1,10 +1,13 @@
 //! The state that a client looks at and edits.
 
-use lk_base::{ClientStart, Timeline};
+use lk_base::{ClientStart, NodeId, Timeline};
 
 mod clicks;
-mod edits;
+pub(crate) mod edits;
 mod row;
+
+/// The longest quantum, in microbeats: 2^40.
+pub const QUANTUM_MAX: i64 = 1 << 40;
 
 /// What a client is shown of its session, in the host's clock.
 #[derive(Clone, Copy, Debug, PartialEq, Eq)]
@@ -21,4 +24,8 @@ pub struct State {
     pub app: u64,
     /// The number of the last audio commit taken, 0 for none.
     pub audio: u64,
+    /// The session that it is of.
+    pub session: NodeId,
+    /// The length of a bar, in microbeats, 0 for none: what phases and accents are counted in.
+    pub quantum: i64,
 }

@@ -1,11 +1,12 @@
-//! Numbers, flags and timelines in words.
+//! Numbers, flags, ids and timelines in words.
 
 ghost use Rattle.std.specs.Prelude.{◌≡◌, ◌≤◌, ◌<◌};
-ghost use Rattle.lk_base.specs.Ranges.{IsWithinLimit};
+ghost use Rattle.lk_base.specs.Ranges.{IsQuantum, IsWithinLimit};
 ghost use Rattle.lk_base.specs.Timeline.{IsTidy};
 ghost use Rattle.client_state.specs.Words as spec;
 
-use lk_base::{Timeline, clip};
+use crate::state::edits::nearest_quantum;
+use lk_base::{NodeId, Timeline, clip};
 use timeline_math::tidy;
 
 // The number in a word, clipped.
@@ -14,6 +15,28 @@ pub(crate) fn clipped_of_word(word: u64) -> i64
     ensures within { IsWithinLimit result }
 {
     clip(word.cast_signed() as i128)
+}
+
+// The number in a word, taken to the nearest length that a quantum may have.
+pub(crate) fn quantum_of_word(word: u64) -> i64
+    ensures value { result ≡ spec.quantum_of_word word }
+    ensures within { IsQuantum result }
+{
+    nearest_quantum(word.cast_signed())
+}
+
+// An id's eight bytes as a number, and back. By value, since the bytes of a value are known to be eight.
+pub(crate) fn word_of_id(id: NodeId) -> u64
+    ensures value { result ≡ spec.word_of_id id }
+    ensures reads_back { spec.id_of_word result ≡ id }
+{
+    u64::from_be_bytes(id.0)
+}
+
+pub(crate) fn id_of_word(word: u64) -> NodeId
+    ensures { result ≡ spec.id_of_word word }
+{
+    NodeId(word.to_be_bytes())
 }
 
 // The timeline in three words, tidied.

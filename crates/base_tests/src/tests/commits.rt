@@ -1,7 +1,7 @@
 //! What a commit carries, and what is shown.
 
 use super::states::state;
-use super::{expect, start, timeline};
+use super::{LONGEST, expect, start, timeline};
 use client_state::{Commit, Own, State, shown};
 use lk_base::{ClientStart, LIMIT, Timeline};
 use std::process::Abort;
@@ -66,74 +66,191 @@ const MOVES: ClientStart = ClientStart {
     stamp: 100,
 };
 
-// The timeline and the start of a state.
-type Told = (Timeline, ClientStart);
+// The timeline, the start and the quantum of a state.
+type Told = (Timeline, ClientStart, i64);
 
 // The state captured, the one shown and the one edited, and what a commit at 100 carries.
-const CARRIED: &[(Told, Told, Told, Option<Timeline>, Option<ClientStart>)] = &[
-    ((A, HELD), (A, HELD), (A, HELD), None, None),
-    ((A, HELD), (B, HELD), (B, STAMPED), Some(B), None),
-    ((A, HELD), (B, STOPPED), (A, HELD), Some(A), Some(STAMPED)),
-    ((B, STOPPED), (A, HELD), (A, HELD), Some(A), Some(STAMPED)),
-    ((A, HELD), (A, STAMPED), (C, LATER), Some(C), Some(MOVES)),
-    ((C, HELD), (C, HELD), (B, STOPPED), Some(B), Some(STOPS)),
-    ((B, LATER), (C, HELD), (D, LATER), Some(D), Some(MOVES)),
+const CARRIED: &[(
+    Told,
+    Told,
+    Told,
+    Option<Timeline>,
+    Option<ClientStart>,
+    Option<i64>,
+)] = &[
+    ((A, HELD, 4), (A, HELD, 4), (A, HELD, 4), None, None, None),
+    (
+        (A, HELD, 4),
+        (B, HELD, 4),
+        (B, STAMPED, 4),
+        Some(B),
+        None,
+        None,
+    ),
+    (
+        (A, HELD, 4),
+        (B, STOPPED, 3),
+        (A, HELD, 4),
+        Some(A),
+        Some(STAMPED),
+        Some(4),
+    ),
+    (
+        (B, STOPPED, 4),
+        (A, HELD, 4),
+        (A, HELD, 4),
+        Some(A),
+        Some(STAMPED),
+        None,
+    ),
+    (
+        (A, HELD, 4),
+        (A, STAMPED, 4),
+        (C, LATER, 3),
+        Some(C),
+        Some(MOVES),
+        Some(3),
+    ),
+    (
+        (C, HELD, 4),
+        (C, HELD, 4),
+        (B, STOPPED, 4),
+        Some(B),
+        Some(STOPS),
+        None,
+    ),
+    (
+        (B, LATER, 4),
+        (C, HELD, 3),
+        (D, LATER, 3),
+        Some(D),
+        Some(MOVES),
+        Some(3),
+    ),
+    // The quantum alone differs: from the captured one, from the shown one, and from both.
+    (
+        (A, HELD, 4),
+        (A, HELD, 3),
+        (A, HELD, 3),
+        None,
+        None,
+        Some(3),
+    ),
+    (
+        (A, HELD, 3),
+        (A, HELD, 4),
+        (A, HELD, 3),
+        None,
+        None,
+        Some(3),
+    ),
+    (
+        (A, HELD, 4),
+        (A, HELD, 4),
+        (A, HELD, 3),
+        None,
+        None,
+        Some(3),
+    ),
+    (
+        (A, HELD, 4),
+        (A, HELD, 3),
+        (A, HELD, 0),
+        None,
+        None,
+        Some(0),
+    ),
 ];
 
-// The timeline and the start of a commit: whether each is there, and its numbers.
-pub(super) type Parts = (Option<(i64, i64, i64)>, Option<(bool, i64, i64)>);
+// The timeline, the start and the quantum of a commit: whether each is there, and its numbers.
+pub(super) type Parts = (
+    Option<(i64, i64, i64)>,
+    Option<(bool, i64, i64)>,
+    Option<i64>,
+);
 
 const NEW: Option<(i64, i64, i64)> = Some((250_000, 3, 4));
 
 const BEGUN: Option<(bool, i64, i64)> = Some((false, 1, 2));
 
-// The number of one's own last commit and of those taken, its parts, and the timeline and the start shown then.
-const SHOWN: &[(u64, u64, Parts, (i64, i64, i64), (bool, i64, i64))] = &[
-    (1, 0, (NEW, None), (250_000, 3, 4), (true, -5, 6)),
-    (1, 0, (None, BEGUN), (500_000, 0, 0), (false, 1, 2)),
-    (2, 1, (NEW, BEGUN), (250_000, 3, 4), (false, 1, 2)),
-    (2, 0, (None, None), (500_000, 0, 0), (true, -5, 6)),
-    (1, 1, (NEW, BEGUN), (500_000, 0, 0), (true, -5, 6)),
-    (1, 2, (NEW, BEGUN), (500_000, 0, 0), (true, -5, 6)),
+const BAR: Option<i64> = Some(3_000_000);
+
+// The number of one's own last commit and of those taken, its parts, and the timeline, the start and the quantum shown then.
+const SHOWN: &[(u64, u64, Parts, (i64, i64, i64), (bool, i64, i64), i64)] = &[
+    (1, 0, (NEW, None, None), (250_000, 3, 4), (true, -5, 6), 10),
+    (
+        1,
+        0,
+        (None, BEGUN, None),
+        (500_000, 0, 0),
+        (false, 1, 2),
+        10,
+    ),
+    (
+        1,
+        0,
+        (None, None, BAR),
+        (500_000, 0, 0),
+        (true, -5, 6),
+        3_000_000,
+    ),
+    (
+        2,
+        1,
+        (NEW, BEGUN, BAR),
+        (250_000, 3, 4),
+        (false, 1, 2),
+        3_000_000,
+    ),
+    (2, 0, (None, None, None), (500_000, 0, 0), (true, -5, 6), 10),
+    (1, 1, (NEW, BEGUN, BAR), (500_000, 0, 0), (true, -5, 6), 10),
+    (1, 2, (NEW, BEGUN, BAR), (500_000, 0, 0), (true, -5, 6), 10),
     (
         u64::MAX,
         u64::MAX - 1,
-        (NEW, None),
+        (NEW, None, Some(0)),
         (250_000, 3, 4),
         (true, -5, 6),
+        0,
     ),
     (
         u64::MAX,
         u64::MAX,
-        (NEW, None),
+        (NEW, None, BAR),
         (500_000, 0, 0),
         (true, -5, 6),
+        10,
     ),
 ];
 
 // The parts of a commit, when it was made, and whether it is tidy.
 const TIDY: &[(Parts, i64, bool)] = &[
-    ((None, None), 0, true),
-    ((None, None), LIMIT, true),
-    ((None, None), -LIMIT, true),
-    ((None, None), LIMIT + 1, false),
-    ((None, None), -LIMIT - 1, false),
-    ((Some((60_060, LIMIT, -LIMIT)), None), 0, true),
-    ((Some((3_000_000, -LIMIT, LIMIT)), None), 0, true),
-    ((Some((60_059, 0, 0)), None), 0, false),
-    ((Some((3_000_001, 0, 0)), None), 0, false),
-    ((Some((500_000, LIMIT + 1, 0)), None), 0, false),
-    ((Some((500_000, 0, -LIMIT - 1)), None), 0, false),
-    ((None, Some((true, LIMIT, -LIMIT))), 0, true),
-    ((None, Some((true, LIMIT + 1, 0))), 0, false),
-    ((None, Some((false, 0, -LIMIT - 1))), 0, false),
+    ((None, None, None), 0, true),
+    ((None, None, None), LIMIT, true),
+    ((None, None, None), -LIMIT, true),
+    ((None, None, None), LIMIT + 1, false),
+    ((None, None, None), -LIMIT - 1, false),
+    ((Some((60_060, LIMIT, -LIMIT)), None, None), 0, true),
+    ((Some((3_000_000, -LIMIT, LIMIT)), None, None), 0, true),
+    ((Some((60_059, 0, 0)), None, None), 0, false),
+    ((Some((3_000_001, 0, 0)), None, None), 0, false),
+    ((Some((500_000, LIMIT + 1, 0)), None, None), 0, false),
+    ((Some((500_000, 0, -LIMIT - 1)), None, None), 0, false),
+    ((None, Some((true, LIMIT, -LIMIT)), None), 0, true),
+    ((None, Some((true, LIMIT + 1, 0)), None), 0, false),
+    ((None, Some((false, 0, -LIMIT - 1)), None), 0, false),
+    ((None, None, Some(0)), 0, true),
+    ((None, None, Some(LONGEST)), 0, true),
+    ((None, None, Some(-1)), 0, false),
+    ((None, None, Some(LONGEST + 1)), 0, false),
 ];
 
 // The commit of these parts, made then.
-pub(super) fn commit_of((tl, begins): Parts, at: i64) -> Commit {
+pub(super) fn commit_of((tl, begins, quantum): Parts, at: i64) -> Commit {
     Commit {
         timeline: tl.map(|(mpb, beat, time)| timeline(mpb, beat, time)),
         start: begins.map(|(playing, time, stamp)| start(playing, time, stamp)),
+        quantum,
         at,
     }
 }
@@ -141,6 +258,7 @@ pub(super) fn commit_of((tl, begins): Parts, at: i64) -> Commit {
 fn state_of(told: &Told) -> State {
     let mut held = state(told.0, 1);
     held.start = told.1;
+    held.quantum = told.2;
     held
 }
 
@@ -156,20 +274,23 @@ fn expect_shown(
     taken: u64,
     tl: (i64, i64, i64),
     begins: (bool, i64, i64),
+    quantum: i64,
 ) {
     let old = state(A, 1);
     let mut wanted = old;
     wanted.timeline = timeline(tl.0, tl.1, tl.2);
     wanted.start = start(begins.0, begins.1, begins.2);
+    wanted.quantum = quantum;
     expect(rt, &taken, &shown(&Own { last }, taken, &old), &wanted);
 }
 
 #[test]
 fn a_commit_carries_what_differs_from_the_captured_or_the_shown_state(rt: HostRuntime) {
-    for (old, seen, new, timeline, start) in CARRIED {
+    for (old, seen, new, timeline, start, quantum) in CARRIED {
         let wanted = Commit {
             timeline: *timeline,
             start: *start,
+            quantum: *quantum,
             at: 100,
         };
         expect_carried(&rt, old, seen, new, &wanted);
@@ -178,10 +299,11 @@ fn a_commit_carries_what_differs_from_the_captured_or_the_shown_state(rt: HostRu
 
 #[test]
 fn an_own_commit_shows_until_it_is_taken(rt: HostRuntime) {
-    for &(number, taken, parts, tl, begins) in SHOWN {
-        expect_shown(&rt, Some((number, commit_of(parts, 9))), taken, tl, begins);
+    for &(number, taken, parts, tl, begins, quantum) in SHOWN {
+        let last = Some((number, commit_of(parts, 9)));
+        expect_shown(&rt, last, taken, tl, begins, quantum);
     }
-    expect_shown(&rt, None, 0, (500_000, 0, 0), (true, -5, 6));
+    expect_shown(&rt, None, 0, (500_000, 0, 0), (true, -5, 6), 10);
 }
 
 #[test]

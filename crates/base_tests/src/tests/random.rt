@@ -4,10 +4,10 @@ ghost use Rattle.std.specs.Prelude.{◌≡◌, ◌≤◌, ◌^◌, pos, ◌≤�
 ghost use Rattle.lk_base.specs.Ranges.{IsQuantum, IsWithin, IsWithinLimit};
 ghost use Rattle.lk_base.specs.Timeline.{IsTidy};
 
-use super::{expect, start, timeline};
+use super::{LONGEST, expect, start, timeline};
 use client_state::{Commit, Own, State, client_from_session, session_from_client, shown};
 use ghost_xform::XForm;
-use lk_base::Timeline;
+use lk_base::{NodeId, Timeline};
 use std::process::Abort;
 use timeline_math::{beat_at, phase, tidy};
 
@@ -32,9 +32,9 @@ fn quantum(seed: &mut u64) -> i64
     (word(seed) / (1 << 25)) as i64 + 100
 }
 
-fn words(seed: &mut u64) -> [u64; 9] {
-    let mut words = [0; 9];
-    for k in 0..9 {
+fn words(seed: &mut u64) -> [u64; 11] {
+    let mut words = [0; 11];
+    for k in 0..11 {
         words[k] = word(seed);
     }
     words
@@ -53,11 +53,18 @@ fn tidy_state(seed: &mut u64) -> State
     let mut state = State::from_row(&words(seed));
     state.timeline = tidy_timeline(seed);
     state.start = start(word(seed) % 2 == 0, number(seed) % 3, number(seed));
+    state.quantum = quantum(seed);
     state
 }
 
+// Whatever the words are, what is read of them is in range, and is read back from its own.
 fn expect_rows(rt: &impl Abort, seed: &mut u64) {
-    let state = State::from_row(&words(seed));
+    let words_of_state = words(seed);
+    let state = State::from_row(&words_of_state);
+    let session = NodeId(words_of_state[9].to_be_bytes());
+    expect(rt, &"session", &state.session, &session);
+    let within = 0 <= state.quantum && state.quantum <= LONGEST;
+    expect(rt, &state.quantum, &within, &true);
     expect(rt, &"state", &State::from_row(&state.row()), &state);
     let commit = Commit::from_row(&words(seed));
     expect(rt, &commit, &commit.is_tidy(), &true);
@@ -140,7 +147,7 @@ fn one_of(seed: &mut u64, first: State, second: State) -> State
     if coin(seed) { first } else { second }
 }
 
-// The same with a tempo, a start, both or none set.
+// The same with a tempo, a start, a quantum, some of them or none set.
 fn edited(seed: &mut u64, old: State) -> State
     requires { IsTidy old.timeline }
 {
@@ -150,6 +157,9 @@ fn edited(seed: &mut u64, old: State) -> State
     }
     if coin(seed) {
         new.set_playing(coin(seed), number(seed) % 3);
+    }
+    if coin(seed) {
+        new.set_quantum(number(seed));
     }
     new
 }
@@ -168,6 +178,7 @@ fn expect_commit(rt: &impl Abort, seed: &mut u64) {
     expect(rt, &"timeline", &shows.timeline, &new.timeline);
     expect(rt, &"playing", &shows.start.playing, &new.start.playing);
     expect(rt, &"time", &shows.start.time, &new.start.time);
+    expect(rt, &"quantum", &shows.quantum, &new.quantum);
 }
 
 // What goes to the session and comes back moves no beat far, and wins where it changes something.

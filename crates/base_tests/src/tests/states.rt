@@ -3,9 +3,9 @@
 ghost use Rattle.std.specs.Prelude.{◌≡◌};
 
 use super::clicks::{a_block, expect_found};
-use super::{a_place, a_quantum, a_timeline, expect, start, timeline};
+use super::{LONGEST, a_place, a_quantum, a_timeline, expect, start, timeline};
 use client_state::State;
-use lk_base::{LIMIT, Timeline};
+use lk_base::{LIMIT, NodeId, Timeline};
 use std::process::Abort;
 
 // A timeline, the tempo that is set and when, and the timeline afterwards.
@@ -139,16 +139,32 @@ const FORCED: &[[i64; 10]] = &[
     [60_060, 0, 0, 2_000_000, 30_030, 4_000_000, 0, -90_090, 0, 0],
 ];
 
-// Whether a state plays, since when, and its clicks in its first second.
-const CLICKED: &[(bool, i64, &[(i64, bool)])] = &[
-    (false, 0, &[]),
-    (true, i64::MIN, &[(0, true), (500_000, false)]),
-    (true, 0, &[(0, true), (500_000, false)]),
-    (true, 1, &[(500_000, false)]),
-    (true, 500_000, &[(500_000, false)]),
-    (true, 500_001, &[]),
-    (true, 1_000_000, &[]),
-    (true, i64::MAX, &[]),
+// Whether a state plays, since when, its quantum, and its clicks in its first second.
+const CLICKED: &[(bool, i64, i64, &[(i64, bool)])] = &[
+    (false, 0, 4_000_000, &[]),
+    (true, i64::MIN, 4_000_000, &[(0, true), (500_000, false)]),
+    (true, 0, 4_000_000, &[(0, true), (500_000, false)]),
+    (true, 1, 4_000_000, &[(500_000, false)]),
+    (true, 500_000, 4_000_000, &[(500_000, false)]),
+    (true, 500_001, 4_000_000, &[]),
+    (true, 1_000_000, 4_000_000, &[]),
+    (true, i64::MAX, 4_000_000, &[]),
+    // The beat at 500,000 has the phase 1,000,000, then 0, and 0 where there is no quantum.
+    (true, 0, 1_500_000, &[(0, true), (500_000, false)]),
+    (true, 0, 1_000_000, &[(0, true), (500_000, true)]),
+    (true, 0, 0, &[(0, true), (500_000, true)]),
+];
+
+// A quantum that is set, and the one that a state has then.
+const QUANTA: &[(i64, i64)] = &[
+    (0, 0),
+    (1, 1),
+    (4_000_000, 4_000_000),
+    (LONGEST, LONGEST),
+    (LONGEST + 1, LONGEST),
+    (i64::MAX, LONGEST),
+    (-1, 0),
+    (i64::MIN, 0),
 ];
 
 // A state of this timeline, with numbers of its own everywhere else.
@@ -163,6 +179,8 @@ pub(super) fn state(tl: Timeline, peers: u32) -> State
         moment: 7,
         app: 8,
         audio: 9,
+        session: NodeId(*b"ABCDEFGH"),
+        quantum: 10,
     }
 }
 
@@ -213,11 +231,21 @@ fn expect_requested(rt: &impl Abort, row: &[i64; 10], peers: u32, want_beat: i64
 }
 
 // The clicks of the first second of a state that plays from that time on, or doesn't play.
-fn expect_clicks(rt: &impl Abort, playing: bool, from: i64, wanted: &[(i64, bool)]) {
+fn expect_clicks(rt: &impl Abort, playing: bool, from: i64, quantum: i64, wanted: &[(i64, bool)]) {
     let mut state = state(a_timeline(rt, 500_000, 0, 0), 0);
+    state.quantum = a_quantum(rt, quantum);
     state.set_playing(playing, from);
     let block = a_block(rt, 0, 1_000_000);
-    expect_found(rt, from, &state.clicks(block, 4_000_000), wanted);
+    expect_found(rt, from, &state.clicks(block), wanted);
+}
+
+// Sets the quantum, and expects this one and all else as it was.
+fn expect_quantum(rt: &impl Abort, set: i64, wanted: i64) {
+    let mut now = state(timeline(500_000, 0, 0), 0);
+    let mut then = now;
+    now.set_quantum(set);
+    then.quantum = wanted;
+    expect(rt, &set, &now, &then);
 }
 
 #[test]
@@ -238,7 +266,14 @@ fn a_beat_is_forced_at_its_time_and_requested_with_peers_at_the_next_match(rt: H
 
 #[test]
 fn a_state_clicks_while_it_plays_from_its_start_on(rt: HostRuntime) {
-    for &(playing, from, wanted) in CLICKED {
-        expect_clicks(&rt, playing, from, wanted);
+    for &(playing, from, quantum, wanted) in CLICKED {
+        expect_clicks(&rt, playing, from, quantum, wanted);
+    }
+}
+
+#[test]
+fn a_quantum_is_taken_to_the_nearest_of_its_range(rt: HostRuntime) {
+    for &(set, wanted) in QUANTA {
+        expect_quantum(&rt, set, wanted);
     }
 }

@@ -14,20 +14,21 @@ use timeline_math::clicks;
 impl State {
     ghost use Rattle.client_state.specs.State.{clicks_in};
 
-    /// The clicks of a block of at most a second: none where the state isn't playing, else those at or after the start.
+    /// The clicks of a block of at most a second, accented by the state's quantum: none where it isn't playing, else those
+    /// at or after the start.
     #[tactic(auto, unfolding(crate::specs::State::clicks_in))]
-    pub fn clicks(&self, block: Block, quantum: i64) -> Clicks
+    pub fn clicks(&self, block: Block) -> Clicks
         requires tidy { IsTidy self.now.timeline }
-        requires quantum { IsQuantum quantum }
+        requires quantum { IsQuantum self.now.quantum }
         requires positive { pos 0 ≤ℤ block.length }
         requires short { block.length ≤ℤ pos 1_000_000 }
         requires start { IsWithinLimit block.start }
         requires end { IsWithinLimit (block.start +ℤ block.length) }
-        ensures clicks { result.items ≡ clicks_in self.now block quantum }
+        ensures clicks { result.items ≡ clicks_in self.now block }
         ensures few { array_vec_len result ≤ 17 }
     {
         if self.start.playing {
-            clicks_after(&self.timeline, self.start.time, block, quantum)
+            clicks_after(&self.timeline, self.start.time, block, self.quantum)
         } else {
             Clicks::new()
         }

@@ -1,20 +1,20 @@
-//! Edits of a state. None of them takes memory or waits, and each gives a tidy timeline.
+//! Edits of a state. None of them takes memory or waits, and what each gives is tidy.
 
 ghost use Rattle.std.specs.Prelude.{◌≡◌, pos, ◌^◌, ◌-ℤ◌, ◌≤ℤ◌};
 ghost use Rattle.lk_base.specs.Ranges.{IsQuantum, IsWithin, IsWithinLimit};
 ghost use Rattle.lk_base.specs.Rounding.{clipped_of};
 ghost use Rattle.lk_base.specs.Timeline.{IsTidy};
 ghost use Rattle.timeline_math.specs.Tidying.{clamped_of};
-ghost use Rattle.client_state.specs.Edits.{advance_of, forced_of, next_time_of, requested_of, tempo_set_of};
+ghost use Rattle.client_state.specs.Edits.{advance_of, forced_of, next_time_of, quantum_set_of, requested_of, tempo_set_of};
 
-use crate::state::State;
+use crate::state::{QUANTUM_MAX, State};
 use lk_base::{Timeline, clip, moved};
 use timeline_math::{
     beat_at, closest_match, encoded_beat, encoded_time, next_match, tidy, time_at,
 };
 
 impl State {
-    ghost use Rattle.client_state.specs.Edits.{tempo_set_of, forced_of, requested_of, played_of};
+    ghost use Rattle.client_state.specs.Edits.{tempo_set_of, forced_of, requested_of, quantum_set_of, played_of};
 
     /// Sets the tempo, in microseconds per beat, clamped to 60,060..=3,000,000, and keeps the beat at the host time
     /// `at`, but for a rounding of at most 8 microbeats, where the new time origin isn't clipped.
@@ -58,6 +58,14 @@ impl State {
         self.timeline = requested(self.peers, &self.timeline, beat, at, quantum);
     }
 
+    /// Sets the quantum, in microbeats, taken to the nearest of 0..=2^40.
+    pub fn set_quantum(&mut self, quantum: i64)
+        ensures value { self.new ≡ record self.old { quantum = quantum_set_of quantum } }
+        ensures within { IsQuantum self.new.quantum }
+    {
+        self.quantum = nearest_quantum(quantum);
+    }
+
     /// Starts or stops playing at a host time. The stamp stays: a commit sets it.
     pub fn set_playing(&mut self, playing: bool, time: i64)
         ensures { self.new ≡ record self.old { start = played_of self.old.start playing time } }
@@ -65,6 +73,14 @@ impl State {
         self.start.playing = playing;
         self.start.time = time;
     }
+}
+
+// The nearest length that a quantum may have.
+pub(crate) fn nearest_quantum(quantum: i64) -> i64
+    ensures value { result ≡ quantum_set_of quantum }
+    ensures within { IsQuantum result }
+{
+    quantum.clamp(0, QUANTUM_MAX)
 }
 
 // The line of the clamped tempo through the beat that is there at `at`, with the same beat origin.

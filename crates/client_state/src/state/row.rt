@@ -4,16 +4,18 @@ ghost use Rattle.std.specs.Prelude.{◌≡◌, ◌+◌, ◌*◌, ◌/◌, ◌%�
 ghost use Rattle.client_state.specs.Words.{flag_of};
 
 use crate::state::State;
-use crate::words::{clipped_of_word, flag, flag_in, timeline_of_words};
+use crate::words::{
+    clipped_of_word, flag, flag_in, id_of_word, quantum_of_word, timeline_of_words, word_of_id,
+};
 use lk_base::ClientStart;
 
 impl State {
     ghost use Rattle.client_state.specs.State.{IsTidyState};
     ghost use Rattle.client_state.specs.Words.{words_of_state, state_of_words};
 
-    /// The state as a row of nine words. A tidy state is read back from its row.
+    /// The state as a row of eleven words. A tidy state is read back from its row.
     #[tactic(auto, unfolding(crate::specs::Words::words_of_state))]
-    pub fn row(&self) -> [u64; 9]
+    pub fn row(&self) -> [u64; 11]
         ensures words { result ≡ words_of_state self.now }
         ensures reads_back { IsTidyState self.now → state_of_words result ≡ self.now }
     {
@@ -27,13 +29,15 @@ impl State {
             self.moment.cast_unsigned(),
             self.app,
             self.audio,
+            word_of_id(self.session),
+            self.quantum.cast_unsigned(),
         ]
     }
 
-    /// The state in a row. Whatever the words are, it is tidy: the tempo is clamped, and every other signed number is
-    /// clipped to 2^60.
+    /// The state in a row. Whatever the words are, it is tidy: the tempo is clamped, the quantum taken to the nearest of
+    /// 0..=2^40, and every other signed number clipped to 2^60.
     #[tactic(auto, unfolding(crate::specs::Words::state_of_words))]
-    pub fn from_row(row: &[u64; 9]) -> State
+    pub fn from_row(row: &[u64; 11]) -> State
         ensures state { result ≡ state_of_words row.now }
         ensures tidy { IsTidyState result }
     {
@@ -49,6 +53,8 @@ impl State {
             moment: clipped_of_word(row[6]),
             app: row[7],
             audio: row[8],
+            session: id_of_word(row[9]),
+            quantum: quantum_of_word(row[10]),
         }
     }
 }
