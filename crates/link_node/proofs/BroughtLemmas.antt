@@ -220,11 +220,11 @@ took_client given client start m session tl took =
 paired : (a b : NodeId) (x y : Timeline) → a ≡ b → x ≡ y → ◌≡◌ {A = NodeId × Timeline} (a, x) (b, y)
 paired a b x y e f = ap (λ (i : NodeId). (i, x)) e ∙ ap (λ (t : Timeline). (b, t)) f
 
-took_committed_by : (given : Option Timeline) (client : Timeline) (start : Option ClientStart) (m : Machine) (session : NodeId) (tl : Timeline)
-    → IsTakenIn (committed_by given client start m) session tl → IsTakenIn m session tl ⊎ Has (given_of given m) (session, tl)
-took_committed_by None client start m session tl took = inl took
-took_committed_by (Some given) client start m session tl took =
-    elim (took_client given client start m session tl took) as (λ _. IsTakenIn m session tl ⊎ Has {A = NodeId × Timeline} ((session_in m, given) ∷ []) (session, tl)) [
+took_committed_by : (given : Option Timeline) (client : Timeline) (commit : Commit) (m : Machine) (session : NodeId) (tl : Timeline)
+    → IsTakenIn (committed_by given client commit m) session tl → IsTakenIn m session tl ⊎ Has (given_of given m) (session, tl)
+took_committed_by None client commit m session tl took = inl took
+took_committed_by (Some given) client commit m session tl took =
+    elim (took_client given client commit.start m session tl took) as (λ _. IsTakenIn m session tl ⊎ Has {A = NodeId × Timeline} ((session_in m, given) ∷ []) (session, tl)) [
       | inl old ↦ inl old
       | inr new ↦ inr (inl (paired (session_in m) session given tl new.0 new.1))
     ]
@@ -234,7 +234,7 @@ took_timeline_committed : (client : Option Timeline) (commit : Commit) (m : Mach
 took_timeline_committed None commit m session tl took =
     inl (took_within (known m.sessions) (known (start_committed commit.start m).sessions) (in_start_committed commit.start m) session tl took)
 took_timeline_committed (Some client) commit m session tl took =
-    took_committed_by (session_from_client_of (timeline_in m) client commit.at (offset_in m)) client commit.start m session tl took
+    took_committed_by (session_from_client_of (timeline_in m) client commit.at (offset_in m)) client commit m session tl took
 
 took_commit : (commit : Commit) (m : Machine) (session : NodeId) (tl : Timeline)
     → IsTakenIn (commit_taken commit m) session tl → IsTakenIn m session tl ⊎ Has (given_by commit.timeline commit m) (session, tl)

@@ -18,7 +18,7 @@ use Rattle.client_state.specs.declared.commit.Commit.{Commit}
 use Rattle.link_node.specs.Brought.{given_of, given_by}
 use Rattle.link_node.specs.Brought as brought
 use Rattle.link_node.specs.Client.{renewed}
-use Rattle.link_node.specs.Commits.{start_committed, with_client_start, client_taken, committed_by, timeline_committed, commit_taken, app_taken, audio_taken}
+use Rattle.link_node.specs.Commits.{start_committed, rest_committed, with_client_start, client_taken, committed_by, timeline_committed, commit_taken, app_taken, audio_taken}
 use Rattle.link_node.specs.Event.{EventValue, Rx, Tick, App, Audio, End}
 use Rattle.link_node.specs.Machine.{Machine, session_in, timeline_in, offset_in}
 use Rattle.link_node.specs.Settling.{settled, founded, counted, is_left}
@@ -95,7 +95,7 @@ module _ (there : (first : Timeline) (later : List Timeline) → IsBest (first �
 
   given-counts : (found : Option Timeline) (client : Timeline) (commit : Commit) (m : Machine) (session : NodeId) (tl : Timeline)
       → session_from_client_of (timeline_in m) client commit.at (offset_in m) ≡ found → Has (given_of found m) (session, tl)
-      → Counts (committed_by found client commit.start m).sessions session tl
+      → Counts (committed_by found client commit m).sessions session tl
   unfolding renewed
   given-counts None client commit m session tl is has = absurd has
   given-counts (Some given) client commit m session tl is (inl e) =
@@ -141,19 +141,20 @@ start-taken : (start : ClientStart) (m : Machine) → m.client_start.stamp <ℤ 
 unfolding start_committed
 start-taken start m lt = ap (λ b. (if b then with_client_start start m else m).client_start) (is_below m.client_start.stamp start.stamp lt)
 
-given-start : (found : Option Timeline) (client : Timeline) (start : ClientStart) (m : Machine) → (found ≡ None → ⊥) → m.client_start.stamp <ℤ start.stamp
-    → (committed_by found client (Some start) m).client_start ≡ start
+rest-start : (commit : Commit) (start : ClientStart) (m : Machine) → commit.start ≡ Some start → m.client_start.stamp <ℤ start.stamp → (rest_committed commit m).client_start ≡ start
+rest-start commit start m begins lt = ap (λ s. (start_committed s m).client_start) begins ∙ start-taken start m lt
+
+given-start : (found : Option Timeline) (client : Timeline) (commit : Commit) (start : ClientStart) (m : Machine) → commit.start ≡ Some start → (found ≡ None → ⊥)
+    → m.client_start.stamp <ℤ start.stamp → (committed_by found client commit m).client_start ≡ start
 unfolding renewed
-given-start None client start m given lt = absurd (given refl)
-given-start (Some session) client start m given lt = start-taken start (client_taken (Some session) client m) lt
+given-start None client commit start m begins given lt = absurd (given refl)
+given-start (Some session) client commit start m begins given lt = rest-start commit start (client_taken (Some session) client m) begins lt
 
 timeline-start : (client : Option Timeline) (commit : Commit) (start : ClientStart) (m : Machine) → commit.timeline ≡ client → commit.start ≡ Some start → m.client_start.stamp <ℤ start.stamp
     → (IsSpent m commit → ⊥) → (timeline_committed client commit m).client_start ≡ start
-timeline-start None commit start m is begins lt room =
-    ap (λ s. (start_committed s m).client_start) begins ∙ start-taken start m lt
+timeline-start None commit start m is begins lt room = rest-start commit start m begins lt
 timeline-start (Some client) commit start m is begins lt room =
-    let found = session_from_client_of (timeline_in m) client commit.at (offset_in m) in
-    ap (λ s. (committed_by found client s m).client_start) begins ∙ given-start found client start m (λ none. room (client, is, none)) lt
+    given-start (session_from_client_of (timeline_in m) client commit.at (offset_in m)) client commit start m begins (λ none. room (client, is, none)) lt
 
 midst-start : (m : Machine) (e : EventValue) (commit : Commit) (start : ClientStart) → commit_in e ≡ Some commit → commit.start ≡ Some start → m.client_start.stamp <ℤ start.stamp
     → (IsSpent m commit → ⊥) → (midst m e).client_start ≡ start

@@ -1,7 +1,7 @@
 -- When a tick has work: after a tick nothing is due, and commits put nothing off.
 use Rattle.std.proofs.Common.{◌≡◌, ◌⊎◌, ◌+◌, ◌||◌, ◌&&◌, ◌==◌, ℕ, zero, suc, ℤ, pos, ◌+ℤ◌, ◌≤ℤ◌, ◌<ℤ◌, Bool, true, false, not, List, [], ◌∷◌, nat_lt, nat_le, int_lt, int_le, filter, map, Option, Some, None, refl, sym, ap, ◌∙◌, subst, inl, inr, arith}
 use Rattle.std.proofs.lemmas.Bool.{and_parts, and_right, eqb-true, false≢true, or_parts}
-use Rattle.std.proofs.lemmas.Bool.Decides.{nat_tests}
+use Rattle.std.proofs.lemmas.Bool.Decides.{Decides-int_eq, nat_tests}
 use Rattle.std.proofs.lemmas.Int.{ints, clamps}
 use Rattle.std.proofs.Math.Dec.{eqb-suc-zero}
 use Rattle.std.proofs.lemmas.List.{append-nil}
@@ -9,6 +9,7 @@ use Rattle.std.specs.Prelude.{if◌then◌else◌, is_some, IfSome, IsSomeAnd, o
 use Rattle.std.specs.Int.{int_max, int_min}
 use Rattle.std.specs.List.{AllByRecursion}
 use Rattle.std.specs.Option.{option_map_or}
+use Rattle.std.specs.Ordering.{int_eq}
 use Rattle.lk_base.specs.IdOrder.{same_id}
 use Rattle.lk_base.specs.declared.endpoint.Target.{Target}
 use Rattle.lk_base.specs.declared.ids.NodeId.{NodeId}
@@ -36,7 +37,7 @@ use Rattle.client_state.specs.Timelines.{session_from_client_of}
 use Rattle.client_state.specs.declared.commit.Commit.{Commit}
 use Rattle.link_node.specs.Broadcast.{broadcast_after, is_broadcast, is_due_after}
 use Rattle.link_node.specs.Client.{renewed}
-use Rattle.link_node.specs.Commits.{app_taken, audio_taken, commit_taken, committed_by, start_committed, timeline_committed, with_client_start, with_client_timeline}
+use Rattle.link_node.specs.Commits.{app_taken, audio_taken, commit_taken, committed_by, rest_committed, start_committed, timeline_committed, with_client_start, with_client_timeline}
 use Rattle.link_node.specs.Due.{broadcast_due, due_of, earlier_of, earliest_of, waiting_due}
 use Rattle.link_node.specs.Event.{App, Audio, Tick}
 use Rattle.link_node.specs.Machine.{Machine, offset_in, session_in, timeline_in}
@@ -47,6 +48,7 @@ use Rattle.link_node.specs.Step.{at_moment, before_broadcast, before_shown, step
 use Rattle.link_node.specs.Tick.{begun, begun_at, begun_from, begun_one, cleared, idle_forgotten, is_remeasured, pruned, remeasure_queued, ticked, waiting_with}
 use Rattle.link_node.specs.WellFormed.{IsMachine}
 use Rattle.link_node.specs.declared.node.settling.Held.{Held}
+use Rattle.link_node.proofs.Lists.{id_from_test}
 use Rattle.link_node.proofs.RuleLemmas.{begun_one-waiting}
 
 -- ---- the earliest of several
@@ -423,12 +425,27 @@ start-left (Some start) m =
     (λ _. record { session = refl; moment = refl; life = refl; peers = refl; waiting = refl; later = refl; measuring = refl; last = refl; changed = refl })
     (λ _. left-same m)
 
-committed-left : (session : Option Timeline) (client : Timeline) (start : Option ClientStart) (m : Machine) → LeavesDue m (committed_by session client start m)
+rest-left : (commit : Commit) (m : Machine) → LeavesDue m (rest_committed commit m)
+rest-left commit m =
+    let left = start-left commit.start m in
+    record {
+      session = left.session;
+      moment = left.moment;
+      life = left.life;
+      peers = left.peers;
+      waiting = left.waiting;
+      later = left.later;
+      measuring = left.measuring;
+      last = left.last;
+      changed = left.changed;
+    }
+
+committed-left : (session : Option Timeline) (client : Timeline) (commit : Commit) (m : Machine) → LeavesDue m (committed_by session client commit m)
 unfolding renewed
-committed-left None client start m = left-same m
-committed-left (Some session) client start m =
+committed-left None client commit m = left-same m
+committed-left (Some session) client commit m =
     let n = with_client_timeline client session m in
-    let left = start-left start n in
+    let left = start-left commit.start n in
     record {
       session = left.session;
       moment = left.moment;
@@ -442,8 +459,8 @@ committed-left (Some session) client start m =
     }
 
 timeline-left : (timeline : Option Timeline) (commit : Commit) (m : Machine) → LeavesDue m (timeline_committed timeline commit m)
-timeline-left None commit m = start-left commit.start m
-timeline-left (Some client) commit m = committed-left (session_from_client_of (timeline_in m) client commit.at (offset_in m)) client commit.start m
+timeline-left None commit m = rest-left commit m
+timeline-left (Some client) commit m = committed-left (session_from_client_of (timeline_in m) client commit.at (offset_in m)) client commit m
 
 commit-left : (commit : Commit) (m : Machine) → LeavesDue m (commit_taken commit m)
 unfolding commit_taken
@@ -528,26 +545,35 @@ audio_puts_off_nothing m number commit now h due =
 
 -- ---- what the state published last tells
 
-pub record TellsCounts (m : Machine) : Type 0 where
+pub record Tells (m : Machine) : Type 0 where
   pub peers : m.published.peers ≡ m.peers
   pub app : m.published.app ≡ m.app
   pub audio : m.published.audio ≡ m.audio
+  pub session : m.published.session ≡ session_in m
+  pub quantum : m.published.quantum ≡ m.quantum
 
-pub states_tell : (m : Machine) → IsMachine m → TellsCounts m
+pub states_tell : (m : Machine) → IsMachine m → Tells m
 unfolding alike
 states_tell m h =
     let a = state_in m in
     let b = m.published in
-    let counts = (a.peers == b.peers) && ((a.app == b.app) && (a.audio == b.audio)) in
+    let of_session = same_id a.session b.session && int_eq a.quantum b.quantum in
+    let of_audio = (a.audio == b.audio) && of_session in
+    let of_app = (a.app == b.app) && of_audio in
+    let counts = (a.peers == b.peers) && of_app in
     let of_sync = same_bool a.sync b.sync && counts in
     let of_start = same_client_start a.start b.start && of_sync in
     let rest = (and_parts (same_timeline a.timeline b.timeline) of_start h.shown).1 in
     let after_start = (and_parts (same_client_start a.start b.start) of_sync rest).1 in
     let after_sync = (and_parts (same_bool a.sync b.sync) counts after_start).1 in
-    let of_peers = and_parts (a.peers == b.peers) ((a.app == b.app) && (a.audio == b.audio)) after_sync in
-    let of_counts = and_parts (a.app == b.app) (a.audio == b.audio) of_peers.1 in
+    let peers = and_parts (a.peers == b.peers) of_app after_sync in
+    let app = and_parts (a.app == b.app) of_audio peers.1 in
+    let audio = and_parts (a.audio == b.audio) of_session app.1 in
+    let session = and_parts (same_id a.session b.session) (int_eq a.quantum b.quantum) audio.1 in
     record {
-      peers = sym (eqb-true a.peers b.peers of_peers.0);
-      app = sym (eqb-true a.app b.app of_counts.0);
-      audio = sym (eqb-true a.audio b.audio of_counts.1);
+      peers = sym (eqb-true a.peers b.peers peers.0);
+      app = sym (eqb-true a.app b.app app.0);
+      audio = sym (eqb-true a.audio b.audio audio.0);
+      session = sym (id_from_test a.session b.session session.0);
+      quantum = sym ((Decides-int_eq a.quantum b.quantum).0 session.1);
     }

@@ -39,7 +39,7 @@ use Rattle.client_state.specs.Timelines.{client_from_session_of, session_from_cl
 use Rattle.client_state.specs.declared.commit.Commit.{Commit}
 use Rattle.link_node.specs.Arrival.{arrived, is_heard}
 use Rattle.link_node.specs.Client.{renewed}
-use Rattle.link_node.specs.Commits.{start_committed, with_client_start, client_taken, committed_by, timeline_committed, commit_taken, app_taken, audio_taken}
+use Rattle.link_node.specs.Commits.{start_committed, rest_committed, with_client_start, client_taken, committed_by, timeline_committed, commit_taken, app_taken, audio_taken}
 use Rattle.link_node.specs.Config.{ConfigValue}
 use Rattle.link_node.specs.Event.{EventValue, Rx, Tick, App, Audio, End, moment_of}
 use Rattle.link_node.specs.Machine.{Machine, session_in, timeline_in, offset_in}
@@ -176,15 +176,20 @@ start_committed-follows None m follows = follows
 start_committed-follows (Some start) m follows =
     either-follows (int_lt m.client_start.stamp start.stamp) (with_client_start start m) m (record { tempo = follows.tempo; time = follows.time }) follows
 
-committed_by-follows : (given : Option Timeline) (client : Timeline) (start : Option ClientStart) (m : Machine) → IsFollowing m → IsFollowing (committed_by given client start m)
-committed_by-follows None client start m follows = follows
-committed_by-follows (Some given) client start m follows =
-    start_committed-follows start (client_taken (Some given) client m) (renewed-follows (record m { client = client; sessions = committed given m.sessions }))
+rest_committed-follows : (commit : Commit) (m : Machine) → IsFollowing m → IsFollowing (rest_committed commit m)
+rest_committed-follows commit m follows =
+    let after = start_committed-follows commit.start m follows in
+    record { tempo = after.tempo; time = after.time }
+
+committed_by-follows : (given : Option Timeline) (client : Timeline) (commit : Commit) (m : Machine) → IsFollowing m → IsFollowing (committed_by given client commit m)
+committed_by-follows None client commit m follows = follows
+committed_by-follows (Some given) client commit m follows =
+    rest_committed-follows commit (client_taken (Some given) client m) (renewed-follows (record m { client = client; sessions = committed given m.sessions }))
 
 timeline_committed-follows : (client : Option Timeline) (commit : Commit) (m : Machine) → IsFollowing m → IsFollowing (timeline_committed client commit m)
-timeline_committed-follows None commit m follows = start_committed-follows commit.start m follows
+timeline_committed-follows None commit m follows = rest_committed-follows commit m follows
 timeline_committed-follows (Some client) commit m follows =
-    committed_by-follows (session_from_client_of (timeline_in m) client commit.at (offset_in m)) client commit.start m follows
+    committed_by-follows (session_from_client_of (timeline_in m) client commit.at (offset_in m)) client commit m follows
 
 commit-follows : (commit : Commit) (m : Machine) → IsFollowing m → IsFollowing (commit_taken commit m)
 unfolding commit_taken

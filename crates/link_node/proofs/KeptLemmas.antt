@@ -177,19 +177,19 @@ start_committed-sessions None m = refl
 start_committed-sessions (Some start) m =
     by_test (λ b. (if b then with_client_start start m else m).sessions ≡ m.sessions) (int_lt m.client_start.stamp start.stamp) (λ _. refl) (λ _. refl)
 
-committed_by-keeps : (given : Option Timeline) (client : Timeline) (start : Option ClientStart) (m : Machine) (session : NodeId) (tl : Timeline) → IsTakenIn m session tl
-    → IsTakenIn (committed_by given client start m) session tl
+committed_by-keeps : (given : Option Timeline) (client : Timeline) (commit : Commit) (m : Machine) (session : NodeId) (tl : Timeline) → IsTakenIn m session tl
+    → IsTakenIn (committed_by given client commit m) session tl
 unfolding renewed
-committed_by-keeps None client start m session tl took = took
-committed_by-keeps (Some given) client start m session tl took =
-    subst (λ (h : History). Took (known h) session tl) (sym (start_committed-sessions start (client_taken (Some given) client m))) (committed_keeps m.sessions given session tl took)
+committed_by-keeps None client commit m session tl took = took
+committed_by-keeps (Some given) client commit m session tl took =
+    subst (λ (h : History). Took (known h) session tl) (sym (start_committed-sessions commit.start (client_taken (Some given) client m))) (committed_keeps m.sessions given session tl took)
 
 timeline_committed-keeps : (client : Option Timeline) (commit : Commit) (m : Machine) (session : NodeId) (tl : Timeline) → IsTakenIn m session tl
     → IsTakenIn (timeline_committed client commit m) session tl
 timeline_committed-keeps None commit m session tl took =
     subst (λ (h : History). Took (known h) session tl) (sym (start_committed-sessions commit.start m)) took
 timeline_committed-keeps (Some client) commit m session tl took =
-    committed_by-keeps (session_from_client_of (timeline_in m) client commit.at (offset_in m)) client commit.start m session tl took
+    committed_by-keeps (session_from_client_of (timeline_in m) client commit.at (offset_in m)) client commit m session tl took
 
 commit_keeps : (commit : Commit) (m : Machine) (session : NodeId) (tl : Timeline) → IsTakenIn m session tl → IsTakenIn (commit_taken commit m) session tl
 unfolding commit_taken

@@ -27,7 +27,7 @@ use Rattle.client_state.specs.declared.commit.Commit.{Commit}
 use Rattle.client_state.proofs.StartLemmas.{later-seen}
 use Rattle.link_node.specs.Arrival.{arrived, is_heard}
 use Rattle.link_node.specs.Client.{renewed}
-use Rattle.link_node.specs.Commits.{start_committed, with_client_start, client_taken, committed_by, timeline_committed, commit_taken, app_taken, audio_taken}
+use Rattle.link_node.specs.Commits.{start_committed, rest_committed, with_client_start, client_taken, committed_by, timeline_committed, commit_taken, app_taken, audio_taken}
 use Rattle.link_node.specs.Event.{EventValue, Rx, Tick, App, Audio, End}
 use Rattle.link_node.specs.Machine.{Machine, still, session_in, timeline_in, offset_in, start_in}
 use Rattle.link_node.specs.Staying.{Hears, IsSpent, commit_in}
@@ -157,21 +157,22 @@ unfolding start_committed
 start_committed-has start m later =
     subst (λ b. HasImage (if b then with_client_start start m else m) start) (sym (is_below m.client_start.stamp start.stamp later.client)) (with_client_start-has start m later)
 
-committed_by-has : (found : Option Timeline) (client : Timeline) (start : ClientStart) (m : Machine) → (found ≡ None → ⊥) → IsLater m start
-    → HasImage (committed_by found client (Some start) m) start
+rest_committed-has : (commit : Commit) (start : ClientStart) (m : Machine) → commit.start ≡ Some start → IsLater m start → HasImage (rest_committed commit m) start
+rest_committed-has commit start m begins later =
+    subst (λ (s : Option ClientStart). HasImage (start_committed s m) start) (sym begins) (start_committed-has start m later)
+
+committed_by-has : (found : Option Timeline) (client : Timeline) (commit : Commit) (start : ClientStart) (m : Machine) → commit.start ≡ Some start → (found ≡ None → ⊥) → IsLater m start
+    → HasImage (committed_by found client commit m) start
 unfolding renewed
-committed_by-has None client start m given later = absurd (given refl)
-committed_by-has (Some session) client start m given later =
-    start_committed-has start (client_taken (Some session) client m) (record { sync = later.sync; client = later.client; session = later.session })
+committed_by-has None client commit start m begins given later = absurd (given refl)
+committed_by-has (Some session) client commit start m begins given later =
+    rest_committed-has commit start (client_taken (Some session) client m) begins (record { sync = later.sync; client = later.client; session = later.session })
 
 timeline_committed-has : (client : Option Timeline) (commit : Commit) (start : ClientStart) (m : Machine) → commit.timeline ≡ client → commit.start ≡ Some start
     → (IsSpent m commit → ⊥) → IsLater m start → HasImage (timeline_committed client commit m) start
-timeline_committed-has None commit start m is begins room later =
-    subst (λ (s : Option ClientStart). HasImage (start_committed s m) start) (sym begins) (start_committed-has start m later)
+timeline_committed-has None commit start m is begins room later = rest_committed-has commit start m begins later
 timeline_committed-has (Some client) commit start m is begins room later =
-    let found = session_from_client_of (timeline_in m) client commit.at (offset_in m) in
-    subst (λ (s : Option ClientStart). HasImage (committed_by found client s m) start) (sym begins)
-    (committed_by-has found client start m (λ none. room (client, is, none)) later)
+    committed_by-has (session_from_client_of (timeline_in m) client commit.at (offset_in m)) client commit start m begins (λ none. room (client, is, none)) later
 
 commit-has : (commit : Commit) (start : ClientStart) (m : Machine) → commit.start ≡ Some start → (IsSpent m commit → ⊥) → IsLater m start
     → HasImage (commit_taken commit m) start

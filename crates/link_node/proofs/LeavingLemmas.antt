@@ -6,7 +6,6 @@ use Rattle.lk_base.specs.declared.endpoint.Endpoint.{Endpoint}
 use Rattle.lk_base.specs.declared.endpoint.Gate.{Gate}
 use Rattle.lk_base.specs.declared.endpoint.Target.{Target}
 use Rattle.lk_base.specs.declared.ids.NodeId.{NodeId}
-use Rattle.lk_base.specs.declared.start.ClientStart.{ClientStart}
 use Rattle.lk_base.specs.declared.timeline.Timeline.{Timeline}
 use Rattle.link_payload.specs.declared.fields.PeerFields.{PeerFields}
 use Rattle.link_payload.specs.declared.fields.PongFields.{PongFields}
@@ -219,17 +218,17 @@ arrived-left gate from (Ok (message.OtherDiscovery kind)) m = inl refl
 arrived-left gate from (Ok (message.OtherLink kind)) m = inl refl
 arrived-left gate from (Err fault) m = inl refl
 
-committed_by-left : (given : Option Timeline) (client : Timeline) (start : Option ClientStart) (m : Machine) (now : ℤ) → LeftFor m.sessions now (committed_by given client start m).sessions
+committed_by-left : (given : Option Timeline) (client : Timeline) (commit : Commit) (m : Machine) (now : ℤ) → LeftFor m.sessions now (committed_by given client commit m).sessions
 unfolding renewed
-committed_by-left None client start m now = inl refl
-committed_by-left (Some given) client start m now =
-    subst (λ (k : History). LeftFor m.sessions now k) (sym (start_committed-sessions start (client_taken (Some given) client m))) (inl refl)
+committed_by-left None client commit m now = inl refl
+committed_by-left (Some given) client commit m now =
+    subst (λ (k : History). LeftFor m.sessions now k) (sym (start_committed-sessions commit.start (client_taken (Some given) client m))) (inl refl)
 
 timeline_committed-left : (client : Option Timeline) (commit : Commit) (m : Machine) (now : ℤ) → LeftFor m.sessions now (timeline_committed client commit m).sessions
 timeline_committed-left None commit m now =
     subst (λ (k : History). LeftFor m.sessions now k) (sym (start_committed-sessions commit.start m)) (inl refl)
 timeline_committed-left (Some client) commit m now =
-    committed_by-left (session_from_client_of (timeline_in m) client commit.at (offset_in m)) client commit.start m now
+    committed_by-left (session_from_client_of (timeline_in m) client commit.at (offset_in m)) client commit m now
 
 commit-left : (commit : Commit) (m : Machine) (now : ℤ) → LeftFor m.sessions now (commit_taken commit m).sessions
 unfolding commit_taken

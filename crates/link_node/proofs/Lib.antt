@@ -34,6 +34,7 @@ pub mod FoundingLemmas
 pub mod LatestLemmas
 pub mod DueLemmas
 pub mod SpentLemmas
+pub mod QuantumLemmas
 pub mod OnGateLemmas
 pub mod QuietLemmas
 pub mod EndedLemmas

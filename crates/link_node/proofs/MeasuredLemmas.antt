@@ -6,7 +6,6 @@ use Rattle.lk_base.specs.IdOrder.{same_id}
 use Rattle.lk_base.specs.declared.endpoint.Endpoint.{Endpoint}
 use Rattle.lk_base.specs.declared.endpoint.Gate.{Gate}
 use Rattle.lk_base.specs.declared.ids.NodeId.{NodeId}
-use Rattle.lk_base.specs.declared.start.ClientStart.{ClientStart}
 use Rattle.lk_base.specs.declared.timeline.Timeline.{Timeline}
 use Rattle.link_payload.specs.declared.fields.PeerFields.{PeerFields}
 use Rattle.link_payload.specs.declared.fields.PongFields.{PongFields}
@@ -200,16 +199,16 @@ arrived-gives gate from (Ok (message.OtherDiscovery kind)) m = inl (refl, refl)
 arrived-gives gate from (Ok (message.OtherLink kind)) m = inl (refl, refl)
 arrived-gives gate from (Err fault) m = inl (refl, refl)
 
-committed_by-stays : (given : Option Timeline) (client : Timeline) (start : Option ClientStart) (m : Machine) → Stays m.sessions (committed_by given client start m).sessions
+committed_by-stays : (given : Option Timeline) (client : Timeline) (commit : Commit) (m : Machine) → Stays m.sessions (committed_by given client commit m).sessions
 unfolding renewed
-committed_by-stays None client start m = (refl, refl)
-committed_by-stays (Some given) client start m =
-    subst (λ (k : History). Stays m.sessions k) (sym (start_committed-sessions start (client_taken (Some given) client m))) (refl, refl)
+committed_by-stays None client commit m = (refl, refl)
+committed_by-stays (Some given) client commit m =
+    subst (λ (k : History). Stays m.sessions k) (sym (start_committed-sessions commit.start (client_taken (Some given) client m))) (refl, refl)
 
 timeline_committed-stays : (client : Option Timeline) (commit : Commit) (m : Machine) → Stays m.sessions (timeline_committed client commit m).sessions
 timeline_committed-stays None commit m = subst (λ (k : History). Stays m.sessions k) (sym (start_committed-sessions commit.start m)) (refl, refl)
 timeline_committed-stays (Some client) commit m =
-    committed_by-stays (session_from_client_of (timeline_in m) client commit.at (offset_in m)) client commit.start m
+    committed_by-stays (session_from_client_of (timeline_in m) client commit.at (offset_in m)) client commit m
 
 commit-stays : (commit : Commit) (m : Machine) → Stays m.sessions (commit_taken commit m).sessions
 unfolding commit_taken

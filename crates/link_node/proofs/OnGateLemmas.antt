@@ -40,7 +40,7 @@ use Rattle.client_state.specs.declared.commit.Commit.{Commit}
 use Rattle.link_node.specs.Arrival.{arrived, answers_to, pongs_to, is_heard}
 use Rattle.link_node.specs.Broadcast.{broadcast_after, broadcast_in, is_broadcast}
 use Rattle.link_node.specs.Client.{renewed}
-use Rattle.link_node.specs.Commits.{start_committed, with_client_start, client_taken, timeline_committed, commit_taken, app_taken, audio_taken}
+use Rattle.link_node.specs.Commits.{start_committed, rest_committed, with_client_start, client_taken, timeline_committed, commit_taken, app_taken, audio_taken}
 use Rattle.link_node.specs.Config.{ConfigValue, GateValue}
 use Rattle.link_node.specs.Event.{EventValue, Rx, Tick, App, Audio, End, SendingValue, Fits, moment_of, app_after, audio_after}
 use Rattle.link_node.specs.Machine.{Machine, session_in, timeline_in, offset_in}
@@ -305,7 +305,7 @@ module _ (gates : ℕ) where
   timeline_committed-on (Some client) commit m on =
       let given = session_from_client_of (timeline_in m) client commit.at (offset_in m) in
       let next = client_taken given client m in
-      either-on (is_some given) (start_committed commit.start next) m (start_committed-on commit.start next (client_taken-on given client m on)) on
+      either-on (is_some given) (rest_committed commit next) m (start_committed-on commit.start next (client_taken-on given client m on)) on
 
   commit-on : (commit : Commit) (m : Machine) → IsOn gates m → IsOn gates (commit_taken commit m)
   unfolding commit_taken

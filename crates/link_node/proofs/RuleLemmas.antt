@@ -332,15 +332,15 @@ unfolding start_committed
 start_committed_parts None m h = h
 start_committed_parts (Some start) m h = by_test (λ b. HasIds (if b then with_client_start start m else m)) (int_lt m.client_start.stamp start.stamp) (λ _. h) (λ _. h)
 
-committed_parts : (session : Option Timeline) (client : Timeline) (start : Option ClientStart) (m : Machine) → HasIds m → HasIds (committed_by session client start m)
+committed_parts : (session : Option Timeline) (client : Timeline) (commit : Commit) (m : Machine) → HasIds m → HasIds (committed_by session client commit m)
 unfolding renewed
-committed_parts None client start m h = h
-committed_parts (Some session) client start m h = start_committed_parts start (with_client_timeline client session m) h
+committed_parts None client commit m h = h
+committed_parts (Some session) client commit m h = start_committed_parts commit.start (with_client_timeline client session m) h
 
 timeline_committed_parts : (timeline : Option Timeline) (commit : Commit) (m : Machine) → HasIds m → HasIds (timeline_committed timeline commit m)
 timeline_committed_parts None commit m h = start_committed_parts commit.start m h
 timeline_committed_parts (Some client) commit m h =
-    committed_parts (session_from_client_of (timeline_in m) client commit.at (offset_in m)) client commit.start m h
+    committed_parts (session_from_client_of (timeline_in m) client commit.at (offset_in m)) client commit m h
 
 commit_parts : (commit : Commit) (m : Machine) → HasIds m → HasIds (commit_taken commit m)
 unfolding commit_taken

@@ -42,11 +42,11 @@ same_held-itself held =
 
 -- ---- the commit
 
-taken-none : (found : Option Timeline) (client : Timeline) (commit : Commit) (m : Machine) → found ≡ None → committed_by found client commit.start m ≡ m
+taken-none : (found : Option Timeline) (client : Timeline) (commit : Commit) (m : Machine) → found ≡ None → committed_by found client commit m ≡ m
 taken-none None client commit m is = refl
 taken-none (Some session) client commit m is = absurd cc
 
-taken-spent : (commit : Commit) (m : Machine) → IsSpent m commit → commit_taken commit m ≡ m
+pub taken-spent : (commit : Commit) (m : Machine) → IsSpent m commit → commit_taken commit m ≡ m
 unfolding commit_taken
 taken-spent commit m spent =
     ap (λ o. timeline_committed o commit m) spent.1

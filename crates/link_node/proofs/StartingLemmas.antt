@@ -229,17 +229,17 @@ start_committed-from (Some given) m start has =
     (int_lt m.client_start.stamp given.stamp)
     (λ _ has. client-from given m start has) (λ _ has. inl has) has
 
-committed_by-from : (session : Option Timeline) (client : Timeline) (begins : Option ClientStart) (m : Machine) (start : SessionStart) → Has (committed_by session client begins m).starts start
-    → FromCommit begins m (committed_by session client begins m).sessions start
+committed_by-from : (session : Option Timeline) (client : Timeline) (commit : Commit) (m : Machine) (start : SessionStart) → Has (committed_by session client commit m).starts start
+    → FromCommit commit.start m (committed_by session client commit m).sessions start
 unfolding renewed
-committed_by-from None client begins m start has = inl has
-committed_by-from (Some given) client begins m start has = start_committed-from begins (client_taken (Some given) client m) start has
+committed_by-from None client commit m start has = inl has
+committed_by-from (Some given) client commit m start has = start_committed-from commit.start (client_taken (Some given) client m) start has
 
 timeline_committed-from : (client : Option Timeline) (commit : Commit) (m : Machine) (start : SessionStart) → Has (timeline_committed client commit m).starts start
     → FromCommit commit.start m (timeline_committed client commit m).sessions start
 timeline_committed-from None commit m start has = start_committed-from commit.start m start has
 timeline_committed-from (Some client) commit m start has =
-    committed_by-from (session_from_client_of (timeline_in m) client commit.at (offset_in m)) client commit.start m start has
+    committed_by-from (session_from_client_of (timeline_in m) client commit.at (offset_in m)) client commit m start has
 
 commit-from : (commit : Commit) (m : Machine) (start : SessionStart) → Has (commit_taken commit m).starts start → FromCommit commit.start m (commit_taken commit m).sessions start
 unfolding commit_taken

@@ -2,14 +2,14 @@
 use Rattle.std.proofs.Common.{◌≡◌, ◌+◌, ◌||◌, ◌==◌, ℕ, ℤ, pos, neg_ℤ, Bool, true, false, not, List, [], ◌∷◌, ◌++◌, nat_lt, int_lt, length, drop, filter, Option, Some, None, Result, Ok, Err, refl, sym, ◌∙◌, subst}
 use Rattle.std.proofs.lemmas.Bool.{and_parts, eq-eqb, eqb-true}
 use Rattle.std.proofs.lemmas.Bool.Decides.{Decides-int_eq}
-use Rattle.std.specs.Prelude.{if◌then◌else◌, is_some}
+use Rattle.std.specs.Prelude.{if◌then◌else◌, is_some, unwrap_or}
 use Rattle.std.specs.Result.{result_map_both}
 use Rattle.std.specs.Ordering.{int_eq}
 use Rattle.std.specs.List.{AllByRecursion}
 use Rattle.std.specs.Option.{ForSome}
 use Rattle.ghost_xform.specs.GhostTime.{ghost_of}
 use Rattle.lk_base.specs.IdOrder.{same_id}
-use Rattle.lk_base.specs.Ranges.{IsMoment}
+use Rattle.lk_base.specs.Ranges.{IsMoment, IsQuantum}
 use Rattle.lk_base.specs.Timeline.{IsTidy}
 use Rattle.lk_base.specs.declared.endpoint.Endpoint.{Endpoint}
 use Rattle.lk_base.specs.declared.endpoint.Gate.{Gate}
@@ -44,6 +44,7 @@ use Rattle.session_choice.specs.declared.verdict.Saw.{Saw}
 use Rattle.session_choice.specs.declared.verdict.Saw.TheVariants.{Taken, Kept, New, Full}
 use Rattle.session_choice.specs.declared.verdict.Verdict.{Verdict}
 use Rattle.session_choice.specs.declared.verdict.Verdict.TheVariants.{Joined, Stayed, Remeasured, Unknown}
+use Rattle.session_choice.proofs.DistinctLemmas.{same-itself}
 use Rattle.session_choice.proofs.Lists.{all_append, by_test}
 use Rattle.client_state.specs.Commit.{IsTidyCommit, IsTidyStart, same_bool, same_timeline}
 use Rattle.client_state.specs.State.{IsTidyState}
@@ -56,7 +57,7 @@ use Rattle.timeline_math.specs.Tidying.{tidy_of}
 use Rattle.link_node.specs.Arrival.{arrived, is_heard}
 use Rattle.link_node.specs.Broadcast.{broadcast_after, is_broadcast}
 use Rattle.link_node.specs.Client.{renewed}
-use Rattle.link_node.specs.Commits.{app_taken, audio_taken, commit_taken, committed_by, reaches_session, start_committed, timeline_committed, with_client_start, with_client_timeline}
+use Rattle.link_node.specs.Commits.{app_taken, audio_taken, commit_taken, committed_by, reaches_session, rest_committed, start_committed, timeline_committed, with_client_start, with_client_timeline}
 use Rattle.link_node.specs.Config.{ConfigValue, IsConfig}
 use Rattle.link_node.specs.Event.{EventValue, Rx, Tick, App, Audio, End, Fits, app_after, audio_after, moment_of}
 use Rattle.link_node.specs.Machine.{Machine, session_in, timeline_in, offset_in}
@@ -72,6 +73,7 @@ use Rattle.link_node.specs.declared.node.settling.Held.{Held}
 use Rattle.link_node.specs.Taking.{followed, is_current, listened, reaches_client, sighted, start_taken, state_taken, timeline_taken, with_start}
 use Rattle.link_node.specs.Tick.{begun, begun_at, begun_from, begun_one, cleared, idle_forgotten, is_needed, is_remeasured, pruned, remeasure_queued, ticked, waiting_with}
 use Rattle.link_node.specs.WellFormed.{AreTidyTimelines, IsInLimits, IsMachine}
+use Rattle.link_node.proofs.NumberLemmas.{given-range}
 use Rattle.link_node.proofs.RuleLemmas.{alone-parts, settled_parts, taken_parts}
 use Rattle.link_node.proofs.SessionsLemmas.{HasIds, from_parts, to_parts}
 use Rattle.link_node.proofs.TidyLemmas.{beat_at-within, moment-max, moment-within, start-limits, start-tidy, tidied, tidy-at, tidy-best, tidy-client, tidy-given, zero-within}
@@ -141,30 +143,34 @@ tidy-measured h session offset now all =
 
 -- ---- what isn't of ids
 
-pub record AreTidyParts (config : ConfigValue) (moment : ℤ) (sessions : History) (starts : List SessionStart) (client : Timeline) (client_start : ClientStart) (published : State) : Type 0 where
+pub record AreTidyParts (config : ConfigValue) (moment : ℤ) (sessions : History) (starts : List SessionStart) (client : Timeline) (client_start : ClientStart) (quantum : ℤ) (published : State) : Type 0 where
   pub setup : IsConfig config
   pub time : IsMoment moment
   pub timelines : AreTidySessions sessions
   pub limits : AllByRecursion IsInLimits starts
   pub tidy_client : IsTidy client
   pub tidy_start : IsTidyStart client_start
+  pub in_range : IsQuantum quantum
   pub tidy_state : IsTidyState published
 
 abbrev pub IsTidyNode : Machine → Type 0
-IsTidyNode m = AreTidyParts m.config m.moment m.sessions m.starts m.client m.client_start m.published
+IsTidyNode m = AreTidyParts m.config m.moment m.sessions m.starts m.client m.client_start m.quantum m.published
 
-module _ {config : ConfigValue} {moment : ℤ} {sessions : History} {starts : List SessionStart} {client : Timeline} {client_start : ClientStart} {published : State} (h : AreTidyParts config moment sessions starts client client_start published) where
-  with_sessions : (others : History) → AreTidySessions others → AreTidyParts config moment others starts client client_start published
-  with_sessions others new = record { setup = h.setup; time = h.time; timelines = new; limits = h.limits; tidy_client = h.tidy_client; tidy_start = h.tidy_start; tidy_state = h.tidy_state }
+module _ {config : ConfigValue} {moment : ℤ} {sessions : History} {starts : List SessionStart} {client : Timeline} {client_start : ClientStart} {quantum : ℤ} {published : State} (h : AreTidyParts config moment sessions starts client client_start quantum published) where
+  with_sessions : (others : History) → AreTidySessions others → AreTidyParts config moment others starts client client_start quantum published
+  with_sessions others new = record { setup = h.setup; time = h.time; timelines = new; limits = h.limits; tidy_client = h.tidy_client; tidy_start = h.tidy_start; in_range = h.in_range; tidy_state = h.tidy_state }
 
-  with_starts : (others : List SessionStart) → AllByRecursion IsInLimits others → AreTidyParts config moment sessions others client client_start published
-  with_starts others new = record { setup = h.setup; time = h.time; timelines = h.timelines; limits = new; tidy_client = h.tidy_client; tidy_start = h.tidy_start; tidy_state = h.tidy_state }
+  with_starts : (others : List SessionStart) → AllByRecursion IsInLimits others → AreTidyParts config moment sessions others client client_start quantum published
+  with_starts others new = record { setup = h.setup; time = h.time; timelines = h.timelines; limits = new; tidy_client = h.tidy_client; tidy_start = h.tidy_start; in_range = h.in_range; tidy_state = h.tidy_state }
 
-  with_client : (other : Timeline) → IsTidy other → AreTidyParts config moment sessions starts other client_start published
-  with_client other new = record { setup = h.setup; time = h.time; timelines = h.timelines; limits = h.limits; tidy_client = new; tidy_start = h.tidy_start; tidy_state = h.tidy_state }
+  with_client : (other : Timeline) → IsTidy other → AreTidyParts config moment sessions starts other client_start quantum published
+  with_client other new = record { setup = h.setup; time = h.time; timelines = h.timelines; limits = h.limits; tidy_client = new; tidy_start = h.tidy_start; in_range = h.in_range; tidy_state = h.tidy_state }
 
-  with_playing : (other : ClientStart) → IsTidyStart other → AreTidyParts config moment sessions starts client other published
-  with_playing other new = record { setup = h.setup; time = h.time; timelines = h.timelines; limits = h.limits; tidy_client = h.tidy_client; tidy_start = new; tidy_state = h.tidy_state }
+  with_playing : (other : ClientStart) → IsTidyStart other → AreTidyParts config moment sessions starts client other quantum published
+  with_playing other new = record { setup = h.setup; time = h.time; timelines = h.timelines; limits = h.limits; tidy_client = h.tidy_client; tidy_start = new; in_range = h.in_range; tidy_state = h.tidy_state }
+
+  with_quantum : (other : ℤ) → IsQuantum other → AreTidyParts config moment sessions starts client client_start other published
+  with_quantum other new = record { setup = h.setup; time = h.time; timelines = h.timelines; limits = h.limits; tidy_client = h.tidy_client; tidy_start = h.tidy_start; in_range = new; tidy_state = h.tidy_state }
 
 tidy-current : (m : Machine) → IsTidyNode m → IsTidy (timeline_in m)
 tidy-current m h = tidy-best m.sessions.current.first m.sessions.current.later h.timelines.0
@@ -192,7 +198,7 @@ timeline_tidy fields m h =
 with_start_tidy : (start : SessionStart) (m : Machine) → IsInLimits start → IsTidyNode m → IsTidyNode (with_start start m)
 with_start_tidy start m within h =
     let more = with_starts h (m.starts ++ start ∷ []) (all_append IsInLimits m.starts (start ∷ []) h.limits (within, tt)) in
-    by_test (λ b. AreTidyParts m.config m.moment m.sessions (m.starts ++ start ∷ []) m.client (if b then start_to_client_of start (timeline_in m) (offset_in m) else m.client_start) m.published)
+    by_test (λ b. AreTidyParts m.config m.moment m.sessions (m.starts ++ start ∷ []) m.client (if b then start_to_client_of start (timeline_in m) (offset_in m) else m.client_start) m.quantum m.published)
     (reaches_client start m)
     (λ _. with_playing more (start_to_client_of start (timeline_in m) (offset_in m)) (start-tidy start (timeline_in m) (offset_in m))) (λ _. more)
 
@@ -371,7 +377,7 @@ with_client_start_tidy : (start : ClientStart) (m : Machine) → IsTidyStart sta
 with_client_start_tidy start m tidy h =
     let playing = with_playing h start tidy in
     let told = start_to_session_of start (timeline_in m) (offset_in m) in
-    by_test (λ b. AreTidyParts m.config m.moment m.sessions (if b then m.starts ++ told ∷ [] else m.starts) m.client start m.published) (reaches_session start m)
+    by_test (λ b. AreTidyParts m.config m.moment m.sessions (if b then m.starts ++ told ∷ [] else m.starts) m.client start m.quantum m.published) (reaches_session start m)
     (λ _. with_starts playing (m.starts ++ told ∷ []) (all_append IsInLimits m.starts (told ∷ []) h.limits (start-limits start (timeline_in m) (offset_in m), tt))) (λ _. playing)
 
 start_committed_tidy : (start : Option ClientStart) (m : Machine) → ForSome start IsTidyStart → IsTidyNode m → IsTidyNode (start_committed start m)
@@ -381,22 +387,28 @@ start_committed_tidy (Some start) m tidy h =
     by_test (λ b. IsTidyNode (if b then with_client_start start m else m)) (int_lt m.client_start.stamp start.stamp)
     (λ _. with_client_start_tidy start m (tidy start refl) h) (λ _. h)
 
-committed_tidy : (session : Option Timeline) (client : Timeline) (start : Option ClientStart) (m : Machine) → ForSome session IsTidy → IsTidy client → ForSome start IsTidyStart → IsTidyNode m
-    → IsTidyNode (committed_by session client start m)
-committed_tidy None client start m given tidy later h = h
-committed_tidy (Some session) client start m given tidy later h =
+rest_committed_tidy : (commit : Commit) (m : Machine) → IsTidyCommit commit → IsTidyNode m → IsTidyNode (rest_committed commit m)
+rest_committed_tidy commit m tidy h =
+    let n = start_committed commit.start m in
+    let after : IsTidyNode n = start_committed_tidy commit.start m tidy.start h in
+    with_quantum after (unwrap_or commit.quantum n.quantum) (given-range commit.quantum n.quantum tidy.quantum after.in_range)
+
+committed_tidy : (session : Option Timeline) (client : Timeline) (commit : Commit) (m : Machine) → ForSome session IsTidy → IsTidy client → IsTidyCommit commit → IsTidyNode m
+    → IsTidyNode (committed_by session client commit m)
+committed_tidy None client commit m given tidy later h = h
+committed_tidy (Some session) client commit m given tidy later h =
     let sessions = committed session m.sessions in
-    start_committed_tidy start (with_client_timeline client session m) later
+    rest_committed_tidy commit (with_client_timeline client session m) later
     (renewed_tidy (record m { client = client; sessions = sessions })
     (with_sessions (with_client h client tidy) sessions (tidy-taken session m.sessions.current (given session refl) h.timelines.0, h.timelines.1)))
 
 timeline_committed_tidy : (timeline : Option Timeline) (commit : Commit) (m : Machine) → ForSome timeline IsTidy → IsTidyCommit commit → IsTidyNode m
     → IsTidyNode (timeline_committed timeline commit m)
-timeline_committed_tidy None commit m timeline tidy h = start_committed_tidy commit.start m tidy.start h
+timeline_committed_tidy None commit m timeline tidy h = rest_committed_tidy commit m tidy h
 timeline_committed_tidy (Some client) commit m timeline tidy h =
-    committed_tidy (session_from_client_of (timeline_in m) client commit.at (offset_in m)) client commit.start m
+    committed_tidy (session_from_client_of (timeline_in m) client commit.at (offset_in m)) client commit m
     (λ given is. tidy-given (timeline_in m) client given commit.at (offset_in m) (tidy-current m h) (timeline client refl) is)
-    (timeline client refl) tidy.start h
+    (timeline client refl) tidy h
 
 commit_tidy : (commit : Commit) (m : Machine) → IsTidyCommit commit → IsTidyNode m → IsTidyNode (commit_taken commit m)
 unfolding commit_taken
@@ -499,7 +511,16 @@ eqb-itself n = eq-eqb n n refl
 pub alike-itself : (state : State) → alike state state ≡ true
 unfolding alike
 alike-itself state =
-    rw (same_timeline-itself state.timeline, same_start-itself state.start, same_bool-itself state.sync, eqb-itself state.peers, eqb-itself state.app, eqb-itself state.audio) refl
+    rw (
+      same_timeline-itself state.timeline,
+      same_start-itself state.start,
+      same_bool-itself state.sync,
+      eqb-itself state.peers,
+      eqb-itself state.app,
+      eqb-itself state.audio,
+      same-itself state.session,
+      int_eq-itself state.quantum,
+    ) refl
 
 pub state-tidy : (m : Machine) → IsTidyNode m → IsTidyState (state_in m)
 state-tidy m h = record {
@@ -507,6 +528,7 @@ state-tidy m h = record {
   start = h.tidy_start.time;
   stamp = h.tidy_start.stamp;
   moment = moment-within m.moment h.time;
+  quantum = h.in_range;
 }
 
 shown-sound : (m : Machine) → IsCounted m → IsMachine (shown m)
@@ -522,6 +544,7 @@ shown-sound m h =
       peers = h.peers;
       client = h.tidy.tidy_client;
       client_start = h.tidy.tidy_start;
+      quantum = h.tidy.in_range;
       published = h.tidy.tidy_state;
       shown = same;
     })
@@ -534,6 +557,7 @@ shown-sound m h =
       peers = h.peers;
       client = h.tidy.tidy_client;
       client_start = h.tidy.tidy_start;
+      quantum = h.tidy.in_range;
       published = state-tidy m h.tidy;
       shown = alike-itself (state_in m);
     })
@@ -549,6 +573,7 @@ tidy-from m h = record {
   limits = h.starts;
   tidy_client = h.client;
   tidy_start = h.client_start;
+  in_range = h.quantum;
   tidy_state = h.published;
 }
 
@@ -560,6 +585,7 @@ at_moment_tidy now m is h = record {
   limits = h.limits;
   tidy_client = h.tidy_client;
   tidy_start = h.tidy_start;
+  in_range = h.in_range;
   tidy_state = h.tidy_state;
 }
 
@@ -596,7 +622,8 @@ opened_sound config now is moment =
       peers = sym (nobody config.id);
       client = client;
       client_start = record { time = zero-within; stamp = zero-within };
-      published = record { timeline = client; start = zero-within; stamp = zero-within; moment = within };
+      quantum = is.quantum;
+      published = record { timeline = client; start = zero-within; stamp = zero-within; moment = within; quantum = is.quantum };
       shown = alike-itself (opening_state_of config now);
     }
 

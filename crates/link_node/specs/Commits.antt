@@ -1,5 +1,5 @@
 -- Taking a commit.
-use Rattle.std.specs.Prelude.{ℕ, int_lt, Bool, ◌+◌, ◌&&◌, [], ◌∷◌, ◌++◌, if◌then◌else◌, is_some, Option, Some, None}
+use Rattle.std.specs.Prelude.{ℕ, ℤ, int_lt, Bool, ◌+◌, ◌&&◌, [], ◌∷◌, ◌++◌, if◌then◌else◌, is_some, Option, Some, None, unwrap_or}
 use Rattle.ghost_xform.specs.GhostTime.{ghost_of}
 use Rattle.lk_base.specs.declared.start.ClientStart.{ClientStart}
 use Rattle.lk_base.specs.declared.timeline.Timeline.{Timeline}
@@ -29,6 +29,15 @@ unfoldable pub start_committed : Option ClientStart → Machine → Machine
 start_committed None m = m
 start_committed (Some start) m = if int_lt m.client_start.stamp start.stamp then with_client_start start m else m
 
+-- ---- the quantum
+
+abbrev pub quantum_committed : Option ℤ → Machine → Machine
+quantum_committed quantum m = record m { quantum = unwrap_or quantum m.quantum }
+
+-- the start and the quantum of a commit
+abbrev pub rest_committed : Commit → Machine → Machine
+rest_committed commit m = quantum_committed commit.quantum (start_committed commit.start m)
+
 -- ---- the timeline
 
 -- the session takes the timeline that is made of the client's
@@ -40,14 +49,14 @@ abbrev pub client_taken : Option Timeline → Timeline → Machine → Machine
 client_taken None client m = m
 client_taken (Some session) client m = with_client_timeline client session m
 
-abbrev pub committed_by : Option Timeline → Timeline → Option ClientStart → Machine → Machine
-committed_by session client start m =
-    if is_some session then start_committed start (client_taken session client m) else m
+abbrev pub committed_by : Option Timeline → Timeline → Commit → Machine → Machine
+committed_by session client commit m =
+    if is_some session then rest_committed commit (client_taken session client m) else m
 
 abbrev pub timeline_committed : Option Timeline → Commit → Machine → Machine
-timeline_committed None commit m = start_committed commit.start m
+timeline_committed None commit m = rest_committed commit m
 timeline_committed (Some client) commit m =
-    committed_by (session_from_client_of (timeline_in m) client commit.at (offset_in m)) client commit.start m
+    committed_by (session_from_client_of (timeline_in m) client commit.at (offset_in m)) client commit m
 
 unfoldable pub commit_taken : Commit → Machine → Machine
 commit_taken commit m = timeline_committed commit.timeline commit m

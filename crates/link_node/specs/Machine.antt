@@ -37,6 +37,8 @@ pub record Machine : Type 0 where
   -- what a client is shown
   pub client : Timeline
   pub client_start : ClientStart
+  -- the length of a bar
+  pub quantum : ℤ
   -- how many application commits were taken, and the number of the last audio commit
   pub app : ℕ
   pub audio : ℕ

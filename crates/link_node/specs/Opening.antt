@@ -20,6 +20,8 @@ opening_state_of config now = record {
   moment = now;
   app = 0;
   audio = 0;
+  session = config.id;
+  quantum = config.quantum;
 }
 
 unfoldable pub opened : ConfigValue → ℤ → Machine
@@ -39,6 +41,7 @@ opened config now = record {
   changed = false;
   client = timeline_at config.mpb (pos 0) now;
   client_start = still_client;
+  quantum = config.quantum;
   app = 0;
   audio = 0;
   published = opening_state_of config now;

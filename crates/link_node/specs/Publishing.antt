@@ -1,10 +1,11 @@
 -- The state that clients are shown.
 use Rattle.std.specs.Prelude.{◌==◌, Bool, ◌&&◌, if◌then◌else◌}
 use Rattle.std.specs.Ordering.{int_eq}
+use Rattle.lk_base.specs.IdOrder.{same_id}
 use Rattle.lk_base.specs.declared.start.ClientStart.{ClientStart}
 use Rattle.client_state.specs.Commit.{same_bool, same_timeline, same_playing}
 use Rattle.client_state.specs.declared.state.State.{State}
-use Rattle.link_node.specs.Machine.{Machine}
+use Rattle.link_node.specs.Machine.{Machine, session_in}
 use Rattle.link_node.specs.declared.event.Change.{Change}
 use Rattle.link_node.specs.declared.event.Change.TheVariants.{Same, Published}
 
@@ -17,6 +18,8 @@ state_in m = record {
   moment = m.moment;
   app = m.app;
   audio = m.audio;
+  session = session_in m;
+  quantum = m.quantum;
 }
 
 abbrev pub same_client_start : ClientStart → ClientStart → Bool
@@ -28,7 +31,10 @@ alike a b =
     same_timeline a.timeline b.timeline
     && (same_client_start a.start b.start
     && (same_bool a.sync b.sync
-    && ((a.peers == b.peers) && ((a.app == b.app) && (a.audio == b.audio)))))
+    && ((a.peers == b.peers)
+    && ((a.app == b.app)
+    && ((a.audio == b.audio)
+    && (same_id a.session b.session && int_eq a.quantum b.quantum))))))
 
 unfoldable pub change_in : Machine → Change
 change_in m = if alike (state_in m) m.published then Same else Published

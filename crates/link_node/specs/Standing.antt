@@ -50,6 +50,7 @@ pub record HasParts (node : Node) (m : Machine) : Type 0 where
   pub changed : node.changed ≡ m.changed
   pub client : node.client ≡ m.client
   pub client_start : node.client_start ≡ m.client_start
+  pub quantum : node.quantum ≡ m.quantum
   pub app : node.app ≡ m.app
   pub audio : node.audio ≡ m.audio
   pub published : node.published ≡ m.published

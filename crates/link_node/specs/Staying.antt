@@ -70,6 +70,10 @@ abbrev pub IsSpent : Machine → Commit → Type 0
 IsSpent m commit =
     (client : Timeline) × (commit.timeline ≡ Some client) × (session_from_client_of (timeline_in m) client commit.at (offset_in m) ≡ None)
 
+-- the event is no commit that has a quantum
+abbrev pub CarriesNoQuantum : EventValue → Type 0
+CarriesNoQuantum e = (commit : Commit) → commit_in e ≡ Some commit → commit.quantum ≡ None
+
 -- the node at the event's moment with its commit counted, and so with another state published, and all else as it was
 abbrev pub only_counted : Machine → EventValue → Machine
 only_counted m e = shown (record (at_moment (moment_of e) m) { app = app_after m.app e; audio = audio_after m.audio e })

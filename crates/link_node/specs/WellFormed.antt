@@ -2,7 +2,7 @@
 use Rattle.std.specs.Prelude.{◌≡◌, ◌≤◌, Bool, true, false, List, [], ◌∷◌, length, map, IsSome, IfSome, IsTrue, is_some}
 use Rattle.std.specs.List.{AllByRecursion}
 use Rattle.lk_base.specs.IdOrder.{same_id}
-use Rattle.lk_base.specs.Ranges.{IsWithinLimit, IsMoment}
+use Rattle.lk_base.specs.Ranges.{IsWithinLimit, IsMoment, IsQuantum}
 use Rattle.lk_base.specs.Timeline.{IsTidy}
 use Rattle.lk_base.specs.declared.ids.NodeId.{NodeId}
 use Rattle.lk_base.specs.declared.start.SessionStart.{SessionStart}
@@ -55,6 +55,7 @@ pub record IsMachine (m : Machine) : Type 0 where
   pub peers : m.peers ≡ peers_in (session_in m) m.life
   pub client : IsTidy m.client
   pub client_start : IsTidyStart m.client_start
+  pub quantum : IsQuantum m.quantum
   -- the state published last is tidy, and differs from what the node is in its moment at most
   pub published : IsTidyState m.published
   pub shown : alike (state_in m) m.published ≡ true

@@ -9,7 +9,7 @@ ghost use Rattle.link_node.specs.Config.{ConfigValue, IsConfig};
 ghost use Rattle.link_node.specs.Due.{due_of};
 ghost use Rattle.link_node.specs.Event.{EventValue, Fits};
 ghost use Rattle.link_node.specs.Event as event;
-ghost use Rattle.link_node.specs.Machine.{Machine};
+ghost use Rattle.link_node.specs.Machine.{Machine, session_in};
 ghost use Rattle.link_node.specs.Opening.{opened};
 ghost use Rattle.link_node.specs.Runs.{machine_after, published_by, AreFitting};
 ghost use Rattle.link_node.specs.Step.{step_of};
@@ -37,6 +37,12 @@ pub fn states_tell_the_counts()
     ensures peers { (m : Machine) → IsMachine m → m.published.peers ≡ m.peers }
     ensures app { (m : Machine) → IsMachine m → m.published.app ≡ m.app }
     ensures audio { (m : Machine) → IsMachine m → m.published.audio ≡ m.audio }
+{}
+
+/// The state published last tells the session that the node is in, and its quantum.
+pub fn states_tell_the_session()
+    ensures session { (m : Machine) → IsMachine m → m.published.session ≡ session_in m }
+    ensures quantum { (m : Machine) → IsMachine m → m.published.quantum ≡ m.quantum }
 {}
 
 /// There is room for each session that waits: each waits once, and is the current one or one of 64 others.

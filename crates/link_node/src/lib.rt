@@ -25,7 +25,7 @@ pub use config::{Config, GateSetup};
 pub use event::{Change, Event};
 pub use lasting::{
     a_tick_leaves_nothing_due, commits_put_off_nothing, few_sessions_wait, nodes_are_well_formed,
-    states_tell_the_counts,
+    states_tell_the_counts, states_tell_the_session,
 };
 pub use laws::{
     best_timelines_are_told, commits_are_counted, commits_send_nothing, moments_never_fall,
@@ -42,6 +42,6 @@ pub use quiet::{
 pub use sends::{Sending, Sends};
 pub use staying::{
     clients_follow_sessions, commits_count, heard_timelines_are_taken, offsets_are_measured,
-    sessions_are_left_for_winners, spent_origins_only_count, starts_are_brought,
-    states_are_published, timelines_stay, who_is_left_founds,
+    quanta_are_committed, sessions_are_left_for_winners, spent_origins_only_count,
+    starts_are_brought, states_are_published, timelines_stay, who_is_left_founds,
 };

@@ -2,7 +2,7 @@
 
 ghost use Rattle.std.specs.Prelude.{◌≡◌, ◌≤◌, ◌≤ℤ◌, ◌^◌, pos, IfSome, length};
 ghost use Rattle.std.proofs.Props.{props};
-ghost use Rattle.lk_base.specs.Ranges.{IsMoment, IsWithin, IsWithinLimit};
+ghost use Rattle.lk_base.specs.Ranges.{IsMoment, IsQuantum, IsWithin, IsWithinLimit};
 ghost use Rattle.lk_base.specs.Timeline.{IsTidy};
 ghost use Rattle.session_choice.specs.Table.{HasTidyTimelines};
 ghost use Rattle.client_state.specs.Commit.{IsTidyStart};
@@ -66,6 +66,7 @@ pub struct Node {
     changed: bool,
     client: Timeline,
     client_start: ClientStart,
+    quantum: i64,
     app: u64,
     audio: u64,
     // The state that was published last.
@@ -78,6 +79,7 @@ pub struct Node {
     ghost broadcast: { IfSome last_broadcast IsMoment } by { Prim.hlevel props },
     ghost client_timeline: { IsTidy client },
     ghost client_playing: { IsTidyStart client_start },
+    ghost quantum_range: { IsQuantum quantum },
     ghost shown: { IsTidyState published },
 }
 
@@ -126,6 +128,7 @@ impl Node {
             changed: false,
             client: published.timeline,
             client_start: published.start,
+            quantum: published.quantum,
             app: 0,
             audio: 0,
             published,
@@ -293,6 +296,8 @@ fn opening_state(config: &Config, now: i64) -> State
         moment: now,
         app: 0,
         audio: 0,
+        session: config.id,
+        quantum: config.quantum,
     }
 }
 

@@ -20,7 +20,7 @@ ghost use Rattle.client_state.specs.declared.commit.Commit.{Commit};
 ghost use Rattle.lk_base.specs.declared.start.ClientStart.{ClientStart};
 ghost use Rattle.lk_base.specs.declared.start.SessionStart.{SessionStart};
 ghost use Rattle.link_node.specs.Starting.{BringsStart};
-ghost use Rattle.link_node.specs.Staying.{IsFounded, IsKnownIn, IsFollowing, ShowsBest, Hears, IsSpent, commit_in, last_of, only_counted};
+ghost use Rattle.link_node.specs.Staying.{IsFounded, IsKnownIn, IsFollowing, ShowsBest, Hears, IsSpent, CarriesNoQuantum, commit_in, last_of, only_counted};
 ghost use Rattle.link_node.specs.Step.{step_of, change_of};
 ghost use Rattle.link_node.specs.WellFormed.{IsMachine};
 ghost use Rattle.link_node.specs.declared.event.Change.TheVariants.{Same, Published};
@@ -113,8 +113,19 @@ pub fn commits_count()
     one_best();
 }
 
-/// A commit whose timeline has no greater origin to go to only counts: neither its timeline nor its start is taken, and
-/// nothing changes but the moment, the counts and so the state that is published.
+/// A node's quantum is the one that it was opened with, or the one of the commit taken last that has one: a commit whose
+/// timeline has no greater origin to go to gives none, and nothing else changes it.
+pub fn quanta_are_committed()
+    ensures opening { (config : ConfigValue) (now : ℤ) → (opened config now).quantum ≡ config.quantum }
+    ensures taken { (m : Machine) (e : EventValue) (commit : Commit) (quantum : ℤ) → commit_in e ≡ Some commit
+        → commit.quantum ≡ Some quantum → (IsSpent m commit → ⊥) → (step_of m e).quantum ≡ quantum }
+    ensures kept { (m : Machine) (e : EventValue) → CarriesNoQuantum e → (step_of m e).quantum ≡ m.quantum }
+    ensures spent { (m : Machine) (e : EventValue) (commit : Commit) → commit_in e ≡ Some commit → IsSpent m commit
+        → (step_of m e).quantum ≡ m.quantum }
+{}
+
+/// A commit whose timeline has no greater origin to go to only counts: neither its timeline, its start nor its quantum is
+/// taken, and nothing changes but the moment, the counts and so the state that is published.
 pub fn spent_origins_only_count()
     ensures { (m : Machine) (e : EventValue) (commit : Commit) → IsMachine m → commit_in e ≡ Some commit → IsSpent m commit
         → step_of m e ≡ only_counted m e }

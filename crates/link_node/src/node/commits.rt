@@ -7,12 +7,12 @@ use lk_base::{ClientStart, SessionStart, Timeline};
 impl Node {
     ghost use Rattle.std.specs.Prelude.{◌≡◌, ◌⊎◌, ◌<◌, ◌<ℤ◌, ◌+◌, ◌^◌, is_some, int_lt, IfSome};
     ghost use Rattle.std.specs.Option.{ForSome};
-    ghost use Rattle.lk_base.specs.Ranges.{IsWithinLimit};
+    ghost use Rattle.lk_base.specs.Ranges.{IsQuantum, IsWithinLimit};
     ghost use Rattle.lk_base.specs.Timeline.{IsTidy};
     ghost use Rattle.session_choice.specs.History.{committed};
     ghost use Rattle.client_state.specs.Commit.{IsTidyCommit, IsTidyStart};
     ghost use Rattle.client_state.specs.Timelines.{session_from_client_of};
-    ghost use Rattle.link_node.specs.Commits.{app_taken, audio_taken, commit_taken, start_committed, with_client_start, client_taken};
+    ghost use Rattle.link_node.specs.Commits.{app_taken, audio_taken, commit_taken, quantum_committed, rest_committed, start_committed, with_client_start, client_taken};
     ghost use Rattle.link_node.specs.Machine.{Machine, timeline_in, offset_in, start_in};
     ghost use Rattle.link_node.specs.Standing.{HasParts, gates_of, app_of, audio_of};
     ghost use Rattle.link_node.specs.WellFormed.{IsInLimits};
@@ -42,7 +42,7 @@ impl Node {
         self.take_commit(commit);
     }
 
-    // Its timeline and its start. Where the session's beat origin can't grow, nothing of the commit is taken.
+    // Its timeline, start and quantum. Where the session's beat origin can't grow, nothing of the commit is taken.
     fn take_commit(&mut self, commit: &Commit)
         requires tidy { IsTidyCommit commit.now }
         ensures stands { (m : Machine) → HasParts self.old m → HasParts self.new (commit_taken commit.now m) }
@@ -53,11 +53,33 @@ impl Node {
         match commit.timeline {
             Some(client) => {
                 if self.take_client_timeline(client, commit.at) {
-                    self.take_client_start(&commit.start);
+                    self.take_rest(commit);
                 }
             }
-            None => self.take_client_start(&commit.start),
+            None => self.take_rest(commit),
         }
+    }
+
+    // Its start and its quantum.
+    fn take_rest(&mut self, commit: &Commit)
+        requires tidy { IsTidyCommit commit.now }
+        ensures stands { (m : Machine) → HasParts self.old m → HasParts self.new (rest_committed commit.now m) }
+        ensures gates { gates_of self.new ≡ gates_of self.old }
+        ensures app { app_of self.new ≡ app_of self.old }
+        ensures audio { audio_of self.new ≡ audio_of self.old }
+    {
+        self.take_client_start(&commit.start);
+        self.take_quantum(commit.quantum);
+    }
+
+    fn take_quantum(&mut self, quantum: Option<i64>)
+        requires { ForSome quantum IsQuantum }
+        ensures stands { (m : Machine) → HasParts self.old m → HasParts self.new (quantum_committed quantum m) }
+        ensures gates { gates_of self.new ≡ gates_of self.old }
+        ensures app { app_of self.new ≡ app_of self.old }
+        ensures audio { audio_of self.new ≡ audio_of self.old }
+    {
+        self.quantum = quantum.unwrap_or(self.quantum);
     }
 
     // The client's timeline is the commit's, and the session takes the one that is made of it. False where the session's beat

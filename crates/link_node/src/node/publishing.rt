@@ -1,6 +1,8 @@
 //! The state that clients are shown.
 
 ghost use Rattle.std.specs.Prelude.{◌≡◌, ◌==◌, ◌&&◌};
+ghost use Rattle.std.specs.Ordering.{int_eq};
+ghost use Rattle.lk_base.specs.IdOrder.{same_id};
 ghost use Rattle.client_state.specs.Commit.{same_bool};
 ghost use Rattle.link_node.specs.Publishing.{alike, same_client_start};
 
@@ -45,6 +47,8 @@ impl Node {
             moment: self.moment,
             app: self.app,
             audio: self.audio,
+            session: self.sessions.current().session,
+            quantum: self.quantum,
         }
     }
 }
@@ -63,11 +67,19 @@ fn is_same_start(a: &ClientStart, b: &ClientStart) -> bool
     a.playing == b.playing && a.time == b.time && a.stamp == b.stamp
 }
 
-// Whether two states have the same sync, peers and commits.
+// Whether two states have the same sync, peers, commits, session and quantum.
 fn has_same_counts(a: &State, b: &State) -> bool
     ensures { result ≡
         (same_bool a.now.sync b.now.sync
-        && ((a.now.peers == b.now.peers) && ((a.now.app == b.now.app) && (a.now.audio == b.now.audio)))) }
+        && ((a.now.peers == b.now.peers)
+        && ((a.now.app == b.now.app)
+        && ((a.now.audio == b.now.audio)
+        && (same_id a.now.session b.now.session && int_eq a.now.quantum b.now.quantum))))) }
 {
-    a.sync == b.sync && a.peers == b.peers && a.app == b.app && a.audio == b.audio
+    a.sync == b.sync
+        && a.peers == b.peers
+        && a.app == b.app
+        && a.audio == b.audio
+        && a.session == b.session
+        && a.quantum == b.quantum
 }

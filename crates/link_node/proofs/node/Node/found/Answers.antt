@@ -50,6 +50,7 @@ returns-clause-stands c m stands =
       changed = stands.changed;
       client = stands.client;
       client_start = stands.client_start;
+      quantum = stands.quantum;
       app = stands.app;
       audio = stands.audio;
       published = stands.published;

@@ -10,7 +10,7 @@ use Rattle.lk_base.specs.declared.timeline.Timeline.{Timeline}
 use Rattle.link_node.specs.Config.{ConfigValue, config_value}
 use Rattle.link_node.specs.Opening.{opened, opening_state_of}
 use Rattle.link_node.proofs.GateLemmas.{gate-count}
-use Rattle.link_node.proofs.NumberLemmas.{moment-back, mpb-back}
+use Rattle.link_node.proofs.NumberLemmas.{moment-back, mpb-back, quantum-back}
 use Rattle.link_node.proofs.node.Node.new.Goals as goal
 
 pub invariant_of-result-clause-in_time : goal.invariant_of-result-clause-in_time
@@ -59,6 +59,9 @@ returns-clause-stands c =
         changed = refl;
         client = ap (λ (state : State). state.timeline) published;
         client_start = ap (λ (state : State). state.start) published;
+        quantum =
+            quantum-back c.opening_state-published.result.quantum c.opening_state-published.ensures.tidy.quantum
+            ∙ ap (λ (state : State). state.quantum) published;
         app = refl;
         audio = refl;
         published = published;

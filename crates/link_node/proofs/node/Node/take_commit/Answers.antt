@@ -15,7 +15,7 @@ unfolding commit_taken
 returns-then-take_client_timeline-clause-stands c m stands =
     let answer = rw (limit_back _ c.requires.tidy.at) at (c.take_client_timeline.ensures.answer m stands) in
     let taken = rw (limit_back _ c.requires.tidy.at) at (c.take_client_timeline.ensures.stands m stands) in
-    rw (c.in-Some.is, sym answer ∙ c.if-take_client_timeline.true) (c.take_client_start.ensures.stands _ taken)
+    rw (c.in-Some.is, sym answer ∙ c.if-take_client_timeline.true) (c.take_rest.ensures.stands _ taken)
 
 pub returns-else-take_client_timeline-clause-stands : goal.returns-else-take_client_timeline-clause-stands
 unfolding commit_taken
@@ -26,4 +26,4 @@ returns-else-take_client_timeline-clause-stands c m stands =
 
 pub returns-in-None-clause-stands : goal.returns-in-None-clause-stands
 unfolding commit_taken
-returns-in-None-clause-stands c m stands = rw c.in-None.is (c.take_client_start-in-None.ensures.stands m stands)
+returns-in-None-clause-stands c m stands = rw c.in-None.is (c.take_rest-in-None.ensures.stands m stands)
