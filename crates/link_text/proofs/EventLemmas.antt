@@ -13,7 +13,7 @@ use Rattle.std.proofs.lemmas.Bool.Decides.{nat_tests}
 use Rattle.hex.specs.Hex.{is_hex_digit}
 use Rattle.hex.proofs.HexLemmas.{decode_of-ok}
 use Rattle.lk_base.specs.Endpoint.{IsEndpoint}
-use Rattle.lk_base.specs.Ranges.{IsMoment, IsWithinLimit}
+use Rattle.lk_base.specs.Ranges.{IsMoment, IsQuantum, IsWithinLimit}
 use Rattle.lk_base.specs.Timeline.{IsTidy}
 use Rattle.lk_base.specs.declared.endpoint.Endpoint.{Endpoint}
 use Rattle.lk_base.specs.declared.start.ClientStart.{ClientStart}
@@ -25,7 +25,7 @@ use Rattle.link_node.specs.declared.event.Event.{Event}
 use Rattle.link_text.specs.Words.{joined, dotted, truth_text_of, endpoint_text_of}
 use Rattle.link_text.specs.EventDetails.{kind_of, details_of, SaysDetails}
 use Rattle.link_text.specs.LineWords.{words_of}
-use Rattle.link_text.specs.ReplayScript.{event_words, commit_words, timeline_words, start_words, IsHexOf, IsHexIn, IsEventKind, IsEventLine}
+use Rattle.link_text.specs.ReplayScript.{event_words, commit_words, timeline_words, start_words, quantum_words, IsHexOf, IsHexIn, IsEventKind, IsEventLine}
 use Rattle.link_text.proofs.NumberLemmas.{decimal_lacks, stored}
 use Rattle.link_text.proofs.LineWordLemmas.{words_cut, words_last, words_some}
 
@@ -83,6 +83,10 @@ moment_within (negsuc n) m = absurd (omega (arith, ints, m.0))
 pub tempo_within : (n : ℤ) → pos 60_060 ≤ℤ n → n ≤ℤ pos 3_000_000 → IsWithinLimit n
 tempo_within (pos n) low high = omega (arith, ints)
 tempo_within (negsuc n) low high = absurd (omega (arith, ints))
+
+pub quantum_within : (n : ℤ) → IsQuantum n → IsWithinLimit n
+quantum_within (pos n) is = omega (arith, ints, is.1)
+quantum_within (negsuc n) is = absurd (omega (arith, ints, is.0))
 
 pub truth_lacks : (t : Bool) → Lacks (truth_text_of t)
 unfolding truth_text_of
@@ -155,13 +159,18 @@ start_lacks (Some start) tidy =
     let is = tidy start refl in
     (lacks_by_test (codes "s") refl, (truth_lacks start.playing, (signed_lacks start.time is.time, (signed_lacks start.stamp is.stamp, tt))))
 
+quantum_word_lacks : (quantum : Option ℤ) → ForSome quantum IsQuantum → AllLack (quantum_words quantum)
+quantum_word_lacks None tidy = tt
+quantum_word_lacks (Some quantum) tidy = (lacks_by_test (codes "q") refl, (signed_lacks quantum (quantum_within quantum (tidy quantum refl)), tt))
+
 append_lacks : (vs ws : List (List ℕ)) → AllLack vs → AllLack ws → AllLack (vs ++ ws)
 append_lacks [] ws lack_v lack_w = lack_w
 append_lacks (v ∷ vs) ws lack_v lack_w = (lack_v.0, append_lacks vs ws lack_v.1 lack_w)
 
 commit_lacks : (commit : Commit) → IsTidyCommit commit → AllLack (commit_words commit)
 commit_lacks commit tidy =
-    (signed_lacks commit.at tidy.at, append_lacks (timeline_words commit.timeline) (start_words commit.start) (timeline_lacks commit.timeline tidy.timeline) (start_lacks commit.start tidy.start))
+    let later = append_lacks (start_words commit.start) (quantum_words commit.quantum) (start_lacks commit.start tidy.start) (quantum_word_lacks commit.quantum tidy.quantum) in
+    (signed_lacks commit.at tidy.at, append_lacks (timeline_words commit.timeline) (start_words commit.start ++ quantum_words commit.quantum) (timeline_lacks commit.timeline tidy.timeline) later)
 
 pub words_are : (hex : List ℕ) (e : EventValue) → event_words hex e ≡ kind_of e ∷ signed_decimal (moment_of e) ∷ details_of hex e
 unfolding event_words

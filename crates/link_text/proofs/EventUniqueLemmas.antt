@@ -1,11 +1,12 @@
 -- A line says one event at most.
 use Rattle.std.proofs.Common.{◌≡◌, refl, sym, ◌∙◌, ap, subst, arith, ℤ, ℕ, ◌≤◌, ◌^◌, Bool, List, [], ◌∷◌, ◌++◌, codes, Option, Some, None, Ok}
 use Rattle.std.specs.Fmt.{decimal, signed_decimal}
+use Rattle.std.specs.List.{AllByRecursion}
 use Rattle.std.specs.Option.{ForSome}
 use Rattle.std.proofs.lemmas.Fmt.{decimal_injective, signed_decimal_injective}
 use Rattle.hex.specs.Hex.{decode_of}
 use Rattle.hex.proofs.HexLemmas.{decode_of-same, decode_of-ok}
-use Rattle.lk_base.specs.Ranges.{IsWithinLimit}
+use Rattle.lk_base.specs.Ranges.{IsQuantum, IsWithinLimit}
 use Rattle.lk_base.specs.Timeline.{IsTidy}
 use Rattle.lk_base.specs.declared.endpoint.Endpoint.{Endpoint}
 use Rattle.lk_base.specs.declared.endpoint.Gate.{Gate}
@@ -16,10 +17,10 @@ use Rattle.client_state.specs.declared.commit.Commit.{Commit}
 use Rattle.link_node.specs.Event.{EventValue, Rx, Tick, App, Audio, End, moment_of, audio_after}
 use Rattle.link_text.specs.Words.{truth_text_of, endpoint_text_of}
 use Rattle.link_text.specs.EventDetails.{kind_of, details_of}
-use Rattle.link_text.specs.Places.{audio_of}
-use Rattle.link_text.specs.ReplayScript.{commit_words, timeline_words, start_words, IsHexOf, IsHexIn, IsEventKind, IsEventLine, AreEventLines}
-use Rattle.link_text.proofs.CommitLemmas.{t_is_no_s}
-use Rattle.link_text.proofs.EventLemmas.{line_words, moment_within, tempo_within}
+use Rattle.link_text.specs.Places.{audio_of, AreOfVersion, IsOfVersion}
+use Rattle.link_text.specs.ReplayScript.{commit_words, timeline_words, start_words, quantum_words, IsHexOf, IsHexIn, IsEventKind, IsEventLine, AreEventLines, IsWithoutQuantum}
+use Rattle.link_text.proofs.CommitLemmas.{no_s, no_t}
+use Rattle.link_text.proofs.EventLemmas.{line_words, moment_within, quantum_within, tempo_within}
 use Rattle.link_text.proofs.HeadLemmas.{endpoint_one, truth_one, mag_less, first_differs}
 
 pub signed_one : (m n : ℤ) → IsWithinLimit m → IsWithinLimit n → signed_decimal m ≡ signed_decimal n → m ≡ n
@@ -51,48 +52,60 @@ timeline_one a b xs ys tidy_a tidy_b same =
       cc same,
     )
 
-start_one : (a b : Option ClientStart) → ForSome a IsTidyStart → ForSome b IsTidyStart → start_words a ≡ start_words b → a ≡ b
-start_one None None tidy_a tidy_b same = refl
-start_one None (Some b) tidy_a tidy_b same = cc
-start_one (Some a) None tidy_a tidy_b same = cc
-start_one (Some a) (Some b) tidy_a tidy_b same =
-    let is_a = tidy_a a refl in
-    let is_b = tidy_b b refl in
+start_one : (a b : ClientStart) (xs ys : List (List ℕ)) → IsTidyStart a → IsTidyStart b → start_words (Some a) ++ xs ≡ start_words (Some b) ++ ys → (a ≡ b) × (xs ≡ ys)
+start_one a b xs ys tidy_a tidy_b same =
     let plays : truth_text_of a.playing ≡ truth_text_of b.playing = cc same in
     let times : signed_decimal a.time ≡ signed_decimal b.time = cc same in
-    let stamps : signed_decimal a.stamp ≡ signed_decimal b.stamp = cc same in
-    ap (λ (s : ClientStart). Some s) (start_same a b (truth_one a.playing b.playing plays) (signed_one a.time b.time is_a.time is_b.time times) (signed_one a.stamp b.stamp is_a.stamp is_b.stamp stamps))
+    let stamps : signed_decimal a.stamp ≡ signed_decimal b.stamp = cc same in (
+      start_same a b (truth_one a.playing b.playing plays) (signed_one a.time b.time tidy_a.time tidy_b.time times)
+          (signed_one a.stamp b.stamp tidy_a.stamp tidy_b.stamp stamps),
+      cc same,
+    )
 
--- the words of a start don't begin as those of a timeline
-no_timeline_first : (start : Option ClientStart) (tl : Timeline) (rest : List (List ℕ)) → start_words start ≡ timeline_words (Some tl) ++ rest → ⊥
-no_timeline_first None tl rest same = cc
-no_timeline_first (Some start) tl rest same = t_is_no_s (cc same)
+quantum_word_one : (p q : Option ℤ) → ForSome p IsQuantum → ForSome q IsQuantum → quantum_words p ≡ quantum_words q → p ≡ q
+quantum_word_one None None tidy_p tidy_q same = refl
+quantum_word_one None (Some q) tidy_p tidy_q same = cc
+quantum_word_one (Some p) None tidy_p tidy_q same = cc
+quantum_word_one (Some p) (Some q) tidy_p tidy_q same =
+    ap (λ (z : ℤ). Some z) (signed_one p q (quantum_within p (tidy_p p refl)) (quantum_within q (tidy_q q refl)) (cc same))
 
--- both parts
-pub record AreOneParts (a b : Option Timeline) (s t : Option ClientStart) : Type 0 where
-  pub timeline : a ≡ b
-  pub start : s ≡ t
+-- a start and a quantum
+later_one : (s t : Option ClientStart) (p q : Option ℤ) → ForSome s IsTidyStart → ForSome t IsTidyStart → ForSome p IsQuantum → ForSome q IsQuantum
+    → start_words s ++ quantum_words p ≡ start_words t ++ quantum_words q → (s ≡ t) × (p ≡ q)
+later_one None None p q tidy_s tidy_t tidy_p tidy_q same = (refl, quantum_word_one p q tidy_p tidy_q same)
+later_one None (Some t) p q tidy_s tidy_t tidy_p tidy_q same = absurd (no_s p _ same)
+later_one (Some s) None p q tidy_s tidy_t tidy_p tidy_q same = absurd (no_s q _ (sym same))
+later_one (Some s) (Some t) p q tidy_s tidy_t tidy_p tidy_q same =
+    let one = start_one s t (quantum_words p) (quantum_words q) (tidy_s s refl) (tidy_t t refl) same in
+    (ap (λ (start : ClientStart). Some start) one.0, quantum_word_one p q tidy_p tidy_q one.1)
 
-parts_one : (a b : Option Timeline) (s t : Option ClientStart) → ForSome a IsTidy → ForSome b IsTidy → ForSome s IsTidyStart → ForSome t IsTidyStart
-    → timeline_words a ++ start_words s ≡ timeline_words b ++ start_words t → AreOneParts a b s t
-parts_one None None s t tidy_a tidy_b tidy_s tidy_t same = record { timeline = refl; start = start_one s t tidy_s tidy_t same }
-parts_one None (Some b) s t tidy_a tidy_b tidy_s tidy_t same = absurd (no_timeline_first s b (start_words t) same)
-parts_one (Some a) None s t tidy_a tidy_b tidy_s tidy_t same = absurd (no_timeline_first t a (start_words s) (sym same))
-parts_one (Some a) (Some b) s t tidy_a tidy_b tidy_s tidy_t same =
-    let one = timeline_one a b (start_words s) (start_words t) (tidy_a a refl) (tidy_b b refl) same in
-    record { timeline = ap (λ (tl : Timeline). Some tl) one.0; start = start_one s t tidy_s tidy_t one.1 }
+-- all parts
+parts_one : (a b : Option Timeline) (s t : Option ClientStart) (p q : Option ℤ)
+    → ForSome a IsTidy → ForSome b IsTidy → ForSome s IsTidyStart → ForSome t IsTidyStart → ForSome p IsQuantum → ForSome q IsQuantum
+    → timeline_words a ++ (start_words s ++ quantum_words p) ≡ timeline_words b ++ (start_words t ++ quantum_words q) → (a ≡ b) × (s ≡ t) × (p ≡ q)
+parts_one None None s t p q tidy_a tidy_b tidy_s tidy_t tidy_p tidy_q same =
+    let later = later_one s t p q tidy_s tidy_t tidy_p tidy_q same in
+    (refl, later.0, later.1)
+parts_one None (Some b) s t p q tidy_a tidy_b tidy_s tidy_t tidy_p tidy_q same = absurd (no_t s p _ same)
+parts_one (Some a) None s t p q tidy_a tidy_b tidy_s tidy_t tidy_p tidy_q same = absurd (no_t t q _ (sym same))
+parts_one (Some a) (Some b) s t p q tidy_a tidy_b tidy_s tidy_t tidy_p tidy_q same =
+    let one = timeline_one a b (start_words s ++ quantum_words p) (start_words t ++ quantum_words q) (tidy_a a refl) (tidy_b b refl) same in
+    let later = later_one s t p q tidy_s tidy_t tidy_p tidy_q one.1 in
+    (ap (λ (tl : Timeline). Some tl) one.0, later.0, later.1)
 
-abbrev commit_from : Option Timeline → Option ClientStart → ℤ → Commit
-commit_from timeline start at = record { timeline = timeline; start = start; at = at }
+abbrev commit_from : Option Timeline → Option ClientStart → Option ℤ → ℤ → Commit
+commit_from timeline start quantum at = record { timeline = timeline; start = start; quantum = quantum; at = at }
 
 pub commit_one : (a b : Commit) → IsTidyCommit a → IsTidyCommit b → commit_words a ≡ commit_words b → a ≡ b
 commit_one a b tidy_a tidy_b same =
     let ats : signed_decimal a.at ≡ signed_decimal b.at = cc same in
-    let rests : timeline_words a.timeline ++ start_words a.start ≡ timeline_words b.timeline ++ start_words b.start = cc same in
-    let parts = parts_one a.timeline b.timeline a.start b.start tidy_a.timeline tidy_b.timeline tidy_a.start tidy_b.start rests in
-    ap (λ (tl : Option Timeline). commit_from tl a.start a.at) parts.timeline
-    ∙ ap (λ (s : Option ClientStart). commit_from b.timeline s a.at) parts.start
-    ∙ ap (λ (z : ℤ). commit_from b.timeline b.start z) (signed_one a.at b.at tidy_a.at tidy_b.at ats)
+    let rests : timeline_words a.timeline ++ (start_words a.start ++ quantum_words a.quantum) ≡ timeline_words b.timeline ++ (start_words b.start ++ quantum_words b.quantum)
+    = cc same in
+    let parts = parts_one a.timeline b.timeline a.start b.start a.quantum b.quantum tidy_a.timeline tidy_b.timeline tidy_a.start tidy_b.start tidy_a.quantum tidy_b.quantum rests in
+    ap (λ (tl : Option Timeline). commit_from tl a.start a.quantum a.at) parts.0
+    ∙ ap (λ (s : Option ClientStart). commit_from b.timeline s a.quantum a.at) parts.1
+    ∙ ap (λ (q : Option ℤ). commit_from b.timeline b.start q a.at) parts.2
+    ∙ ap (λ (z : ℤ). commit_from b.timeline b.start b.quantum z) (signed_one a.at b.at tidy_a.at tidy_b.at ats)
 
 -- ---- bytes
 
@@ -179,19 +192,25 @@ events_one g h a b (line ∷ lines) (e ∷ es) (f ∷ fs) few_g few_h are_e are_
     let rest = events_one g h (audio_after a e) (audio_after b f) lines es fs few_g few_h are_e.1 are_f.1 in
     cc (one, rest)
 
--- a line that says no event behind some isn't among lines of events
-pub event_among : (gates audio : ℕ) (said : List (List ℕ)) (es : List EventValue) (line : List ℕ) (more : List (List ℕ)) (fs : List EventValue)
-    → gates ≤ 2 ^ 64 → AreEventLines gates audio said es → AreEventLines gates audio (said ++ line ∷ more) fs
-    → ((e : EventValue) → IsEventLine gates (audio_of audio es) line e → ⊥) → ⊥
-event_among gates audio [] [] line more [] few are all none = all
-event_among gates audio [] [] line more (f ∷ fs) few are all none = none f all.0
-event_among gates audio [] (e ∷ es) line more fs few are all none = are
-event_among gates audio (l ∷ said) [] line more fs few are all none = are
-event_among gates audio (l ∷ said) (e ∷ es) line more [] few are all none = all
-event_among gates audio (l ∷ said) (e ∷ es) line more (f ∷ fs) few are all none =
+-- a line that says no event of a version behind some isn't among lines of its events
+pub event_among : (version gates audio : ℕ) (said : List (List ℕ)) (es : List EventValue) (line : List ℕ) (more : List (List ℕ)) (fs : List EventValue)
+    → gates ≤ 2 ^ 64 → AreEventLines gates audio said es → AreEventLines gates audio (said ++ line ∷ more) fs → AreOfVersion version fs
+    → ((e : EventValue) → IsEventLine gates (audio_of audio es) line e → IsOfVersion version e → ⊥) → ⊥
+event_among version gates audio [] [] line more [] few are all plain none = all
+event_among version gates audio [] [] line more (f ∷ fs) few are all plain none = none f all.0 (λ one. (plain one).0)
+event_among version gates audio [] (e ∷ es) line more fs few are all plain none = are
+event_among version gates audio (l ∷ said) [] line more fs few are all plain none = are
+event_among version gates audio (l ∷ said) (e ∷ es) line more [] few are all plain none = all
+event_among version gates audio (l ∷ said) (e ∷ es) line more (f ∷ fs) few are all plain none =
     let one = event_one gates gates audio audio l f e few few all.0 are.0 in
-    event_among gates (audio_after audio e) said es line more fs few are.1
-    (subst (λ (x : EventValue). AreEventLines gates (audio_after audio x) (said ++ line ∷ more) fs) one all.1) none
+    event_among version gates (audio_after audio e) said es line more fs few are.1
+    (subst (λ (x : EventValue). AreEventLines gates (audio_after audio x) (said ++ line ∷ more) fs) one all.1) (λ first. (plain first).1) none
+
+-- what a line says is no event of version 1 where it has a quantum
+pub no_plain : (version gates audio : ℕ) (line : List ℕ) (e : EventValue) → gates ≤ 2 ^ 64 → version ≡ 1 → IsEventLine gates audio line e
+    → (IsWithoutQuantum e → ⊥) → (f : EventValue) → IsEventLine gates audio line f → IsOfVersion version f → ⊥
+no_plain version gates audio line e few one says has f other plain =
+    has (subst IsWithoutQuantum (event_one gates gates audio audio line f e few few other says) (plain one))
 
 -- one line of an event more
 pub events_push : (gates audio : ℕ) (lines : List (List ℕ)) (es : List EventValue) (line : List ℕ) (e : EventValue)
@@ -200,6 +219,13 @@ events_push gates audio [] [] line e are says = (says, tt)
 events_push gates audio [] (f ∷ es) line e are says = absurd are
 events_push gates audio (l ∷ lines) [] line e are says = absurd are
 events_push gates audio (l ∷ lines) (f ∷ es) line e are says = (are.0, events_push gates (audio_after audio f) lines es line e are.1 says)
+
+pub plain_push : (version : ℕ) (es : List EventValue) (e : EventValue) → AreOfVersion version es → IsOfVersion version e → AreOfVersion version (es ++ e ∷ [])
+plain_push version es e are is = λ one. push es (are one) (is one)
+  where
+    push : (es : List EventValue) → AllByRecursion IsWithoutQuantum es → IsWithoutQuantum e → AllByRecursion IsWithoutQuantum (es ++ e ∷ [])
+    push [] are is = (is, tt)
+    push (f ∷ es) are is = (are.0, push es are.1 is)
 
 pub audio_push : (audio : ℕ) (es : List EventValue) (e : EventValue) → audio_of audio (es ++ e ∷ []) ≡ audio_after (audio_of audio es) e
 audio_push audio [] e = refl

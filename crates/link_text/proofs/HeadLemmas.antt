@@ -8,7 +8,6 @@ use Rattle.std.proofs.lemmas.List.Concat.{flat_map-cons}
 use Rattle.std.proofs.lemmas.List.Elements.{All-head, All-tail, All-push, All-nil}
 use Rattle.std.proofs.lemmas.Grind.{flat_map-append}
 use Rattle.std.proofs.lemmas.Fmt.{decimal_digit, decimal_injective, signed_decimal_injective}
-use Rattle.std.proofs.lemmas.Int.{ints}
 use Rattle.lk_base.specs.Endpoint.{IsEndpoint}
 use Rattle.lk_base.specs.Ranges.{IsQuantum, IsWithinLimit}
 use Rattle.lk_base.specs.declared.endpoint.Endpoint.{Endpoint}
@@ -23,7 +22,7 @@ use Rattle.link_text.specs.declared.head_read.Node.{Node}
 use Rattle.link_text.specs.HeadParts.{gate_line, to_line, plain_of, IsKnownVersion, IsNodeLine, IsNode, LacksTo, LacksGate, AreFull, HasDestinations, HasGates}
 use Rattle.link_text.proofs.WordLemmas.{cut_one}
 use Rattle.link_text.proofs.NumberLemmas.{decimal_lacks}
-use Rattle.link_text.proofs.EventLemmas.{Lacks, lacks_by_test, number_lacks, signed_lacks, truth_lacks, moment_within, tempo_within, words_joined, joined_words, words_are}
+use Rattle.link_text.proofs.EventLemmas.{Lacks, lacks_by_test, number_lacks, signed_lacks, truth_lacks, moment_within, quantum_within, tempo_within, words_joined, joined_words, words_are}
 
 -- ---- endpoints
 
@@ -105,10 +104,6 @@ group_lacks group small = number_lacks group (omega arith)
 
 pub group_one : (g h : ℕ) → g < 2 ^ 16 → h < 2 ^ 16 → group_line g ≡ group_line h → g ≡ h
 group_one g h small_g small_h same = decimal_injective g h (omega arith) (omega arith) (cc same)
-
-quantum_within : (n : ℤ) → IsQuantum n → IsWithinLimit n
-quantum_within (pos n) is = omega (arith, ints, is.1)
-quantum_within (negsuc n) is = absurd (omega (arith, ints, is.0))
 
 pub quantum_lacks : (n : ℤ) → IsQuantum n → Lacks (signed_decimal n)
 quantum_lacks n is = signed_lacks n (quantum_within n is)

@@ -1,10 +1,9 @@
 -- Live scripts: how far a text is one, and where it stops to be one.
-use Rattle.std.proofs.Common.{◌≡◌, inl, inr, refl, sym, ◌∙◌, ap, subst, arith, rules, ℤ, pos, ℕ, ◌+◌, ◌-◌, ◌≤◌, ◌^◌, ◌||◌, Bool, true, false, not, if◌then◌else◌, List, [], ◌∷◌, ◌++◌, length, map, filter, drop, IsTrue}
+use Rattle.std.proofs.Common.{◌≡◌, inl, inr, refl, sym, ◌∙◌, ap, subst, arith, ℤ, pos, ℕ, ◌+◌, ◌-◌, ◌≤◌, ◌^◌, Bool, true, false, not, if◌then◌else◌, List, [], ◌∷◌, ◌++◌, length, map, filter, drop}
 use Rattle.std.specs.List.{All, flat_map}
 use Rattle.std.proofs.lemmas.Int.{ints}
 use Rattle.std.proofs.lemmas.List.{append_assoc, append-nil, map-append, length-append}
 use Rattle.std.proofs.lemmas.List.Elements.{All-head, All-tail, All-nil, All-push, filter-append}
-use Rattle.lk_base.specs.Endpoint.{IsEndpoint}
 use Rattle.lk_base.specs.declared.endpoint.Endpoint.{Endpoint}
 use Rattle.link_node.specs.Config.{GateValue}
 use Rattle.link_text.specs.Lines.{lines_of, is_passed, counting_in}
@@ -16,7 +15,7 @@ use Rattle.link_text.specs.Places.{IsAhead, counting_from}
 use Rattle.link_text.specs.ReplayScript.{IsGate, gate_lines}
 use Rattle.link_text.specs.LiveScript.{Command, app, block, IsTempo, IsLiveHead, IsCommand, IsLiveScript, IsLiveText, IsSomeLiveScript, IsLiveLineFault, apps_in, blocks_in, begins_command, command_line, commands_told, live_head_lines, live_version_line, setup_line}
 use Rattle.link_text.specs.LiveParts.{HasBadCommand, HasCommands, IsLiveStart, TakesCommand, lines_told}
-use Rattle.link_text.proofs.HeadLemmas.{gates_one, lacks_gate_as, opened, first_differs, full_events}
+use Rattle.link_text.proofs.HeadLemmas.{gates_one, lacks_gate_as, first_differs, full_events}
 use Rattle.link_text.proofs.FirstFaultLemmas as faults
 use Rattle.link_text.proofs.FirstFaultLemmas.{IsCounted, BeginAlike, alike_first, line_fault}
 use Rattle.link_text.proofs.ScriptLemmas.{some_gate, some_gate_is, some_gate_lines, some_first, full_alike, lacks_gate_alike}

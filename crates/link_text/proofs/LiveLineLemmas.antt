@@ -1,15 +1,15 @@
 -- The lines of a live script, word by word.
-use Rattle.std.proofs.Common.{◌≡◌, ◌≢◌, refl, sym, ◌∙◌, ap, arith, ℤ, ℕ, ◌≤◌, ◌<◌, ◌^◌, Bool, List, [], ◌∷◌, codes, get_or, Option, Some, None, IfSome, IfNone}
+use Rattle.std.proofs.Common.{◌≡◌, ◌≢◌, refl, sym, ◌∙◌, ap, arith, ℤ, ℕ, Bool, List, [], ◌∷◌, codes, get_or, Option, Some, None, IfSome, IfNone}
 use Rattle.std.specs.Fmt.{decimal, signed_decimal}
 use Rattle.std.proofs.lemmas.Fmt.{decimal_injective}
 use Rattle.link_text.specs.LineWords.{words_of}
 use Rattle.link_text.specs.Words.{joined, truth_text_of}
 use Rattle.link_text.specs.LiveScript.{Command, app, block, IsTempo, IsAct, IsCommand, act_words, command_words, command_line, setup_line}
 use Rattle.link_text.specs.declared.live_script.Act.{Act}
-use Rattle.link_text.specs.declared.live_script.Act.TheVariants.{Tempo, Force, Request, Play, Stop, Look}
+use Rattle.link_text.specs.declared.live_script.Act.TheVariants.{Tempo, Force, Request, Quantum, Play, Stop, Look}
 use Rattle.link_text.specs.declared.live_script.AppCommand.{AppCommand}
 use Rattle.link_text.specs.declared.live_script.BlockCommand.{BlockCommand}
-use Rattle.link_text.proofs.EventLemmas.{AllLack, lacks_by_test, number_lacks, signed_lacks, truth_lacks, moment_within, tempo_within, words_joined, joined_words}
+use Rattle.link_text.proofs.EventLemmas.{AllLack, lacks_by_test, number_lacks, signed_lacks, truth_lacks, moment_within, quantum_within, tempo_within, words_joined, joined_words}
 use Rattle.link_text.proofs.HeadLemmas.{truth_one, first_differs}
 use Rattle.link_text.proofs.EventUniqueLemmas.{signed_one}
 
@@ -46,6 +46,7 @@ act_lacks : (act : Act) → IsAct act → AllLack (act_words act)
 act_lacks (Tempo mpb) is = (lacks_by_test (codes "tempo") refl, (signed_lacks mpb (tempo_within mpb is.fastest is.slowest), tt))
 act_lacks (Force beat) is = (lacks_by_test (codes "force") refl, (signed_lacks beat is, tt))
 act_lacks (Request beat) is = (lacks_by_test (codes "request") refl, (signed_lacks beat is, tt))
+act_lacks (Quantum quantum) is = (lacks_by_test (codes "quantum") refl, (signed_lacks quantum (quantum_within quantum is), tt))
 act_lacks Play is = (lacks_by_test (codes "play") refl, tt)
 act_lacks Stop is = (lacks_by_test (codes "stop") refl, tt)
 act_lacks Look is = (lacks_by_test (codes "look") refl, tt)
@@ -58,36 +59,49 @@ act_one : (a b : Act) → IsAct a → IsAct b → act_words a ≡ act_words b �
 act_one (Tempo mpb) (Tempo mpb') is_a is_b same = ap (λ (z : ℤ). Tempo z) (signed_one mpb mpb' (tempo_within mpb is_a.fastest is_a.slowest) (tempo_within mpb' is_b.fastest is_b.slowest) (cc same))
 act_one (Tempo mpb) (Force beat') is_a is_b same = absurd (words_differ (codes "tempo") (codes "force") _ _ 116 102 refl refl (omega arith) same)
 act_one (Tempo mpb) (Request beat') is_a is_b same = absurd (words_differ (codes "tempo") (codes "request") _ _ 116 114 refl refl (omega arith) same)
+act_one (Tempo mpb) (Quantum quantum') is_a is_b same = absurd (words_differ (codes "tempo") (codes "quantum") _ _ 116 113 refl refl (omega arith) same)
 act_one (Tempo mpb) Play is_a is_b same = absurd (words_differ (codes "tempo") (codes "play") _ _ 116 112 refl refl (omega arith) same)
 act_one (Tempo mpb) Stop is_a is_b same = absurd (words_differ (codes "tempo") (codes "stop") _ _ 116 115 refl refl (omega arith) same)
 act_one (Tempo mpb) Look is_a is_b same = absurd (words_differ (codes "tempo") (codes "look") _ _ 116 108 refl refl (omega arith) same)
 act_one (Force beat) (Tempo mpb') is_a is_b same = absurd (words_differ (codes "force") (codes "tempo") _ _ 102 116 refl refl (omega arith) same)
 act_one (Force beat) (Force beat') is_a is_b same = ap (λ (z : ℤ). Force z) (signed_one beat beat' is_a is_b (cc same))
 act_one (Force beat) (Request beat') is_a is_b same = absurd (words_differ (codes "force") (codes "request") _ _ 102 114 refl refl (omega arith) same)
+act_one (Force beat) (Quantum quantum') is_a is_b same = absurd (words_differ (codes "force") (codes "quantum") _ _ 102 113 refl refl (omega arith) same)
 act_one (Force beat) Play is_a is_b same = absurd (words_differ (codes "force") (codes "play") _ _ 102 112 refl refl (omega arith) same)
 act_one (Force beat) Stop is_a is_b same = absurd (words_differ (codes "force") (codes "stop") _ _ 102 115 refl refl (omega arith) same)
 act_one (Force beat) Look is_a is_b same = absurd (words_differ (codes "force") (codes "look") _ _ 102 108 refl refl (omega arith) same)
 act_one (Request beat) (Tempo mpb') is_a is_b same = absurd (words_differ (codes "request") (codes "tempo") _ _ 114 116 refl refl (omega arith) same)
 act_one (Request beat) (Force beat') is_a is_b same = absurd (words_differ (codes "request") (codes "force") _ _ 114 102 refl refl (omega arith) same)
 act_one (Request beat) (Request beat') is_a is_b same = ap (λ (z : ℤ). Request z) (signed_one beat beat' is_a is_b (cc same))
+act_one (Request beat) (Quantum quantum') is_a is_b same = absurd (words_differ (codes "request") (codes "quantum") _ _ 114 113 refl refl (omega arith) same)
 act_one (Request beat) Play is_a is_b same = absurd (words_differ (codes "request") (codes "play") _ _ 114 112 refl refl (omega arith) same)
 act_one (Request beat) Stop is_a is_b same = absurd (words_differ (codes "request") (codes "stop") _ _ 114 115 refl refl (omega arith) same)
 act_one (Request beat) Look is_a is_b same = absurd (words_differ (codes "request") (codes "look") _ _ 114 108 refl refl (omega arith) same)
+act_one (Quantum quantum) (Tempo mpb') is_a is_b same = absurd (words_differ (codes "quantum") (codes "tempo") _ _ 113 116 refl refl (omega arith) same)
+act_one (Quantum quantum) (Force beat') is_a is_b same = absurd (words_differ (codes "quantum") (codes "force") _ _ 113 102 refl refl (omega arith) same)
+act_one (Quantum quantum) (Request beat') is_a is_b same = absurd (words_differ (codes "quantum") (codes "request") _ _ 113 114 refl refl (omega arith) same)
+act_one (Quantum quantum) (Quantum quantum') is_a is_b same = ap (λ (z : ℤ). Quantum z) (signed_one quantum quantum' (quantum_within quantum is_a) (quantum_within quantum' is_b) (cc same))
+act_one (Quantum quantum) Play is_a is_b same = absurd (words_differ (codes "quantum") (codes "play") _ _ 113 112 refl refl (omega arith) same)
+act_one (Quantum quantum) Stop is_a is_b same = absurd (words_differ (codes "quantum") (codes "stop") _ _ 113 115 refl refl (omega arith) same)
+act_one (Quantum quantum) Look is_a is_b same = absurd (words_differ (codes "quantum") (codes "look") _ _ 113 108 refl refl (omega arith) same)
 act_one Play (Tempo mpb') is_a is_b same = absurd (words_differ (codes "play") (codes "tempo") _ _ 112 116 refl refl (omega arith) same)
 act_one Play (Force beat') is_a is_b same = absurd (words_differ (codes "play") (codes "force") _ _ 112 102 refl refl (omega arith) same)
 act_one Play (Request beat') is_a is_b same = absurd (words_differ (codes "play") (codes "request") _ _ 112 114 refl refl (omega arith) same)
+act_one Play (Quantum quantum') is_a is_b same = absurd (words_differ (codes "play") (codes "quantum") _ _ 112 113 refl refl (omega arith) same)
 act_one Play Play is_a is_b same = refl
 act_one Play Stop is_a is_b same = absurd (words_differ (codes "play") (codes "stop") _ _ 112 115 refl refl (omega arith) same)
 act_one Play Look is_a is_b same = absurd (words_differ (codes "play") (codes "look") _ _ 112 108 refl refl (omega arith) same)
 act_one Stop (Tempo mpb') is_a is_b same = absurd (words_differ (codes "stop") (codes "tempo") _ _ 115 116 refl refl (omega arith) same)
 act_one Stop (Force beat') is_a is_b same = absurd (words_differ (codes "stop") (codes "force") _ _ 115 102 refl refl (omega arith) same)
 act_one Stop (Request beat') is_a is_b same = absurd (words_differ (codes "stop") (codes "request") _ _ 115 114 refl refl (omega arith) same)
+act_one Stop (Quantum quantum') is_a is_b same = absurd (words_differ (codes "stop") (codes "quantum") _ _ 115 113 refl refl (omega arith) same)
 act_one Stop Play is_a is_b same = absurd (words_differ (codes "stop") (codes "play") _ _ 115 112 refl refl (omega arith) same)
 act_one Stop Stop is_a is_b same = refl
 act_one Stop Look is_a is_b same = absurd (words_differ (codes "stop") (codes "look") _ _ 115 108 refl refl (omega arith) same)
 act_one Look (Tempo mpb') is_a is_b same = absurd (words_differ (codes "look") (codes "tempo") _ _ 108 116 refl refl (omega arith) same)
 act_one Look (Force beat') is_a is_b same = absurd (words_differ (codes "look") (codes "force") _ _ 108 102 refl refl (omega arith) same)
 act_one Look (Request beat') is_a is_b same = absurd (words_differ (codes "look") (codes "request") _ _ 108 114 refl refl (omega arith) same)
+act_one Look (Quantum quantum') is_a is_b same = absurd (words_differ (codes "look") (codes "quantum") _ _ 108 113 refl refl (omega arith) same)
 act_one Look Play is_a is_b same = absurd (words_differ (codes "look") (codes "play") _ _ 108 112 refl refl (omega arith) same)
 act_one Look Stop is_a is_b same = absurd (words_differ (codes "look") (codes "stop") _ _ 108 115 refl refl (omega arith) same)
 act_one Look Look is_a is_b same = refl

@@ -1,5 +1,5 @@
 -- Scripts: how far a text is one, and where it stops to be one.
-use Rattle.std.proofs.Common.{◌≡◌, ◌⊎◌, inl, inr, refl, sym, ◌∙◌, ap, subst, arith, rules, ℤ, pos, ℕ, ◌+◌, ◌-◌, ◌<◌, ◌≤◌, ◌^◌, Bool, true, false, if◌then◌else◌, nat_eq, List, [], ◌∷◌, ◌++◌, length, map, drop}
+use Rattle.std.proofs.Common.{◌≡◌, inl, inr, refl, sym, ◌∙◌, ap, subst, arith, rules, ℤ, pos, ℕ, ◌+◌, ◌-◌, ◌<◌, ◌≤◌, ◌^◌, Bool, true, false, if◌then◌else◌, nat_eq, List, [], ◌∷◌, ◌++◌, length, map}
 use Rattle.std.specs.List.{All, flat_map}
 use Rattle.std.proofs.lemmas.Int.{ints}
 use Rattle.std.proofs.lemmas.List.{append_assoc, append-nil}
@@ -14,12 +14,12 @@ use Rattle.link_text.specs.Lines.{lines_of, counting_in}
 use Rattle.link_text.specs.declared.head_read.Node.{Node}
 use Rattle.link_text.specs.declared.place.Place.{Place}
 use Rattle.link_text.specs.HeadParts.{gate_line, to_line, config_of, plain_of, IsFront, IsKnownVersion, IsNode, IsOpening, LacksTo, LacksGate, AreFull}
-use Rattle.link_text.specs.Places.{IsAhead, HasEvents, HasBadEvent, counting_from, audio_of}
-use Rattle.link_text.specs.ReplayScript.{IsHead, IsGate, IsEventLine, AreEventLines, IsScript, IsSomeScript, IsLineFault, IsChecked, IsVersion, version_line, node_line, group_line, quantum_line, profile_lines, gate_lines, head_lines}
+use Rattle.link_text.specs.Places.{IsAhead, AreOfVersion, IsOfVersion, HasEvents, HasBadEvent, counting_from, audio_of}
+use Rattle.link_text.specs.ReplayScript.{IsHead, IsGate, IsEventLine, AreEventLines, IsSomeScript, IsLineFault, IsChecked, IsVersion, version_line, node_line, group_line, quantum_line, profile_lines, gate_lines, head_lines}
 use Rattle.link_text.proofs.FirstFaultLemmas as faults
 use Rattle.link_text.proofs.FirstFaultLemmas.{IsCounted, BeginAlike, alike_first, line_fault}
 use Rattle.link_text.proofs.HeadLemmas.{lacks_gate_as, AreOneNode, node_one, group_one, quantum_one, version_one, gates_one, opened, gate_no_to, events_no_gate, events_no_to, full_events}
-use Rattle.link_text.proofs.EventUniqueLemmas.{event_among, events_push, audio_push}
+use Rattle.link_text.proofs.EventUniqueLemmas.{event_among, events_push, plain_push, audio_push}
 
 -- ---- how lines go on to a script
 
@@ -34,6 +34,7 @@ pub record SaysScript (lines : List (List ℕ)) : Type 0 where
   pub head : IsHead config now
   pub lines_are : lines ≡ head_lines version config now ++ rest
   pub events : AreEventLines (length config.gates) 0 rest es
+  pub plain : AreOfVersion version es
 
 script_counted : IsCounted IsSomeScript SaysScript
 script_counted = record {
@@ -47,8 +48,15 @@ script_counted = record {
     head = s.head;
     lines_are = s.said;
     events = s.events;
+    plain = s.plain;
   };
-  is_text = λ lines s. (s.version, s.config, s.now, s.es, record { known = s.known; head = s.head; rest = s.rest; said = s.lines_are; events = s.events });
+  is_text = λ lines s. (
+    s.version,
+    s.config,
+    s.now,
+    s.es,
+    record { known = s.known; head = s.head; rest = s.rest; said = s.lines_are; events = s.events; plain = s.plain },
+  );
 }
 
 abbrev Continues : List (List ℕ) → List (List ℕ) → Type 0
@@ -243,6 +251,7 @@ goes_on version config now lines is are = record {
   lines_are = are ∙ ap (λ (ls : List (List ℕ)). version_line version ∷ node_line config now ∷ (profile_lines version config ++ ls)) (sym some_gate_lines)
       ∙ sym (head_open version (with_gates config (some_gate ∷ [])) now) ∙ sym (append-nil (head_lines version (with_gates config (some_gate ∷ [])) now));
   events = tt;
+  plain = λ one. tt;
 }
 
 pub starts_none : Starts []
@@ -286,8 +295,8 @@ starts_front version config now is = record {
 }
 
 pub starts_events : (version : ℕ) (config : ConfigValue) (now : ℤ) (lines : List (List ℕ)) (es : List EventValue) → IsVersion version config
-    → IsHead config now → AreEventLines (length config.gates) 0 lines es → Starts (head_lines version config now ++ lines)
-starts_events version config now lines es known head are = record {
+    → IsHead config now → AreEventLines (length config.gates) 0 lines es → AreOfVersion version es → Starts (head_lines version config now ++ lines)
+starts_events version config now lines es known head are plain = record {
   more = [];
   goes = record {
     version = version;
@@ -299,6 +308,7 @@ starts_events version config now lines es known head are = record {
     head = head;
     lines_are = append-nil (head_lines version config now ++ lines);
     events = are;
+    plain = plain;
   };
   counts = refl;
 }
@@ -439,14 +449,15 @@ events_lack gates audio count lines es are = inl (λ e more range same. events_n
 no_event_in : (v w : ℕ) (c d : ConfigValue) (now at : ℤ) (said xs ys rest : List (List ℕ)) (x : List ℕ) (es fs : List EventValue)
     → IsVersion v c → IsVersion w d → IsHead c now → IsHead d at
     → AreFull c.gates (said ++ x ∷ xs) → LacksGate (length c.gates) (said ++ x ∷ xs)
-    → AreEventLines (length c.gates) 0 said es → ((e : EventValue) → IsEventLine (length c.gates) (audio_of 0 es) x e → ⊥)
-    → head_lines v c now ++ (said ++ x ∷ ys) ≡ head_lines w d at ++ rest → AreEventLines (length d.gates) 0 rest fs → ⊥
-no_event_in v w c d now at said xs ys rest x es fs known_c known_d is_c is_d full lacks are none same all =
+    → AreEventLines (length c.gates) 0 said es → ((e : EventValue) → IsEventLine (length c.gates) (audio_of 0 es) x e → IsOfVersion v e → ⊥)
+    → head_lines v c now ++ (said ++ x ∷ ys) ≡ head_lines w d at ++ rest → AreEventLines (length d.gates) 0 rest fs → AreOfVersion w fs → ⊥
+no_event_in v w c d now at said xs ys rest x es fs known_c known_d is_c is_d full lacks are none same all plain =
     let one = head_one v w c d now at (said ++ x ∷ ys) rest known_c known_d is_c is_d (alike_full said full) (full_events d.gates rest (events_no_to (length d.gates) 0 rest fs all))
     (alike_lacks said lacks) (events_lack (length d.gates) 0 (length d.gates) rest fs all) same in
-    event_among (length c.gates) 0 said es x ys fs (omega (arith, is_c.opens.few_gates)) are
+    event_among v (length c.gates) 0 said es x ys fs (omega (arith, is_c.opens.few_gates)) are
     (subst (λ (ls : List (List ℕ)). AreEventLines (length c.gates) 0 ls fs) (sym one.rest)
-    (subst (λ (gs : List GateValue). AreEventLines (length gs) 0 rest fs) (sym one.gates) all)) none
+    (subst (λ (gs : List GateValue). AreEventLines (length gs) 0 rest fs) (sym one.gates) all))
+    (subst (λ (n : ℕ). AreOfVersion n fs) (sym one.version) plain) none
   where
     alike_full : (said : List (List ℕ)) → AreFull c.gates (said ++ x ∷ xs) → AreFull c.gates (said ++ x ∷ ys)
     alike_full [] full = full_alike c.gates x xs ys full
@@ -459,7 +470,7 @@ no_event_in v w c d now at said xs ys rest x es fs known_c known_d is_c is_d ful
 pub no_event : (v : ℕ) (c : ConfigValue) (now : ℤ) (said lines : List (List ℕ)) (x : List ℕ) (xs : List (List ℕ)) (es : List EventValue)
     → IsVersion v c → IsHead c now
     → AreFull c.gates (said ++ lines) → LacksGate (length c.gates) (said ++ lines) → lines ≡ x ∷ xs
-    → AreEventLines (length c.gates) 0 said es → ((e : EventValue) → IsEventLine (length c.gates) (audio_of 0 es) x e → ⊥)
+    → AreEventLines (length c.gates) 0 said es → ((e : EventValue) → IsEventLine (length c.gates) (audio_of 0 es) x e → IsOfVersion v e → ⊥)
     → (more : List (List ℕ)) → BeginAlike lines more → Continues (head_lines v c now ++ said) more → ⊥
 no_event v c now said lines x xs es known is full lacks there are none more (inl (nothing, nor)) goes = differ (sym nothing ∙ there)
   where
@@ -472,7 +483,7 @@ no_event v c now said lines x xs es known is full lacks there are none more (inr
     (subst (λ (ls : List (List ℕ)). AreFull c.gates (said ++ ls)) there full)
     (subst (λ (ls : List (List ℕ)). LacksGate (length c.gates) (said ++ ls)) there lacks)
     are none
-    (sym (append_assoc (head_lines v c now) said (x ∷ bs)) ∙ ap (λ (ls : List (List ℕ)). (head_lines v c now ++ said) ++ ls) (sym more_is) ∙ goes.lines_are) goes.events
+    (sym (append_assoc (head_lines v c now) said (x ∷ bs)) ∙ ap (λ (ls : List (List ℕ)). (head_lines v c now ++ said) ++ ls) (sym more_is) ∙ goes.lines_are) goes.events goes.plain
 
 -- ---- the whole script
 
@@ -523,10 +534,10 @@ head_said text version config now place gates rest front are =
 pub checked : (text : List ℕ) (version : ℕ) (config : ConfigValue) (now : ℤ) (place : Place) (es : List EventValue) → IsAhead text place
     → IsVersion version config → IsHead config now
     → counting_in (lines_of text) ≡ head_lines version config now ++ counting_from text place.at
-    → AreEventLines (length config.gates) 0 (counting_from text place.at) es → IsChecked text version config now place.at
-checked text version config now place es ahead known head said are = record {
+    → AreEventLines (length config.gates) 0 (counting_from text place.at) es → AreOfVersion version es → IsChecked text version config now place.at
+checked text version config now place es ahead known head said are plain = record {
   es = es;
-  script = record { known = known; head = head; rest = counting_from text place.at; said = said; events = are };
+  script = record { known = known; head = head; rest = counting_from text place.at; said = said; events = are; plain = plain };
   from = record { few = head.opens.few_gates; within = ahead.within; lines = are };
 }
 
@@ -534,15 +545,15 @@ pub bad_event : (text : List ℕ) (version : ℕ) (config : ConfigValue) (now : 
     → IsVersion version config → IsHead config now
     → counting_in (lines_of text) ≡ head_lines version config now ++ counting_from text place.at
     → AreFull config.gates (counting_from text place.at) → LacksGate (length config.gates) (counting_from text place.at)
-    → count ≡ length config.gates → HasBadEvent count text (counting_from text place.at) bad → IsLineFault text bad.number
+    → count ≡ length config.gates → HasBadEvent version count text (counting_from text place.at) bad → IsLineFault text bad.number
 bad_event text version config now place bad count short known head said full lacks same has =
     let events = subst (λ (n : ℕ). AreEventLines n 0 has.has.events_lines has.has.es) same has.has.events in
-    let fault : (e : EventValue) → IsEventLine (length config.gates) (audio_of 0 has.has.es) has.line e → ⊥
+    let fault : (e : EventValue) → IsEventLine (length config.gates) (audio_of 0 has.has.es) has.line e → IsOfVersion version e → ⊥
     = λ e says. has.fault e (subst (λ (n : ℕ). IsEventLine n has.audio has.line e) (sym same) (subst (λ (a : ℕ). IsEventLine (length config.gates) a has.line e) (sym has.has.last) says)) in
     fault_here text bad (head_lines version config now ++ has.has.events_lines) short has.ahead
     (said ∙ ap (λ (ls : List (List ℕ)). head_lines version config now ++ ls) has.has.said
     ∙ sym (append_assoc (head_lines version config now) has.has.events_lines (counting_from text bad.at)))
-    (starts_events version config now has.has.events_lines has.has.es known head events)
+    (starts_events version config now has.has.events_lines has.has.es known head events has.has.plain)
     (no_event version config now has.has.events_lines (counting_from text bad.at) has.line (counting_from text has.next.at) has.has.es known head
     (subst (λ (ls : List (List ℕ)). AreFull config.gates ls) has.has.said full)
     (subst (λ (ls : List (List ℕ)). LacksGate (length config.gates) ls) has.has.said lacks)
@@ -550,24 +561,26 @@ bad_event text version config now place bad count short known head said full lac
 
 -- ---- events one by one
 
-pub events_none : (gates : ℕ) (lines : List (List ℕ)) → HasEvents gates lines 0 lines
-events_none gates lines = record { es = []; events_lines = []; said = refl; events = tt; last = refl }
+pub events_none : (version gates : ℕ) (lines : List (List ℕ)) → HasEvents version gates lines 0 lines
+events_none version gates lines = record { es = []; events_lines = []; said = refl; events = tt; plain = λ one. tt; last = refl }
 
-pub events_more : (gates : ℕ) (lines : List (List ℕ)) (audio after : ℕ) (here rest : List (List ℕ)) (line : List ℕ) (e : EventValue)
-    → HasEvents gates lines audio here → here ≡ line ∷ rest → IsEventLine gates audio line e → after ≡ audio_after audio e
-    → HasEvents gates lines after rest
-events_more gates lines audio after here rest line e has is says next = record {
+pub events_more : (version gates : ℕ) (lines : List (List ℕ)) (audio after : ℕ) (here rest : List (List ℕ)) (line : List ℕ) (e : EventValue)
+    → HasEvents version gates lines audio here → here ≡ line ∷ rest → IsEventLine gates audio line e → IsOfVersion version e → after ≡ audio_after audio e
+    → HasEvents version gates lines after rest
+events_more version gates lines audio after here rest line e has is says plain next = record {
   es = has.es ++ e ∷ [];
   events_lines = has.events_lines ++ line ∷ [];
   said = has.said ∙ ap (λ (ls : List (List ℕ)). has.events_lines ++ ls) is ∙ sym (append_assoc has.events_lines (line ∷ []) rest);
   events = events_push gates 0 has.events_lines has.es line e has.events (subst (λ (a : ℕ). IsEventLine gates a line e) has.last says);
+  plain = plain_push version has.es e has.plain plain;
   last = next ∙ ap (λ (a : ℕ). audio_after a e) has.last ∙ sym (audio_push 0 has.es e);
 }
 
-pub events_whole : (gates : ℕ) (lines : List (List ℕ)) (audio : ℕ) (rest : List (List ℕ)) → HasEvents gates lines audio rest → rest ≡ []
-    → (es : List EventValue) × AreEventLines gates 0 lines es
-events_whole gates lines audio rest has none = (
+pub events_whole : (version gates : ℕ) (lines : List (List ℕ)) (audio : ℕ) (rest : List (List ℕ)) → HasEvents version gates lines audio rest → rest ≡ []
+    → (es : List EventValue) × AreEventLines gates 0 lines es × AreOfVersion version es
+events_whole version gates lines audio rest has none = (
   has.es,
   subst (λ (ls : List (List ℕ)). AreEventLines gates 0 ls has.es)
       (sym (has.said ∙ ap (λ (ls : List (List ℕ)). has.events_lines ++ ls) none ∙ append-nil has.events_lines)) has.events,
+  has.plain,
 )

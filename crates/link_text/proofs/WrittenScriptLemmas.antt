@@ -21,7 +21,7 @@ use Rattle.client_state.specs.declared.commit.Commit.{Commit}
 use Rattle.link_node.specs.Config.{ConfigValue, GateValue}
 use Rattle.link_node.specs.Event.{EventValue, Rx, Tick, App, Audio, End, audio_after}
 use Rattle.link_text.specs.GateLines.{destination_line, local_line}
-use Rattle.link_text.specs.ReplayScript.{AreEventLines, AreSayable, IsEventKind, IsHead, IsHexIn, IsHexOf, commit_words, ended, event_line, event_words, gate_lines, group_line, head_lines, hex_of, hex_word, node_line, quantum_line, start_words, timeline_words, version_line, written_script_of}
+use Rattle.link_text.specs.ReplayScript.{AreEventLines, AreSayable, IsEventKind, IsHead, IsHexIn, IsHexOf, commit_words, ended, event_line, event_words, gate_lines, group_line, head_lines, hex_of, hex_word, node_line, quantum_line, quantum_words, start_words, timeline_words, version_line, written_script_of}
 
 -- no byte is a line feed or below it
 abbrev pub AreAbove : List ℕ → Type 0
@@ -208,10 +208,15 @@ start-above : (start : Option ClientStart) → AreAllAbove (start_words start)
 start-above None = tt
 start-above (Some start) = (literal-above (codes "s") refl, (truth-above start.playing, (signed-above start.time, (signed-above start.stamp, tt))))
 
+quantum-above : (quantum : Option ℤ) → AreAllAbove (quantum_words quantum)
+quantum-above None = tt
+quantum-above (Some quantum) = (literal-above (codes "q") refl, (signed-above quantum, tt))
+
 commit-above : (commit : Commit) → AreAllAbove (commit_words commit)
 commit-above commit = (
   signed-above commit.at,
-  both-above (timeline_words commit.timeline) (start_words commit.start) (timeline-above commit.timeline) (start-above commit.start),
+  both-above (timeline_words commit.timeline) (start_words commit.start ++ quantum_words commit.quantum) (timeline-above commit.timeline)
+      (both-above (start_words commit.start) (quantum_words commit.quantum) (start-above commit.start) (quantum-above commit.quantum)),
 )
 
 event-above : (gates audio : ℕ) (e : EventValue) → IsEventKind gates audio e → AreAllAbove (event_words (hex_of e) e)

@@ -1,5 +1,5 @@
 -- Only for proofs: how far a live script is read.
-use Rattle.std.specs.Prelude.{◌≡◌, ◌≤◌, ◌<◌, ℕ, ℤ, Bool, List, [], ◌∷◌, ◌++◌, length, map, filter, All}
+use Rattle.std.specs.Prelude.{◌≡◌, ℕ, ℤ, Bool, List, [], ◌∷◌, ◌++◌, length, map, filter, All}
 use Rattle.link_node.specs.Config.{GateValue}
 use Rattle.link_text.specs.Lines.{lines_of, counting_in}
 use Rattle.link_text.specs.HeadParts.{AreFull, LacksGate}

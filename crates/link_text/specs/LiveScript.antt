@@ -2,14 +2,14 @@
 use Rattle.std.specs.Prelude.{◌≡◌, ◌≤◌, ◌||◌, ℕ, ℤ, pos, ◌≤ℤ◌, Bool, nat_eq, List, [], ◌∷◌, ◌++◌, length, map, filter, codes, All}
 use Rattle.std.specs.List.{flat_map, starts_with}
 use Rattle.std.specs.Fmt.{decimal, signed_decimal}
-use Rattle.lk_base.specs.Ranges.{IsMoment, IsWithinLimit}
+use Rattle.lk_base.specs.Ranges.{IsMoment, IsQuantum, IsWithinLimit}
 use Rattle.link_node.specs.Config.{GateValue}
 use Rattle.link_text.specs.Lines.{lines_of, counting_in}
 use Rattle.link_text.specs.FirstFault as faults
 use Rattle.link_text.specs.ReplayScript.{IsGate, gate_lines}
 use Rattle.link_text.specs.Words.{joined, truth_text_of}
 use Rattle.link_text.specs.declared.live_script.Act.{Act}
-use Rattle.link_text.specs.declared.live_script.Act.TheVariants.{Tempo, Force, Request, Play, Stop, Look}
+use Rattle.link_text.specs.declared.live_script.Act.TheVariants.{Tempo, Force, Request, Quantum, Play, Stop, Look}
 use Rattle.link_text.specs.declared.live_script.AppCommand.{AppCommand}
 use Rattle.link_text.specs.declared.live_script.BlockCommand.{BlockCommand}
 
@@ -56,6 +56,7 @@ abbrev pub act_words : Act → List (List ℕ)
 act_words (Tempo mpb) = codes "tempo" ∷ signed_decimal mpb ∷ []
 act_words (Force beat) = codes "force" ∷ signed_decimal beat ∷ []
 act_words (Request beat) = codes "request" ∷ signed_decimal beat ∷ []
+act_words (Quantum quantum) = codes "quantum" ∷ signed_decimal quantum ∷ []
 act_words Play = codes "play" ∷ []
 act_words Stop = codes "stop" ∷ []
 act_words Look = codes "look" ∷ []
@@ -64,6 +65,7 @@ abbrev pub IsAct : Act → Type 0
 IsAct (Tempo mpb) = IsTempo mpb
 IsAct (Force beat) = IsWithinLimit beat
 IsAct (Request beat) = IsWithinLimit beat
+IsAct (Quantum quantum) = IsQuantum quantum
 IsAct Play = Unit {0}
 IsAct Stop = Unit {0}
 IsAct Look = Unit {0}
@@ -73,6 +75,7 @@ abbrev pub IsBlockAct : Act → Type 0
 IsBlockAct (Tempo mpb) = Unit {0}
 IsBlockAct (Force beat) = ⊥
 IsBlockAct (Request beat) = ⊥
+IsBlockAct (Quantum quantum) = Unit {0}
 IsBlockAct Play = Unit {0}
 IsBlockAct Stop = Unit {0}
 IsBlockAct Look = ⊥

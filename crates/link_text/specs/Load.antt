@@ -133,11 +133,11 @@ load_line_of events states sends = line_of (codes "load" ∷ decimal events ∷ 
 abbrev pub load_opened : ℕ → Machine
 load_opened seed = opened (load_config_of seed) (pos load_opening)
 
--- how much there was, and the state that was published last, by its number
+-- how much there was, and the state that was published last, by its number, with its session and quantum
 unfoldable pub load_text_of : ℕ → List EventValue → List ℕ
 load_text_of seed es =
     load_line_of (length es) (1 + length (published_by (load_opened seed) es)) (length (sent_by (load_opened seed) es))
-    ++ state_line_of (length (published_by (load_opened seed) es)) (load_machine_after seed es).published
+    ++ state_line_of 2 (length (published_by (load_opened seed) es)) (load_machine_after seed es).published
 
 pub record IsLoadText (seed count : ℕ) (text : List ℕ) : Type 0 where
   pub events : List EventValue

@@ -1,8 +1,9 @@
 -- Only for proofs: how far a text is read.
 use Rattle.std.specs.Prelude.{◌≡◌, ◌≤◌, ◌<◌, ◌+◌, ℕ, false, List, [], ◌∷◌, ◌++◌, length, drop}
+use Rattle.std.specs.List.{AllByRecursion}
 use Rattle.link_node.specs.Event.{EventValue, audio_after}
 use Rattle.link_text.specs.Lines.{lines_of, is_passed, counting_in}
-use Rattle.link_text.specs.ReplayScript.{AreEventLines, IsEventLine}
+use Rattle.link_text.specs.ReplayScript.{AreEventLines, IsEventLine, IsWithoutQuantum}
 use Rattle.link_text.specs.declared.place.Place.{Place}
 
 -- the lines that count from a place on
@@ -49,20 +50,28 @@ abbrev pub audio_of : ℕ → List EventValue → ℕ
 audio_of audio [] = audio
 audio_of audio (e ∷ es) = audio_of (audio_after audio e) es
 
--- the lines are those of events, and then others
-pub record HasEvents (gates : ℕ) (lines : List (List ℕ)) (audio : ℕ) (rest : List (List ℕ)) : Type 0 where
+-- a script of a version can have this event, and these
+abbrev pub IsOfVersion : ℕ → EventValue → Type 0
+IsOfVersion version e = version ≡ 1 → IsWithoutQuantum e
+
+abbrev pub AreOfVersion : ℕ → List EventValue → Type 0
+AreOfVersion version es = version ≡ 1 → AllByRecursion IsWithoutQuantum es
+
+-- the lines are those of events of a version, and then others
+pub record HasEvents (version gates : ℕ) (lines : List (List ℕ)) (audio : ℕ) (rest : List (List ℕ)) : Type 0 where
   pub es : List EventValue
   pub events_lines : List (List ℕ)
   pub said : lines ≡ events_lines ++ rest
   pub events : AreEventLines gates 0 events_lines es
+  pub plain : AreOfVersion version es
   pub last : audio ≡ audio_of 0 es
 
--- behind events there is a line that says none
-pub record HasBadEvent (gates : ℕ) (text : List ℕ) (lines : List (List ℕ)) (place : Place) : Type 0 where
+-- behind events of a version there is a line that says none
+pub record HasBadEvent (version gates : ℕ) (text : List ℕ) (lines : List (List ℕ)) (place : Place) : Type 0 where
   pub ahead : IsAhead text place
   pub audio : ℕ
-  pub has : HasEvents gates lines audio (counting_from text place.at)
+  pub has : HasEvents version gates lines audio (counting_from text place.at)
   pub line : List ℕ
   pub next : Place
   pub there : HasLine text place line next
-  pub fault : (e : EventValue) → IsEventLine gates audio line e → ⊥
+  pub fault : (e : EventValue) → IsEventLine gates audio line e → IsOfVersion version e → ⊥

@@ -1,6 +1,6 @@
 -- Replay scripts: a head that says how a node is opened, and then a line for each of its events.
-use Rattle.std.specs.Prelude.{◌≡◌, ◌≤◌, ◌<◌, ◌^◌, ◌⊎◌, ◌+◌, ℕ, ℤ, List, [], ◌∷◌, ◌++◌, length, map, codes, All, drop, if◌then◌else◌, nat_eq, pos, Ok, Option, Some, None}
-use Rattle.std.specs.List.{flat_map}
+use Rattle.std.specs.Prelude.{◌≡◌, ◌≤◌, ◌<◌, ◌^◌, ◌⊎◌, ℕ, ℤ, List, [], ◌∷◌, ◌++◌, length, map, codes, All, drop, if◌then◌else◌, nat_eq, pos, Ok, Option, Some, None}
+use Rattle.std.specs.List.{AllByRecursion, flat_map}
 use Rattle.std.specs.Fmt.{decimal, signed_decimal}
 use Rattle.hex.specs.Hex.{decode_of, encode_lower}
 use Rattle.lk_base.specs.Endpoint.{IsEndpoint}
@@ -72,7 +72,7 @@ head_lines version config now =
 
 -- ---- an event
 
--- the words of a timeline and of a start, where they are there
+-- the words of a timeline, a start and a quantum, where they are there
 abbrev pub timeline_words : Option Timeline → List (List ℕ)
 timeline_words None = []
 timeline_words (Some tl) = codes "t" ∷ signed_decimal tl.mpb ∷ signed_decimal tl.beat ∷ signed_decimal tl.time ∷ []
@@ -81,8 +81,13 @@ abbrev pub start_words : Option ClientStart → List (List ℕ)
 start_words None = []
 start_words (Some start) = codes "s" ∷ truth_text_of start.playing ∷ signed_decimal start.time ∷ signed_decimal start.stamp ∷ []
 
+abbrev pub quantum_words : Option ℤ → List (List ℕ)
+quantum_words None = []
+quantum_words (Some quantum) = codes "q" ∷ signed_decimal quantum ∷ []
+
 abbrev pub commit_words : Commit → List (List ℕ)
-commit_words commit = signed_decimal commit.at ∷ (timeline_words commit.timeline ++ start_words commit.start)
+commit_words commit =
+    signed_decimal commit.at ∷ (timeline_words commit.timeline ++ (start_words commit.start ++ quantum_words commit.quantum))
 
 -- the words of an event, with a word for the bytes of a datagram
 unfoldable pub event_words : List ℕ → EventValue → List (List ℕ)
@@ -127,6 +132,14 @@ AreEventLines gates audio (line ∷ lines) (e ∷ es) =
 AreEventLines gates audio [] (e ∷ es) = ⊥
 AreEventLines gates audio (line ∷ lines) [] = ⊥
 
+-- a commit of version 1 has no quantum
+abbrev pub IsWithoutQuantum : EventValue → Type 0
+IsWithoutQuantum (Rx gate from bytes now) = Unit {0}
+IsWithoutQuantum (Tick now) = Unit {0}
+IsWithoutQuantum (App commit now) = commit.quantum ≡ None
+IsWithoutQuantum (Audio number commit now) = commit.quantum ≡ None
+IsWithoutQuantum (End now) = Unit {0}
+
 -- ---- a script
 
 -- the lines that count are those of the head and then those of the events
@@ -136,6 +149,7 @@ pub record IsScript (lines : List (List ℕ)) (version : ℕ) (config : ConfigVa
   pub rest : List (List ℕ)
   pub said : counting_in lines ≡ head_lines version config now ++ rest
   pub events : AreEventLines (length config.gates) 0 rest es
+  pub plain : version ≡ 1 → AllByRecursion IsWithoutQuantum es
 
 abbrev pub IsScriptOf : List ℕ → ℕ → ConfigValue → ℤ → List EventValue → Type 0
 IsScriptOf text version config now es = IsScript (lines_of text) version config now es

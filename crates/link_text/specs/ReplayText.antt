@@ -1,6 +1,6 @@
 -- What a replay writes: the opening state, for each event the datagrams sent and then the state if it was published, and how much
 -- there was.
-use Rattle.std.specs.Prelude.{ℕ, ℤ, ◌+◌, List, [], ◌∷◌, ◌++◌, length, codes}
+use Rattle.std.specs.Prelude.{ℕ, ℤ, ◌+◌, List, [], ◌∷◌, ◌++◌, length, codes, if◌then◌else◌, nat_eq}
 use Rattle.std.specs.List.{flat_map}
 use Rattle.std.specs.Fmt.{decimal, signed_decimal}
 use Rattle.hex.specs.Hex.{encode_lower}
@@ -14,14 +14,21 @@ use Rattle.link_node.specs.Step.{step_of, sends_of, change_of}
 use Rattle.link_text.specs.Line.{line_of}
 use Rattle.link_text.specs.Words.{truth_text_of, endpoint_text_of}
 
--- a state by its number: the timeline, the start, whether starts are shared, the peers, the moment and both counts
-unfoldable pub state_line_of : ℕ → State → List ℕ
-state_line_of number state =
+-- the session, in 16 hex digits, and the quantum: version 1 tells neither
+abbrev pub profile_words : ℕ → State → List (List ℕ)
+profile_words version state =
+    if nat_eq version 1 then [] else encode_lower state.session.0 ∷ signed_decimal state.quantum ∷ []
+
+-- a state by its number: the timeline, the start, whether starts are shared, the peers, the moment, both counts, the session and the
+-- quantum
+unfoldable pub state_line_of : ℕ → ℕ → State → List ℕ
+state_line_of version number state =
     line_of (
     codes "state" ∷ decimal number
     ∷ signed_decimal state.timeline.mpb ∷ signed_decimal state.timeline.beat ∷ signed_decimal state.timeline.time
     ∷ truth_text_of state.start.playing ∷ signed_decimal state.start.time ∷ signed_decimal state.start.stamp
-    ∷ truth_text_of state.sync ∷ decimal state.peers ∷ signed_decimal state.moment ∷ decimal state.app ∷ decimal state.audio ∷ []
+    ∷ truth_text_of state.sync ∷ decimal state.peers ∷ signed_decimal state.moment ∷ decimal state.app ∷ decimal state.audio
+    ∷ profile_words version state
     )
 
 -- a datagram that is sent, with the moment of the event that it follows from
@@ -35,26 +42,26 @@ done_line_of events states sends = line_of (codes "done" ∷ decimal events ∷ 
 
 -- ---- the events
 
-abbrev pub states_text_of : ℕ → List State → List ℕ
-states_text_of number [] = []
-states_text_of number (state ∷ states) = state_line_of number state ++ states_text_of (number + 1) states
+abbrev pub states_text_of : ℕ → ℕ → List State → List ℕ
+states_text_of version number [] = []
+states_text_of version number (state ∷ states) = state_line_of version number state ++ states_text_of version (number + 1) states
 
 -- the state that is published in a step, if there is one
 abbrev pub published_in : Machine → EventValue → List State
 published_in m e = shown_by (change_of m e) (step_of m e).published
 
-unfoldable pub event_text_of : Machine → ℕ → EventValue → List ℕ
-event_text_of m number e =
-    flat_map (sending_line_of (moment_of e)) (sends_of m e) ++ states_text_of number (published_in m e)
+unfoldable pub event_text_of : ℕ → Machine → ℕ → EventValue → List ℕ
+event_text_of version m number e =
+    flat_map (sending_line_of (moment_of e)) (sends_of m e) ++ states_text_of version number (published_in m e)
 
 -- what follows where so many states were published
-unfoldable pub events_text_of : Machine → ℕ → List EventValue → List ℕ
-events_text_of m number [] = []
-events_text_of m number (e ∷ es) =
-    event_text_of m number e ++ events_text_of (step_of m e) (number + length (published_in m e)) es
+unfoldable pub events_text_of : ℕ → Machine → ℕ → List EventValue → List ℕ
+events_text_of version m number [] = []
+events_text_of version m number (e ∷ es) =
+    event_text_of version m number e ++ events_text_of version (step_of m e) (number + length (published_in m e)) es
 
 unfoldable pub replay_text_of : ℕ → ConfigValue → ℤ → List EventValue → List ℕ
 replay_text_of version config now es =
-    state_line_of 0 (opened config now).published
-    ++ events_text_of (opened config now) 1 es
+    state_line_of version 0 (opened config now).published
+    ++ events_text_of version (opened config now) 1 es
     ++ done_line_of (length es) (length (published_of config now es)) (length (sent_of config now es))

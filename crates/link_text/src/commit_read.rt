@@ -1,23 +1,24 @@
 //! Reading what a line says of a commit.
 
-ghost use Rattle.std.specs.Prelude.{◌≡◌, ◌∷◌, ◌++◌, ℕ, List, Option, IfSome, IfNone};
+ghost use Rattle.std.specs.Prelude.{◌≡◌, ◌∷◌, ◌++◌, ℕ, ℤ, List, Option, IfSome, IfNone};
 ghost use Rattle.std.specs.Fmt.{signed_decimal};
 ghost use Rattle.std.specs.Option.{ForSome};
+ghost use Rattle.lk_base.specs.Ranges.{IsQuantum};
 ghost use Rattle.lk_base.specs.Timeline.{IsTidy};
 ghost use Rattle.lk_base.specs.declared.start.ClientStart.{ClientStart};
 ghost use Rattle.lk_base.specs.declared.timeline.Timeline.{Timeline};
 ghost use Rattle.client_state.specs.Commit.{IsTidyCommit, IsTidyStart};
 ghost use Rattle.client_state.specs.declared.commit.Commit.{Commit};
 ghost use Rattle.link_text.specs.LineWords.{words_left};
-ghost use Rattle.link_text.specs.ReplayScript.{commit_words, start_words, timeline_words};
+ghost use Rattle.link_text.specs.ReplayScript.{commit_words, quantum_words, start_words, timeline_words};
 ghost use Rattle.link_text.specs.Words.{truth_text_of};
 
-use crate::values::{signed_in, tempo_in, truth_in};
+use crate::values::{quantum_in, signed_in, tempo_in, truth_in};
 use crate::words::{is_end, is_word, next_word};
 use client_state::Commit;
 use lk_base::{ClientStart, Timeline};
 
-/// The commit that all that is left of a line says: when it was made, and a timeline, a start, both or none.
+/// The commit that all that is left of a line says: when it was made, and a timeline, a start and a quantum, each where it is there.
 pub(crate) fn commit_of(left: &[u8]) -> Option<Commit>
     ensures some { IfSome result (λ commit. IsTidyCommit commit × (words_left left.now ≡ commit_words commit)) }
     ensures none { IfNone result ((commit : Commit) → IsTidyCommit commit
@@ -29,12 +30,16 @@ pub(crate) fn commit_of(left: &[u8]) -> Option<Commit>
     let Some((timeline, left)) = timeline_part(left) else {
         return None;
     };
-    let Some(start) = start_part(left) else {
+    let Some((start, left)) = start_part(left) else {
+        return None;
+    };
+    let Some(quantum) = quantum_part(left) else {
         return None;
     };
     Some(Commit {
         timeline,
         start,
+        quantum,
         at,
     })
 }
@@ -43,10 +48,11 @@ pub(crate) fn commit_of(left: &[u8]) -> Option<Commit>
 fn timeline_part(left: &[u8]) -> Option<(Option<Timeline>, &[u8])>
     ensures some { IfSome result (λ found. ForSome found.0 IsTidy
         × (words_left left.now ≡ timeline_words found.0 ++ words_left found.1.now)) }
-    ensures follows { IfSome result (λ found. (tl : Option Timeline) (start : Option ClientStart)
-        → words_left left.now ≡ timeline_words tl ++ start_words start → words_left found.1.now ≡ start_words start) }
-    ensures none { IfNone result ((tl : Option Timeline) (start : Option ClientStart) → ForSome tl IsTidy
-        → words_left left.now ≡ timeline_words tl ++ start_words start → ⊥) }
+    ensures follows { IfSome result (λ found. (tl : Option Timeline) (start : Option ClientStart) (quantum : Option ℤ)
+        → words_left left.now ≡ timeline_words tl ++ (start_words start ++ quantum_words quantum)
+        → words_left found.1.now ≡ start_words start ++ quantum_words quantum) }
+    ensures none { IfNone result ((tl : Option Timeline) (start : Option ClientStart) (quantum : Option ℤ) → ForSome tl IsTidy
+        → words_left left.now ≡ timeline_words tl ++ (start_words start ++ quantum_words quantum) → ⊥) }
 {
     let Some((word, rest)) = next_word(left) else {
         return Some((None, left));
@@ -60,25 +66,46 @@ fn timeline_part(left: &[u8]) -> Option<(Option<Timeline>, &[u8])>
     Some((Some(timeline), rest))
 }
 
-// The start, if the next word is `s`, at the end of the line.
-fn start_part(left: &[u8]) -> Option<Option<ClientStart>>
-    ensures some { IfSome result (λ start. ForSome start IsTidyStart × (words_left left.now ≡ start_words start)) }
-    ensures none { IfNone result ((start : Option ClientStart) → ForSome start IsTidyStart
-        → words_left left.now ≡ start_words start → ⊥) }
+// The start, if the next word is `s`, and what is left behind it.
+fn start_part(left: &[u8]) -> Option<(Option<ClientStart>, &[u8])>
+    ensures some { IfSome result (λ found. ForSome found.0 IsTidyStart
+        × (words_left left.now ≡ start_words found.0 ++ words_left found.1.now)) }
+    ensures follows { IfSome result (λ found. (start : Option ClientStart) (quantum : Option ℤ)
+        → words_left left.now ≡ start_words start ++ quantum_words quantum → words_left found.1.now ≡ quantum_words quantum) }
+    ensures none { IfNone result ((start : Option ClientStart) (quantum : Option ℤ) → ForSome start IsTidyStart
+        → words_left left.now ≡ start_words start ++ quantum_words quantum → ⊥) }
+{
+    let Some((word, rest)) = next_word(left) else {
+        return Some((None, left));
+    };
+    if !is_word(word, b"s") {
+        return Some((None, left));
+    }
+    let Some((start, rest)) = start_in(rest) else {
+        return None;
+    };
+    Some((Some(start), rest))
+}
+
+// The quantum, if the next word is `q`, at the end of the line.
+fn quantum_part(left: &[u8]) -> Option<Option<i64>>
+    ensures some { IfSome result (λ quantum. ForSome quantum IsQuantum × (words_left left.now ≡ quantum_words quantum)) }
+    ensures none { IfNone result ((quantum : Option ℤ) → ForSome quantum IsQuantum
+        → words_left left.now ≡ quantum_words quantum → ⊥) }
 {
     let Some((word, rest)) = next_word(left) else {
         return Some(None);
     };
-    if !is_word(word, b"s") {
+    if !is_word(word, b"q") {
         return None;
     }
-    let Some((start, rest)) = start_in(rest) else {
+    let Some((quantum, rest)) = quantum_in(rest) else {
         return None;
     };
     if !is_end(rest) {
         return None;
     }
-    Some(Some(start))
+    Some(Some(quantum))
 }
 
 // A tempo, a beat and a time, and what is left behind them.

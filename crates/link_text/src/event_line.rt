@@ -4,7 +4,7 @@ ghost use Rattle.std.specs.Prelude.{◌≡◌, ◌≤◌, ◌+◌, ◌++◌, ◌
 ghost use Rattle.std.specs.Fmt.{signed_decimal};
 ghost use Rattle.arrayvec.specs.ArrayVec.{array_vec_len};
 ghost use Rattle.link_node.specs.Event.{Audio, Rx, event_value};
-ghost use Rattle.link_text.specs.ReplayScript.{commit_words, event_line, ended, hex_word, start_words, timeline_words};
+ghost use Rattle.link_text.specs.ReplayScript.{commit_words, event_line, ended, hex_word, quantum_words, start_words, timeline_words};
 ghost use Rattle.link_text.specs.Spaced.{spaced};
 ghost use Rattle.link_text.specs.Words.{joined};
 
@@ -112,6 +112,7 @@ fn put_commit(line: &mut LineBuf, commit: &Commit)
     put_signed(line, commit.at);
     put_edited_timeline(line, &commit.timeline);
     put_edited_start(line, &commit.start);
+    put_edited_quantum(line, &commit.quantum);
 }
 
 // The words of a timeline where it is there, each behind a space.
@@ -135,5 +136,17 @@ fn put_edited_start(line: &mut LineBuf, start: &Option<ClientStart>)
     if let Some(start) = start {
         put(line, b" s ");
         put_client_start(line, *start);
+    }
+}
+
+// The words of a quantum where it is there, each behind a space.
+fn put_edited_quantum(line: &mut LineBuf, quantum: &Option<i64>)
+    requires { array_vec_len line.old ≤ 1100 }
+    ensures items { line.new.items ≡ line.old.items ++ spaced (quantum_words quantum.now) }
+    ensures len { array_vec_len line.new ≤ array_vec_len line.old + 24 }
+{
+    if let Some(quantum) = quantum {
+        put(line, b" q ");
+        put_signed(line, *quantum);
     }
 }

@@ -23,7 +23,7 @@ use lk_base::{Endpoint, NodeId};
 pub(crate) const GROUP_MAX: u64 = 65_535;
 
 /// What the line of a node says.
-#[derive(Clone, Copy, Debug)]
+#[derive(Clone, Copy)]
 pub(crate) struct Node {
     pub id: NodeId,
     pub seed: u64,

@@ -2,7 +2,7 @@
 
 ghost use Rattle.std.specs.Prelude.{◌≡◌, ◌≤◌, ◌∷◌, [], ◌↔◌, ℕ, ℤ, Bool, codes, IsTrue, IfSome, IfNone};
 ghost use Rattle.std.specs.Fmt.{signed_decimal};
-ghost use Rattle.lk_base.specs.Ranges.{IsWithinLimit};
+ghost use Rattle.lk_base.specs.Ranges.{IsQuantum, IsWithinLimit};
 ghost use Rattle.link_text.specs.LineWords.{words_left, words_of};
 ghost use Rattle.link_text.specs.LiveScript.{IsAct, IsBlockAct, IsCommand, IsTempo, act_words, app, begins_command, block, command_line, command_words, live_version_line, setup_line};
 ghost use Rattle.link_text.specs.Words.{truth_text_of};
@@ -11,7 +11,7 @@ ghost use Rattle.link_text.specs.declared.live_script.AppCommand.{AppCommand};
 ghost use Rattle.link_text.specs.declared.live_script.BlockCommand.{BlockCommand};
 
 use crate::live_script::{Act, AppCommand, BlockCommand};
-use crate::values::{moment_in, number_in, signed_in, tempo_in, truth_in};
+use crate::values::{moment_in, number_in, quantum_in, signed_in, tempo_in, truth_in};
 use crate::words::{first_word, is_end, is_word, next_word};
 
 /// The greatest number of a block.
@@ -128,7 +128,7 @@ fn block_command_in(line: &[u8]) -> Option<BlockCommand>
 fn is_block_act(act: Act) -> bool
     ensures { IsTrue result ↔ IsBlockAct act }
 {
-    matches!(act, Act::Tempo(_) | Act::Play | Act::Stop)
+    matches!(act, Act::Tempo(_) | Act::Quantum(_) | Act::Play | Act::Stop)
 }
 
 // The act that all that is left of a line says.
@@ -147,6 +147,9 @@ fn act_of(left: &[u8]) -> Option<Act>
     }
     if is_word(word, b"request") {
         return request_act(left);
+    }
+    if is_word(word, b"quantum") {
+        return quantum_act(left);
     }
     if !is_end(left) {
         return None;
@@ -197,6 +200,20 @@ fn request_act(left: &[u8]) -> Option<Act>
         return None;
     };
     Some(Act::Request(beat))
+}
+
+// Another quantum, at the end of the line.
+fn quantum_act(left: &[u8]) -> Option<Act>
+    ensures some { IfSome result (λ act. IsAct act × (codes "quantum" ∷ words_left left.now ≡ act_words act)) }
+    ensures none { IfNone result ((quantum : ℤ) → IsQuantum quantum → words_left left.now ≡ signed_decimal quantum ∷ [] → ⊥) }
+{
+    let Some((quantum, left)) = quantum_in(left) else {
+        return None;
+    };
+    if !is_end(left) {
+        return None;
+    }
+    Some(Act::Quantum(quantum))
 }
 
 // The beat that all that is left of a line says.

@@ -29,6 +29,8 @@ pub enum Act {
     Force(i64),
     /// A beat is asked for, in microbeats.
     Request(i64),
+    /// Another quantum, in microbeats: 0..=2^40.
+    Quantum(i64),
     Play,
     Stop,
     /// The state is captured, and nothing changes.

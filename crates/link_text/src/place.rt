@@ -7,7 +7,7 @@ ghost use Rattle.link_text.specs.Places.{HasLine, HasPassed, IsAhead, counting_f
 use crate::text_line::line_at;
 
 /// Where a line of a text begins, or its end.
-#[derive(Clone, Copy, Debug, PartialEq, Eq)]
+#[derive(Clone, Copy)]
 pub(crate) struct Place {
     pub at: usize,
     /// The number of that line, counted from 1; behind the last line one more than its number.

@@ -39,7 +39,7 @@ impl fmt::Display for Reason {
 }
 
 /// What a script says besides its gates.
-#[derive(Clone, Copy, Debug, PartialEq, Eq)]
+#[derive(Clone, Copy, PartialEq, Eq)]
 enum Kind {
     /// A node, and events.
     Replay,
@@ -48,7 +48,7 @@ enum Kind {
 }
 
 /// What a script has on its next line.
-#[derive(Clone, Copy, Debug, PartialEq, Eq)]
+#[derive(Clone, Copy)]
 enum Stage {
     Version,
     /// The line of a node in a replay script of this version, or of a setup.
@@ -56,10 +56,20 @@ enum Stage {
     /// The group and the quantum of a replay script of version 2.
     Group,
     Quantum,
-    /// So many gates stand, the last with so many destinations.
-    Gates { gates: u8, destinations: u8 },
-    /// Events, with the number of the last audio commit, or commands.
-    Body { gates: u8, audio: u64 },
+    /// The last gate stands with so many destinations.
+    Gates { before: Before, destinations: u8 },
+    /// Events, or commands.
+    Body { before: Before },
+}
+
+/// What the lines before say for one of an event or of a command.
+#[derive(Clone, Copy)]
+struct Before {
+    /// Of a replay script.
+    version: u8,
+    gates: u8,
+    /// The number of the last audio commit.
+    audio: u64,
 }
 
 /// Why a line of a replay script, counted from 1, is at fault, where those before it are not. Memory: none.
@@ -108,44 +118,59 @@ fn stage_behind(kind: Kind, stage: Stage, line: &[u8]) -> Stage {
             version: version_of(line).unwrap_or(1),
         },
         Stage::Opening { version: 2 } => Stage::Group,
+        Stage::Opening { version } => no_gate_yet(version),
         Stage::Group => Stage::Quantum,
-        Stage::Opening { .. } | Stage::Quantum => Stage::Gates {
-            gates: 0,
-            destinations: 0,
-        },
+        Stage::Quantum => no_gate_yet(2),
         Stage::Gates {
-            gates,
+            before,
             destinations,
-        } => behind_gates(kind, gates, destinations, line),
-        Stage::Body { gates, audio } => behind_body(kind, gates, audio, line),
+        } => behind_gates(kind, before, destinations, line),
+        Stage::Body { before } => behind_body(kind, before, line),
     }
 }
 
-fn behind_gates(kind: Kind, gates: u8, destinations: u8, line: &[u8]) -> Stage {
+fn no_gate_yet(version: u8) -> Stage {
+    Stage::Gates {
+        before: Before {
+            version,
+            gates: 0,
+            audio: 0,
+        },
+        destinations: 0,
+    }
+}
+
+fn behind_gates(kind: Kind, before: Before, destinations: u8, line: &[u8]) -> Stage {
     if gate_of(line).is_some() {
         return Stage::Gates {
-            gates: gates.saturating_add(1),
+            before: Before {
+                gates: before.gates.saturating_add(1),
+                ..before
+            },
             destinations: 0,
         };
     }
     if destination_of(line).is_some() {
         return Stage::Gates {
-            gates,
+            before,
             destinations: destinations.saturating_add(1),
         };
     }
-    behind_body(kind, gates, 0, line)
+    behind_body(kind, before, line)
 }
 
-fn behind_body(kind: Kind, gates: u8, audio: u64, line: &[u8]) -> Stage {
+fn behind_body(kind: Kind, before: Before, line: &[u8]) -> Stage {
+    let Before { gates, audio, .. } = before;
     if kind == Kind::Live || gates == 0 || gates > 4 {
-        return Stage::Body { gates, audio };
+        return Stage::Body { before };
     }
     let audio = match event_of(line, gates, audio) {
         Some(event) => audio_behind(&event, audio),
         None => audio,
     };
-    Stage::Body { gates, audio }
+    Stage::Body {
+        before: Before { audio, ..before },
+    }
 }
 
 // What the first word of a line is expected to be.
@@ -163,9 +188,9 @@ fn expected_in_replay(stage: Stage) -> Expected {
         Stage::Group => Expected::Group,
         Stage::Quantum => Expected::Quantum,
         Stage::Gates {
-            gates,
+            before,
             destinations,
-        } => match lines_open(gates, destinations) {
+        } => match lines_open(before.gates, destinations) {
             Open::Gate => Expected::Gate,
             Open::GateOrDestination => Expected::GateDestinationOrEvent,
             Open::FurtherGate => Expected::GateOrEvent,
@@ -182,9 +207,9 @@ fn expected_in_live(stage: Stage) -> Expected {
         // Neither a group nor a quantum has a line of its own.
         Stage::Opening { .. } | Stage::Group | Stage::Quantum => Expected::Setup,
         Stage::Gates {
-            gates,
+            before,
             destinations,
-        } => match lines_open(gates, destinations) {
+        } => match lines_open(before.gates, destinations) {
             Open::Gate => Expected::Gate,
             Open::GateOrDestination => Expected::GateDestinationOrCommand,
             Open::FurtherGate => Expected::GateOrCommand,

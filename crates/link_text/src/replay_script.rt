@@ -1,12 +1,12 @@
 //! Replay scripts: checking one, and taking its events.
 
-ghost use Rattle.std.specs.Prelude.{◌≡◌, ◌≤◌, ◌<◌, ◌-◌, ◌^◌, ◌∷◌, [], ℕ, ℤ, List, length, IfOk, IfErr, IfSome, IfNone};
+ghost use Rattle.std.specs.Prelude.{◌≡◌, ◌≤◌, ◌<◌, ◌-◌, ◌^◌, ◌∷◌, [], ◌↔◌, ℕ, ℤ, List, length, IsTrue, IfOk, IfErr, IfSome, IfNone};
 ghost use Rattle.lk_base.specs.Ranges.{IsQuantum};
 ghost use Rattle.link_node.specs.Config.{ConfigValue, config_value};
 ghost use Rattle.link_node.specs.Event.{EventValue, event_value, audio_after};
 ghost use Rattle.link_text.specs.HeadParts.{IsFront, IsKnownVersion, IsNode, config_of, plain_of};
-ghost use Rattle.link_text.specs.Places.{HasBadEvent, IsAhead, counting_from};
-ghost use Rattle.link_text.specs.ReplayScript.{AreEventLines, IsChecked, IsLineFault, SaysFrom, SaysSome, group_line, node_line, quantum_line, version_line};
+ghost use Rattle.link_text.specs.Places.{AreOfVersion, HasBadEvent, IsAhead, IsOfVersion, counting_from};
+ghost use Rattle.link_text.specs.ReplayScript.{AreEventLines, IsChecked, IsEventLine, IsLineFault, IsWithoutQuantum, SaysFrom, SaysSome, group_line, node_line, quantum_line, version_line};
 
 use crate::event_read::event_of;
 use crate::fault::BadLine;
@@ -57,7 +57,7 @@ pub fn next_event(text: &[u8], at: &mut usize) -> Option<Event>
 }
 
 /// What a script says before its gates.
-#[derive(Clone, Copy, Debug)]
+#[derive(Clone, Copy)]
 struct Front {
     version: u8,
     node: Node,
@@ -81,7 +81,7 @@ fn read_script(text: &[u8]) -> Result<Head, Place>
     if gates.is_empty() {
         return Err(front.behind);
     }
-    if let Err(bad) = events_from(text, place, gates.len() as u8) {
+    if let Err(bad) = events_from(text, place, front.version, gates.len() as u8) {
         return Err(bad);
     }
     Ok(Head {
@@ -214,26 +214,53 @@ fn quantum_from(text: &[u8], place: Place) -> Option<(i64, Place)>
     Some((quantum, next))
 }
 
-// Whether all lines from a place on say events; the error is the first that says none.
-fn events_from(text: &[u8], start: Place, gates: u8) -> Result<(), Place>
+// Whether all lines from a place on say events of a version; the error is the first that says none.
+fn events_from(text: &[u8], start: Place, version: u8, gates: u8) -> Result<(), Place>
     requires ahead { IsAhead text.now start }
     requires some_gate { 0 < gates }
     requires few_gates { gates ≤ 4 }
     ensures events { IfOk result (λ done. (es : List EventValue)
-        × AreEventLines gates 0 (counting_from text.now start.at) es) }
-    ensures fault { IfErr result (HasBadEvent gates text.now (counting_from text.now start.at)) }
+        × AreEventLines gates 0 (counting_from text.now start.at) es × AreOfVersion version es) }
+    ensures fault { IfErr result (HasBadEvent version gates text.now (counting_from text.now start.at)) }
 {
     let mut place = start;
     let mut audio = 0;
     while place.at < text.len() {
         let (line, next) = line_from(text, place);
-        let Some(event) = event_of(line, gates, audio) else {
+        let Some(event) = event_in(line, version, gates, audio) else {
             return Err(place);
         };
         audio = audio_behind(&event, audio);
         place = next;
     }
     Ok(())
+}
+
+// The event that a line says in a script of a version: in version 1 a commit has no quantum.
+fn event_in(line: &[u8], version: u8, gates: u8, audio: u64) -> Option<Event>
+    requires some_gate { 0 < gates }
+    requires few_gates { gates ≤ 4 }
+    ensures some { IfSome result (λ event. IsEventLine gates audio line.now (event_value event)
+        × IsOfVersion version (event_value event)) }
+    ensures none { IfNone result ((e : EventValue) → IsEventLine gates audio line.now e → IsOfVersion version e → ⊥) }
+{
+    let Some(event) = event_of(line, gates, audio) else {
+        return None;
+    };
+    if version == 1 && !is_without_quantum(&event) {
+        return None;
+    }
+    Some(event)
+}
+
+// Whether an event is no commit of a quantum.
+fn is_without_quantum(event: &Event) -> bool
+    ensures { IsTrue result ↔ IsWithoutQuantum (event_value event.now) }
+{
+    match event {
+        Event::App { commit, .. } | Event::Audio { commit, .. } => commit.quantum.is_none(),
+        _ => true,
+    }
 }
 
 // The number of the last audio commit, once an event has come.

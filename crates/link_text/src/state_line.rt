@@ -3,20 +3,23 @@
 ghost use Rattle.std.specs.Prelude.{◌≡◌, ◌≤◌, ◌+◌, ◌++◌, ◌∷◌, []};
 ghost use Rattle.std.specs.Fmt.{decimal, signed_decimal};
 ghost use Rattle.arrayvec.specs.ArrayVec.{array_vec_len};
+ghost use Rattle.hex.specs.Hex.{encode_lower};
 ghost use Rattle.link_text.specs.Line.{line_of};
 ghost use Rattle.link_text.specs.Load.{load_line_of};
-ghost use Rattle.link_text.specs.ReplayText.{state_line_of, done_line_of};
+ghost use Rattle.link_text.specs.ReplayText.{state_line_of, done_line_of, profile_words};
+ghost use Rattle.link_text.specs.Spaced.{spaced};
 ghost use Rattle.link_text.specs.Words.{truth_text_of};
 
 use crate::line::{
-    LineBuf, put, put_client_start, put_decimal, put_signed, put_timeline, put_truth,
+    LineBuf, put, put_client_start, put_decimal, put_short_hex, put_signed, put_timeline, put_truth,
 };
 use client_state::State;
+use lk_base::NodeId;
 
-/// Puts the line of a state by its number in place of what the buffer held. Memory: none.
-#[tactic(auto, unfolding(crate::specs::ReplayText::state_line_of))]
-pub fn write_state_line(line: &mut LineBuf, number: u64, state: &State)
-    ensures { line.new.items ≡ state_line_of number state.now }
+/// Puts the line of a state by its number in place of what the buffer held: in version 1 without its session and quantum.
+/// Memory: none.
+pub fn write_state_line(line: &mut LineBuf, version: u8, number: u64, state: &State)
+    ensures { line.new.items ≡ state_line_of version number state.now }
 {
     line.clear();
     put(line, b"state ");
@@ -27,6 +30,7 @@ pub fn write_state_line(line: &mut LineBuf, number: u64, state: &State)
     put_client_start(line, state.start);
     put(line, b" ");
     put_counts(line, state);
+    put_profile(line, version, state);
     put(line, b"\n");
 }
 
@@ -82,4 +86,28 @@ fn put_counts(line: &mut LineBuf, state: &State)
     put_decimal(line, state.app);
     put(line, b" ");
     put_decimal(line, state.audio);
+}
+
+// The session and the quantum, each behind a space: version 1 tells neither.
+fn put_profile(line: &mut LineBuf, version: u8, state: &State)
+    requires { array_vec_len line.old ≤ 1000 }
+    ensures items { line.new.items ≡ line.old.items ++ spaced (profile_words version state.now) }
+    ensures len { array_vec_len line.new ≤ array_vec_len line.old + 39 }
+{
+    if version == 1 {
+        return;
+    }
+    put(line, b" ");
+    put_session(line, state.session);
+    put(line, b" ");
+    put_signed(line, state.quantum);
+}
+
+// A session, in sixteen hex digits.
+fn put_session(line: &mut LineBuf, session: NodeId)
+    requires { array_vec_len line.old ≤ 1001 }
+    ensures items { line.new.items ≡ line.old.items ++ encode_lower session.0 }
+    ensures len { array_vec_len line.new ≡ array_vec_len line.old + 16 }
+{
+    put_short_hex(line, &session.0);
 }

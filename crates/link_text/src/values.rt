@@ -17,10 +17,8 @@ use crate::node_id::id_of;
 use crate::number::{amount_of, number_of, signed_of};
 use crate::truth::truth_of;
 use crate::words::next_word;
+use client_state::QUANTUM_MAX;
 use lk_base::{Endpoint, MOMENT_MAX, NodeId, Wire};
-
-/// The greatest length of a quantum, in microbeats: 2^40.
-const QUANTUM_MAX: u64 = 1_099_511_627_776;
 
 /// A number up to `limit`, and what is left behind it.
 pub(crate) fn number_in(left: &[u8], limit: u64) -> Option<(u64, &[u8])>
@@ -80,7 +78,7 @@ pub(crate) fn quantum_in(left: &[u8]) -> Option<(i64, &[u8])>
     let Some((word, left)) = next_word(left) else {
         return None;
     };
-    let Some(quantum) = amount_of(word, 0, QUANTUM_MAX) else {
+    let Some(quantum) = amount_of(word, 0, QUANTUM_MAX as u64) else {
         return None;
     };
     Some((quantum, left))

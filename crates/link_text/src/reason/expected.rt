@@ -29,10 +29,14 @@ pub enum Expected {
     /// An audio commit's number up to that of the last one.
     GreaterAudioNumber,
     Signed,
-    /// A part of a commit, or the end of the line.
-    Parts,
-    /// A start, or the end of the line.
-    Start,
+    /// A part of a commit, or the end of the line; version 1 has no quantum.
+    Parts { version: u8 },
+    /// A part of a commit that stands behind a timeline, or the end of the line.
+    LaterParts { version: u8 },
+    /// The part of a commit that stands behind a start, or the end of the line.
+    LastPart { version: u8 },
+    /// None in a commit of version 1.
+    NoQuantum,
     LineEnd,
     LiveVersion,
     Setup,
@@ -86,8 +90,16 @@ impl Expected {
             Expected::AudioNumber => "a number from 1 to 1152921504606846975",
             Expected::GreaterAudioNumber => "a greater number than that of the last audio commit",
             Expected::Signed => "a number from -1152921504606846976 to 1152921504606846976",
-            Expected::Parts => "`t` and a timeline, `s` and a start, or the end of the line",
-            Expected::Start => "`s` and a start, or the end of the line",
+            Expected::Parts { version: 1 } =>
+                "`t` and a timeline, `s` and a start, or the end of the line",
+            Expected::Parts { .. } =>
+                "`t` and a timeline, `s` and a start, `q` and a quantum, or the end of the line",
+            Expected::LaterParts { version: 1 } => "`s` and a start, or the end of the line",
+            Expected::LaterParts { .. } =>
+                "`s` and a start, `q` and a quantum, or the end of the line",
+            Expected::LastPart { version: 1 } => "the end of the line",
+            Expected::LastPart { .. } => "`q` and a quantum, or the end of the line",
+            Expected::NoQuantum => "no quantum: only a script that begins with `replay 2` has one",
             Expected::LineEnd => "the end of the line",
             Expected::LiveVersion => "`link 1`",
             Expected::Setup => "`setup` and a tempo and a sync",
@@ -98,8 +110,8 @@ impl Expected {
                 "`to` or a command, as there are four gates: `at` or `block`",
             Expected::Command => "a command: `at` or `block`",
             Expected::BlockNumber => "the number of a block from 1 to 524288",
-            Expected::Act => "`tempo`, `force`, `request`, `play`, `stop` or `look`",
-            Expected::BlockAct => "`tempo`, `play` or `stop`",
+            Expected::Act => "`tempo`, `force`, `request`, `quantum`, `play`, `stop` or `look`",
+            Expected::BlockAct => "`tempo`, `quantum`, `play` or `stop`",
             Expected::Beat => "a beat from -1152921504606846976 to 1152921504606846976 microbeats",
             Expected::SampleCount =>
                 "a sample count from -1152921504606846976 to 1152921504606846976",

@@ -4,7 +4,7 @@ use crate::event_read::AUDIO_MAX;
 use crate::head_read::GROUP_MAX;
 use crate::live_read::BLOCK_MAX;
 use crate::number::signed_of;
-use crate::reason::{Excerpt, Expected, Found, Kind, Reason, Stage, expected_at};
+use crate::reason::{Before, Excerpt, Expected, Found, Kind, Reason, Stage, expected_at};
 use crate::values::{
     bytes_in, endpoint_in, id_in, moment_in, number_in, quantum_in, signed_in, tempo_in, truth_in,
 };
@@ -18,10 +18,10 @@ pub(crate) fn explained(kind: Kind, line: &[u8], stage: Stage) -> Reason {
         Stage::Group => group(line),
         Stage::Quantum => quantum(line),
         Stage::Gates {
-            gates,
+            before,
             destinations,
-        } => head(kind, line, stage, gates, destinations),
-        Stage::Body { gates, audio } => body(kind, line, stage, gates, audio),
+        } => head(kind, line, stage, before, destinations),
+        Stage::Body { before } => body(kind, line, stage, before),
     }
 }
 
@@ -147,10 +147,7 @@ fn quantum(line: &[u8]) -> Reason {
     if !is_word(word, b"quantum") {
         return at(0, word, left, Expected::Quantum);
     }
-    match quantum_in(left) {
-        Some((_, left)) => behind(line, left, Expected::LineEnd),
-        None => behind(line, left, Expected::QuantumLength),
-    }
+    quantum_length(line, left)
 }
 
 fn setup(line: &[u8]) -> Reason {
@@ -167,46 +164,46 @@ fn setup(line: &[u8]) -> Reason {
     behind(line, left, Expected::LineEnd)
 }
 
-fn head(kind: Kind, line: &[u8], stage: Stage, gates: u8, destinations: u8) -> Reason {
+fn head(kind: Kind, line: &[u8], stage: Stage, before: Before, destinations: u8) -> Reason {
     let (word, left) = first_word(line);
-    let first = is_word(word, b"gate") && gates < 4;
-    let further = is_word(word, b"to") && gates > 0 && destinations < 32;
+    let first = is_word(word, b"gate") && before.gates < 4;
+    let further = is_word(word, b"to") && before.gates > 0 && destinations < 32;
     if first || further {
         return match endpoint_in(left) {
             Some((_, left)) => behind(line, left, Expected::LineEnd),
             None => behind(line, left, Expected::Endpoint),
         };
     }
-    body(kind, line, stage, gates, 0)
+    body(kind, line, stage, before)
 }
 
-fn body(kind: Kind, line: &[u8], stage: Stage, gates: u8, audio: u64) -> Reason {
+fn body(kind: Kind, line: &[u8], stage: Stage, before: Before) -> Reason {
     match kind {
-        Kind::Replay => event(line, stage, gates, audio),
-        Kind::Live => command(line, stage, gates),
+        Kind::Replay => event(line, stage, before),
+        Kind::Live => command(line, stage, before.gates),
     }
 }
 
-fn event(line: &[u8], stage: Stage, gates: u8, audio: u64) -> Reason {
+fn event(line: &[u8], stage: Stage, before: Before) -> Reason {
     let (word, left) = first_word(line);
     let arrival = is_word(word, b"rx");
     let app = is_word(word, b"app");
     let sound = is_word(word, b"audio");
     let alone = is_word(word, b"tick") || is_word(word, b"end");
-    if gates == 0 || !(arrival || app || sound || alone) {
+    if before.gates == 0 || !(arrival || app || sound || alone) {
         return at(0, word, left, expected_at(Kind::Replay, stage));
     }
     let Some((_, rest)) = moment_in(left) else {
         return behind(line, left, Expected::Moment);
     };
     if arrival {
-        return datagram(line, rest, gates);
+        return datagram(line, rest, before.gates);
     }
     if app {
-        return commit(line, rest);
+        return commit(line, rest, before.version);
     }
     if sound {
-        return audio_commit(line, rest, audio);
+        return audio_commit(line, rest, before);
     }
     behind(line, rest, Expected::LineEnd)
 }
@@ -224,20 +221,20 @@ fn datagram(line: &[u8], left: &[u8], gates: u8) -> Reason {
     behind(line, left, Expected::LineEnd)
 }
 
-fn audio_commit(line: &[u8], left: &[u8], audio: u64) -> Reason {
+fn audio_commit(line: &[u8], left: &[u8], before: Before) -> Reason {
     match number_in(left, AUDIO_MAX) {
         Some((0, _)) => behind(line, left, Expected::AudioNumber),
         Some((number, rest)) => {
-            if number <= audio {
+            if number <= before.audio {
                 return behind(line, left, Expected::GreaterAudioNumber);
             }
-            commit(line, rest)
+            commit(line, rest, before.version)
         }
         None => behind(line, left, Expected::AudioNumber),
     }
 }
 
-fn commit(line: &[u8], left: &[u8]) -> Reason {
+fn commit(line: &[u8], left: &[u8], version: u8) -> Reason {
     let Some((_, parts)) = signed_in(left) else {
         return behind(line, left, Expected::Signed);
     };
@@ -245,12 +242,12 @@ fn commit(line: &[u8], left: &[u8]) -> Reason {
         return behind(line, parts, Expected::LineEnd);
     };
     if is_word(word, b"t") {
-        return timeline(line, tempo);
+        return timeline(line, tempo, version);
     }
-    start(line, parts, Expected::Parts)
+    start(line, parts, version, Expected::Parts { version })
 }
 
-fn timeline(line: &[u8], left: &[u8]) -> Reason {
+fn timeline(line: &[u8], left: &[u8], version: u8) -> Reason {
     let Some((_, beat)) = tempo_in(left) else {
         return behind(line, left, Expected::Tempo);
     };
@@ -260,15 +257,16 @@ fn timeline(line: &[u8], left: &[u8]) -> Reason {
     let Some((_, left)) = signed_in(time) else {
         return behind(line, time, Expected::Signed);
     };
-    start(line, left, Expected::Start)
+    start(line, left, version, Expected::LaterParts { version })
 }
 
-fn start(line: &[u8], left: &[u8], expected: Expected) -> Reason {
+// From the start of a commit on, in place of which something else may be expected too.
+fn start(line: &[u8], left: &[u8], version: u8, expected: Expected) -> Reason {
     let Some((word, playing)) = next_word(left) else {
         return behind(line, left, Expected::LineEnd);
     };
     if !is_word(word, b"s") {
-        return behind(line, left, expected);
+        return last_part(line, left, version, expected);
     }
     let Some((_, time)) = truth_in(playing) else {
         return behind(line, playing, Expected::Truth);
@@ -279,7 +277,29 @@ fn start(line: &[u8], left: &[u8], expected: Expected) -> Reason {
     let Some((_, left)) = signed_in(stamp) else {
         return behind(line, stamp, Expected::Signed);
     };
-    behind(line, left, Expected::LineEnd)
+    last_part(line, left, version, Expected::LastPart { version })
+}
+
+// From the quantum of a commit on, which version 1 doesn't have.
+fn last_part(line: &[u8], left: &[u8], version: u8, expected: Expected) -> Reason {
+    let Some((word, rest)) = next_word(left) else {
+        return behind(line, left, Expected::LineEnd);
+    };
+    if !is_word(word, b"q") {
+        return behind(line, left, expected);
+    }
+    if version == 1 {
+        return behind(line, left, Expected::NoQuantum);
+    }
+    quantum_length(line, rest)
+}
+
+// The length of a quantum, at the end of the line.
+fn quantum_length(line: &[u8], left: &[u8]) -> Reason {
+    match quantum_in(left) {
+        Some((_, left)) => behind(line, left, Expected::LineEnd),
+        None => behind(line, left, Expected::QuantumLength),
+    }
 }
 
 fn command(line: &[u8], stage: Stage, gates: u8) -> Reason {
@@ -327,6 +347,9 @@ fn shared_act(line: &[u8], left: &[u8], expected: Expected) -> Reason {
             Some((_, left)) => behind(line, left, Expected::LineEnd),
             None => behind(line, rest, Expected::Tempo),
         };
+    }
+    if is_word(word, b"quantum") {
+        return quantum_length(line, rest);
     }
     if is_word(word, b"play") || is_word(word, b"stop") {
         return behind(line, rest, Expected::LineEnd);

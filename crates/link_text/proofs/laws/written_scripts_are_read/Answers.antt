@@ -1,4 +1,4 @@
-use Rattle.std.proofs.Common.{inr, length, map, refl}
+use Rattle.std.proofs.Common.{arith, inr, length, map, refl}
 use Rattle.link_text.specs.ReplayScript.{event_line}
 use Rattle.link_text.proofs.WrittenScriptLemmas.{events_are_said, script_is_read}
 use Rattle.link_text.proofs.laws.written_scripts_are_read.Goals as goal
@@ -10,4 +10,5 @@ returns c config now es head sayable = record {
   rest = map event_line es;
   said = script_is_read config now es head sayable;
   events = events_are_said (length config.gates) 0 es sayable;
+  plain = λ one. absurd (omega (arith, one));
 }

@@ -2,7 +2,7 @@ use Rattle.std.proofs.Common.{arith, subst, List, ℕ}
 use Rattle.link_text.specs.LiveParts.{HasCommands}
 use Rattle.link_text.specs.Places.{counting_from}
 use Rattle.link_text.proofs.PlaceLemmas.{counting_end}
-use Rattle.link_text.proofs.LiveLemmas.{commands_none, commands_more, room_next}
+use Rattle.link_text.proofs.LiveLemmas.{commands_more, room_next}
 use Rattle.link_text.proofs.live_script.commands_from.Goals as goal
 
 pub loop-place-preserved : goal.loop-place-preserved

@@ -1,4 +1,4 @@
-use Rattle.std.proofs.Common.{◌≡◌, ◌+◌, ◌-◌, ◌≤◌, length, vec_len, vec_capacity}
+use Rattle.std.proofs.Common.{◌+◌, ◌-◌, ◌≤◌, length, vec_len, vec_capacity}
 use Rattle.link_text.specs.Places.{IsAhead, counting_from}
 use Rattle.link_text.specs.LiveParts.{HasCommands, lines_told}
 use Rattle.link_text.proofs.live_script.commands_from.Given as goal

@@ -1,5 +1,5 @@
 use Rattle.std.proofs.Common.{arith}
-use Rattle.link_text.proofs.LiveLemmas.{bad_command, told_ahead, whole}
+use Rattle.link_text.proofs.LiveLemmas.{bad_command, told_ahead}
 use Rattle.link_text.proofs.live_script.read_lines.Goals as goal
 
 pub commands_from-requires-clause-room_for_apps : goal.commands_from-requires-clause-room_for_apps

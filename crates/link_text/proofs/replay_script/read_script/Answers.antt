@@ -1,4 +1,4 @@
-use Rattle.std.proofs.Common.{arith, sym, ap, ◌∙◌, [], ◌∷◌, ◌++◌, ◌≡◌, ◌≤◌, ◌^◌, length, map, subst, ℕ, List}
+use Rattle.std.proofs.Common.{arith, sym, ap, ◌∙◌, [], ◌++◌, ◌≡◌, ◌≤◌, ◌^◌, length, map, subst, ℕ, List}
 use Rattle.std.proofs.lemmas.Int.{ints}
 use Rattle.std.proofs.lemmas.List.{length-map, nil_from_length}
 use Rattle.std.proofs.lemmas.Bool.Decides.{nat_tests}
@@ -57,4 +57,4 @@ returns-clause-script c =
     (checked c.args.text.now front.version (with_gates config values) front.node.now c.gates_from-gates.result.1 events.0 c.gates_from-gates.ensures.ahead is.opening.known
     (head_is front.version config front.node.now values is.opening (omega (arith, long, some)) gates.few gates.each)
     (head_said c.args.text.now front.version config front.node.now front.behind values _ is gates.said)
-    (subst (λ (n : ℕ). AreEventLines n 0 (counting_from c.args.text.now c.gates_from-gates.result.1.at) events.0) (c.len.ensures.value ∙ sym long) events.1))
+    (subst (λ (n : ℕ). AreEventLines n 0 (counting_from c.args.text.now c.gates_from-gates.result.1.at) events.0) (c.len.ensures.value ∙ sym long) events.1) events.2)

@@ -67,7 +67,7 @@ fn who_is_left_founds_a_session(rt: HostRuntime) {
             Step::IsIn(DRAWN),
             // The ghost time was 8,000,000, which is 16 beats after the origin.
             Step::HasTimeline(500_000, 16_000_000, 0),
-            Step::Shows(500_000, 0, 1_000_000, 0, 9_000_000),
+            Step::Shows(DRAWN, 500_000, 0, 1_000_000, 0, 9_000_000),
             // So it is the host time less 9,000,000.
             Step::HearPing(98, 5, 8_000_250),
             Step::SentPong(98, DRAWN, 250, 5),

@@ -6,7 +6,7 @@ use link_node::Change;
 use lk_base::{NodeId, SessionStart};
 
 // An id that comes before the node's.
-const LESSER: NodeId = NodeId(*b"@AAAAAAA");
+pub(super) const LESSER: NodeId = NodeId(*b"@AAAAAAA");
 
 #[test]
 fn a_session_is_joined_where_it_wins(rt: HostRuntime) {

@@ -51,9 +51,9 @@ pub(super) enum Step {
     Measure(NodeId, i64, u32),
     // So many silences after a ping, each answered by a ping.
     Silences(u32, u32),
-    // Commits: a timeline, a start, when it is made and when it comes; a number, a start and when.
-    Commit(Option<(i64, i64, i64)>, Option<(bool, u32, u32)>, u32, u32),
-    Audio(u64, Option<(bool, u32, u32)>, u32),
+    // Commits: a timeline, a start, a quantum, when it is made and when it comes; a number, a start, a quantum and when.
+    Commit(Option<(i64, i64, i64)>, Option<(bool, u32, u32)>, Option<u32>, u32, u32),
+    Audio(u64, Option<(bool, u32, u32)>, Option<u32>, u32),
     // The client's timeline is kept; it is as it was kept.
     Keep,
     HasKept,
@@ -70,12 +70,14 @@ pub(super) enum Step {
     SentAlive(usize, u8, u16),
     SentBye(usize, u8, u16),
     Changed(Change),
+    // The session, which is the one that is shown too.
     IsIn(NodeId),
     HasId(NodeId),
     // The session's timeline, and the client's.
     HasTimeline(i64, i64, i64),
     HasClient(i64, i64, i64),
     HasStart(bool, i64, i64),
+    HasQuantum(i64),
     HasPeers(u32),
     HasApp(u64),
     HasAudio(u64),
@@ -83,8 +85,8 @@ pub(super) enum Step {
     // The greatest moment, and that of the state published last, in host time.
     IsAt(i64),
     IsShownAt(i64),
-    // A whole state, with nothing played or committed: its timeline, how many peers, and its moment in host time.
-    Shows(i64, i64, i64, u32, i64),
+    // A whole state, with nothing played or committed: its session, its timeline, how many peers, and its moment in host time.
+    Shows(NodeId, i64, i64, i64, u32, i64),
 }
 
 // Runs a script over a node with one gate that sends no alives, until it opens another one.
@@ -181,10 +183,12 @@ fn act(rt: &impl Abort, stage: &mut Stage, step: &Step) -> bool {
         }
         Step::Measure(session, ghost_time, after) => stage.measure(*session, *ghost_time, *after),
         Step::Silences(after, count) => stage.be_silent(rt, *after, *count),
-        Step::Commit(timeline, start, made, after) => {
-            stage.commit(rt, *timeline, *start, *made, *after);
+        Step::Commit(timeline, start, quantum, made, after) => {
+            stage.commit(rt, *timeline, *start, *quantum, *made, *after);
         }
-        Step::Audio(number, start, after) => stage.commit_audio(rt, *number, *start, *after),
+        Step::Audio(number, start, quantum, after) => {
+            stage.commit_audio(rt, *number, *start, *quantum, *after);
+        }
         Step::Keep => stage.keep(),
         _ => return false,
     }
@@ -230,7 +234,10 @@ fn check_shown(rt: &impl Abort, stage: &Stage, step: &Step) -> bool {
     match step {
         Step::HasKept => stage.expect(rt, &stage.node.state().timeline, &stage.kept),
         Step::Changed(change) => stage.expect(rt, &stage.change, change),
-        Step::IsIn(session) => stage.expect(rt, &stage.node.session(), session),
+        Step::IsIn(session) => {
+            let found = (stage.node.session(), stage.node.state().session);
+            stage.expect(rt, &found, &(*session, *session));
+        }
         Step::HasId(id) => stage.expect(rt, &stage.node.id(), id),
         Step::HasTimeline(mpb, beat, time) => {
             stage.expect(
@@ -254,14 +261,15 @@ fn check_shown(rt: &impl Abort, stage: &Stage, step: &Step) -> bool {
             };
             stage.expect(rt, &stage.node.state().start, &start);
         }
+        Step::HasQuantum(quantum) => stage.expect(rt, &stage.node.state().quantum, quantum),
         Step::HasPeers(peers) => stage.expect(rt, &stage.node.state().peers, peers),
         Step::HasApp(app) => stage.expect(rt, &stage.node.state().app, app),
         Step::HasAudio(audio) => stage.expect(rt, &stage.node.state().audio, audio),
         Step::IsDue(after) => stage.expect(rt, &stage.node.due(), &(OPENING + i64::from(*after))),
         Step::IsAt(moment) => stage.expect(rt, &stage.node.moment(), moment),
         Step::IsShownAt(moment) => stage.expect(rt, &stage.node.state().moment, moment),
-        Step::Shows(mpb, beat, time, peers, moment) => {
-            let state = state(timeline(*mpb, *beat, *time), *peers, *moment);
+        Step::Shows(session, mpb, beat, time, peers, moment) => {
+            let state = state(*session, timeline(*mpb, *beat, *time), *peers, *moment);
             stage.expect(rt, &stage.node.state(), &state);
         }
         _ => return false,
@@ -270,7 +278,7 @@ fn check_shown(rt: &impl Abort, stage: &Stage, step: &Step) -> bool {
 }
 
 // With nothing played or committed.
-fn state(timeline: Timeline, peers: u32, moment: i64) -> State {
+fn state(session: NodeId, timeline: Timeline, peers: u32, moment: i64) -> State {
     State {
         timeline,
         start: ClientStart {
@@ -283,5 +291,7 @@ fn state(timeline: Timeline, peers: u32, moment: i64) -> State {
         moment,
         app: 0,
         audio: 0,
+        session,
+        quantum: 4_000_000,
     }
 }

@@ -2,6 +2,7 @@
 
 ghost use Rattle.std.specs.Prelude.{◌≡◌, ◌≤◌};
 ghost use Rattle.std.specs.Option.{ForSome};
+ghost use Rattle.lk_base.specs.Ranges.{IsQuantum};
 ghost use Rattle.lk_base.specs.Timeline.{IsTidy};
 ghost use Rattle.client_state.specs.Commit.{IsTidyCommit, IsTidyStart};
 ghost use Rattle.link_node.specs.Standing.{gates_of, app_of, audio_of};
@@ -180,13 +181,14 @@ impl Stage {
         }
     }
 
-    // A commit of an application that is made at one moment and comes at another one: of a timeline by tempo, beat and host time, and
-    // of a start by what it says of playing, its time and its stamp.
+    // A commit of an application that is made at one moment and comes at another one: of a timeline by tempo, beat and host time, of a
+    // start by what it says of playing, its time and its stamp, and of a quantum.
     pub(super) fn commit(
         &mut self,
         rt: &impl Abort,
         timeline: Option<(i64, i64, i64)>,
         start: Option<(bool, u32, u32)>,
+        quantum: Option<u32>,
         made: u32,
         after: u32,
     ) {
@@ -194,7 +196,7 @@ impl Stage {
         self.sends.clear();
         let now = OPENING + i64::from(after);
         let event = Event::App {
-            commit: commit(timeline, start, made),
+            commit: commit(timeline, start, quantum, made),
             now,
         };
         self.change = self.node.step(&event, &mut self.sends);
@@ -207,6 +209,7 @@ impl Stage {
         rt: &impl Abort,
         number: u64,
         start: Option<(bool, u32, u32)>,
+        quantum: Option<u32>,
         after: u32,
     ) {
         assert!(rt; self.audio < number && number < 1000);
@@ -214,7 +217,7 @@ impl Stage {
         let now = OPENING + i64::from(after);
         let event = Event::Audio {
             number,
-            commit: commit(None, start, after),
+            commit: commit(None, start, quantum, after),
             now,
         };
         self.change = self.node.step(&event, &mut self.sends);
@@ -261,12 +264,18 @@ impl Stage {
     }
 }
 
-fn commit(timeline: Option<(i64, i64, i64)>, start: Option<(bool, u32, u32)>, made: u32) -> Commit
+fn commit(
+    timeline: Option<(i64, i64, i64)>,
+    start: Option<(bool, u32, u32)>,
+    quantum: Option<u32>,
+    made: u32,
+) -> Commit
     ensures { IsTidyCommit result }
 {
     Commit {
         timeline: timeline_of(timeline),
         start: start_of(start),
+        quantum: quantum_of(quantum),
         at: OPENING + i64::from(made),
     }
 }
@@ -289,6 +298,15 @@ fn start_of(parts: Option<(bool, u32, u32)>) -> Option<ClientStart>
             time: i64::from(time),
             stamp: i64::from(stamp),
         }),
+        None => None,
+    }
+}
+
+fn quantum_of(quantum: Option<u32>) -> Option<i64>
+    ensures { ForSome result IsQuantum }
+{
+    match quantum {
+        Some(quantum) => Some(i64::from(quantum)),
         None => None,
     }
 }

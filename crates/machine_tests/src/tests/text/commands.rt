@@ -98,6 +98,22 @@ fn each_command_is_read(rt: HostRuntime) {
                 &[],
             ),
             (
+                b"at 11 quantum 0",
+                &[AppCommand {
+                    at: 11,
+                    act: Act::Quantum(0),
+                }],
+                &[],
+            ),
+            (
+                b"block 4 quantum 1099511627776",
+                &[],
+                &[BlockCommand {
+                    block: 4,
+                    act: Act::Quantum(1_099_511_627_776),
+                }],
+            ),
+            (
                 b"block 1 tempo 500000",
                 &[],
                 &[BlockCommand {

@@ -2,7 +2,7 @@
 
 ghost use Rattle.std.specs.Prelude.{◌≤◌, ◌-◌, ◌^◌, length};
 
-use super::script::{Kind, LIVE, NODE_OF_VERSION_2, REPLAY, joined};
+use super::script::{Kind, LIVE, NODE_OF_VERSION_2, REPLAY, REPLAY_OF_VERSION_2, joined};
 use crate::tests::expect;
 use link_text::{Reason, explain, explain_live};
 use std::alloc::{AllocError, Global};
@@ -267,9 +267,14 @@ fn what_stands_there_is_shown_with_escapes(rt: HostRuntime) {
         REPLAY,
         &[
             (
-                b"app 0 0 q",
+                b"app 0 0 x",
                 4,
-                "column 9: expected `t` and a timeline, `s` and a start, or the end of the line, found \"q\"",
+                "column 9: expected `t` and a timeline, `s` and a start, or the end of the line, found \"x\"",
+            ),
+            (
+                b"app 0 0 q 1",
+                4,
+                "column 9: expected no quantum: only a script that begins with `replay 2` has one, found \"q\"",
             ),
             (
                 b"app 0 0 t 500000 0",
@@ -310,6 +315,43 @@ fn what_stands_there_is_shown_with_escapes(rt: HostRuntime) {
                 b"to 1.2.3.4",
                 4,
                 "column 4: expected an endpoint as in 127.0.0.1:20808, found \"1.2.3.4\"",
+            ),
+        ],
+    );
+}
+
+#[test]
+fn what_a_commit_of_version_2_lacks_is_told(rt: HostRuntime) {
+    expect_told(
+        &rt,
+        rt.alloc(),
+        Kind::Replay,
+        REPLAY_OF_VERSION_2,
+        &[
+            (
+                b"app 0 0 x",
+                6,
+                "column 9: expected `t` and a timeline, `s` and a start, `q` and a quantum, or the end of the line, found \"x\"",
+            ),
+            (
+                b"app 0 0 t 500000 0 0 x",
+                6,
+                "column 22: expected `s` and a start, `q` and a quantum, or the end of the line, found \"x\"",
+            ),
+            (
+                b"audio 0 1 0 s 1 0 0 t",
+                6,
+                "column 21: expected `q` and a quantum, or the end of the line, found \"t\"",
+            ),
+            (
+                b"app 0 0 q",
+                6,
+                "column 10: expected a number from 0 to 1099511627776 microbeats (4000000 is four beats), found the end of the line",
+            ),
+            (
+                b"app 0 0 q 1 s 1 0 0",
+                6,
+                "column 13: expected the end of the line, found \"s\"",
             ),
         ],
     );
@@ -384,7 +426,7 @@ fn what_a_command_lacks_is_told(rt: HostRuntime) {
             (
                 b"at 0",
                 4,
-                "column 5: expected `tempo`, `force`, `request`, `play`, `stop` or `look`, found the end of the line",
+                "column 5: expected `tempo`, `force`, `request`, `quantum`, `play`, `stop` or `look`, found the end of the line",
             ),
             (
                 b"at 0 force x",
@@ -402,9 +444,14 @@ fn what_a_command_lacks_is_told(rt: HostRuntime) {
                 "column 12: expected a tempo from 60060 to 3000000 microseconds per beat (500000 is 120 beats a minute), found \"1\"",
             ),
             (
+                b"at 0 quantum -1",
+                4,
+                "column 14: expected a number from 0 to 1099511627776 microbeats (4000000 is four beats), found \"-1\"",
+            ),
+            (
                 b"at 0 play\r",
                 4,
-                "column 10: expected `tempo`, `force`, `request`, `play`, `stop` or `look`, found a carriage return (lines end in line feeds alone)",
+                "column 10: expected `tempo`, `force`, `request`, `quantum`, `play`, `stop` or `look`, found a carriage return (lines end in line feeds alone)",
             ),
         ],
     );
@@ -431,7 +478,12 @@ fn what_a_block_lacks_is_told(rt: HostRuntime) {
             (
                 b"block 1 look",
                 4,
-                "column 9: expected `tempo`, `play` or `stop`, found \"look\"",
+                "column 9: expected `tempo`, `quantum`, `play` or `stop`, found \"look\"",
+            ),
+            (
+                b"block 1 quantum",
+                4,
+                "column 16: expected a number from 0 to 1099511627776 microbeats (4000000 is four beats), found the end of the line",
             ),
             (
                 b"block 1 stop 2",

@@ -25,6 +25,8 @@ const STATE: State = State {
     moment: 1_000_000,
     app: 3,
     audio: 0,
+    session: NodeId(*b"LOADNODE"),
+    quantum: 4_000_000,
 };
 
 /// The first forty lines of the seed 0, each by its hash.

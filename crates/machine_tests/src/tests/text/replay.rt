@@ -2,7 +2,9 @@
 
 ghost use Rattle.link_text.specs.ReplayScript.{SaysSome};
 
-use super::script::{Kind, NODE_OF_VERSION_2, REPLAY, expect_faults, expect_repeated};
+use super::script::{
+    Kind, NODE_OF_VERSION_2, REPLAY, REPLAY_OF_VERSION_2, expect_faults, expect_repeated,
+};
 use crate::tests::expect;
 use link_node::Event;
 use link_text::{Head, check_replay, next_event};
@@ -147,6 +149,51 @@ fn a_commit_is_a_number_and_then_a_timeline_and_a_start_or_one_or_none(rt: HostR
             (b"app 0 0 s 1 0", 4),
             (b"app 0 0 u", 4),
             (b"app 0", 4),
+        ],
+    );
+}
+
+#[test]
+fn a_commit_of_version_2_may_end_with_a_quantum(rt: HostRuntime) {
+    expect_faults(
+        &rt,
+        rt.alloc(),
+        Kind::Replay,
+        REPLAY_OF_VERSION_2,
+        &[
+            (b"app 0 0 q 3000000", 0),
+            (b"app 0 0 t 60060 -1 1 q 0", 0),
+            (b"app 0 0 s 1 0 0 q 1099511627776", 0),
+            (b"app 0 0 t 3000000 0 0 s 0 -5 -6 q 1", 0),
+            (b"audio 0 1 0 q 1\naudio 0 2 0 t 500000 0 0 s 1 0 0 q 1", 0),
+            (b"app 0 0 t 3000000 0 0 s 0 -5 -6", 0),
+            (b"app 0 0 q 1 t 500000 0 0", 6),
+            (b"app 0 0 q 1 s 1 0 0", 6),
+            (b"app 0 0 t 500000 0 0 q 1 s 1 0 0", 6),
+            (b"app 0 0 q 1 q 1", 6),
+            (b"app 0 0 q 1 2", 6),
+            (b"app 0 0 q", 6),
+            (b"app 0 0 q ", 6),
+            (b"app 0 0 Q 1", 6),
+            (b"app 0 0 t 500000 0 q 1", 6),
+            (b"audio 0 1 q 1", 6),
+            (b"tick 0 q 1", 6),
+        ],
+    );
+    expect_faults(
+        &rt,
+        rt.alloc(),
+        Kind::Replay,
+        REPLAY,
+        &[
+            (b"app 0 0 q 3000000", 4),
+            (b"app 0 0 t 60060 -1 1 q 0", 4),
+            (b"app 0 0 s 1 0 0 q 0", 4),
+            (b"audio 0 1 0 q 1", 4),
+            (
+                b"app 0 0\n#\naudio 0 1 0 t 500000 0 0 s 1 0 0 q 1\ntick x",
+                6,
+            ),
         ],
     );
 }

@@ -18,6 +18,10 @@ pub enum Kind {
 /// The head of a replay script of one gate: three lines.
 pub const REPLAY: &[u8] = b"replay 1\nnode ABCDEFGH 7 500000 1 0\ngate 127.0.0.1:20808\n";
 
+/// One of version 2: five lines.
+pub const REPLAY_OF_VERSION_2: &[u8] =
+    b"replay 2\nnode ABCDEFGH 7 500000 1 0\ngroup 0\nquantum 4000000\ngate 127.0.0.1:20808\n";
+
 /// The first two lines of a head of version 2.
 pub const NODE_OF_VERSION_2: &[u8] = b"replay 2\nnode ABCDEFGH 7 500000 1 0\n";
 

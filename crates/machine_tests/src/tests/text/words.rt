@@ -2,7 +2,7 @@
 
 ghost use Rattle.std.specs.Prelude.{◌≤◌, ◌-◌, ◌^◌, length};
 
-use super::script::{NODE_OF_VERSION_2, REPLAY, Text, joined};
+use super::script::{NODE_OF_VERSION_2, REPLAY, REPLAY_OF_VERSION_2, Text, joined};
 use crate::tests::expect;
 use link_node::{Config, Event};
 use link_text::{check_replay, next_event};
@@ -336,6 +336,46 @@ fn a_signed_number_is_within_2_to_the_60_and_has_no_sign_before_0(rt: HostRuntim
                 Ok(-1_152_921_504_606_846_976),
             ),
             (b"app 0 -1152921504606846977", Err(4)),
+        ],
+    );
+}
+
+// The quantum that a commit of a script of version 2 says.
+fn quantum_of(line: &[u8]) -> Result<Option<i64>, u32> {
+    let text: Text = joined(REPLAY_OF_VERSION_2, line, 1);
+    match event_in(text.as_slice()) {
+        Ok(Event::App { commit, .. } | Event::Audio { commit, .. }) => Ok(commit.quantum),
+        Ok(_) => Err(0),
+        Err(line) => Err(line),
+    }
+}
+
+// Fails where a commit's line says another quantum than a row tells.
+fn expect_quanta(rt: &impl Abort, rows: &[(&[u8], Result<Option<i64>, u32>)]) {
+    for (row, (line, wanted)) in rows.iter().enumerate() {
+        expect(rt, row, &quantum_of(line), wanted);
+    }
+}
+
+#[test]
+fn a_commit_s_quantum_is_a_number_up_to_2_to_the_40(rt: HostRuntime) {
+    expect_quanta(
+        &rt,
+        &[
+            (b"app 0 0", Ok(None)),
+            (b"app 0 0 q 0", Ok(Some(0))),
+            (b"app 0 0 q 3000000", Ok(Some(3_000_000))),
+            (b"app 0 0 t 500000 1 2 s 1 3 4 q 5", Ok(Some(5))),
+            (
+                b"audio 0 1 0 s 1 3 4 q 1099511627776",
+                Ok(Some(1_099_511_627_776)),
+            ),
+            (b"app 0 0 q 1099511627777", Err(6)),
+            (b"app 0 0 q 18446744073709551616", Err(6)),
+            (b"app 0 0 q 00", Err(6)),
+            (b"app 0 0 q -0", Err(6)),
+            (b"app 0 0 q -1", Err(6)),
+            (b"app 0 0 q +1", Err(6)),
         ],
     );
 }

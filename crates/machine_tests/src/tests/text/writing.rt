@@ -52,6 +52,8 @@ const FIRST: State = State {
     moment: 0,
     app: 0,
     audio: 0,
+    session: NodeId(*b"QRSTUVWX"),
+    quantum: 4_000_000,
 };
 
 /// A state with numbers of its own in every place.
@@ -71,6 +73,8 @@ const LATER: State = State {
     moment: LAST,
     app: 1_152_921_504_606_846_975,
     audio: 9,
+    session: NodeId(*b"\x00\x01\xfe\xff\xaf\x10 ~"),
+    quantum: 1_099_511_627_776,
 };
 
 /// The first with sync.
@@ -79,18 +83,26 @@ const SHARED: State = State {
     ..FIRST
 };
 
+/// That one after a commit of a quantum.
+const BARRED: State = State {
+    app: 1,
+    quantum: 3_000_000,
+    ..SHARED
+};
+
 /// The first with the least moment and the greatest number of commits that words have room for.
 const LEAST: State = State {
     moment: -9_223_372_036_854_775_808,
     app: 18_446_744_073_709_551_615,
+    quantum: -9_223_372_036_854_775_808,
     ..FIRST
 };
 
-// Fails where a state of a number is told otherwise than by a row's line.
-fn expect_states(rt: &impl Abort, rows: &[(u64, State, &[u8])]) {
+// Fails where a state of a number is told otherwise in a version than by a row's line.
+fn expect_states(rt: &impl Abort, version: u8, rows: &[(u64, State, &[u8])]) {
     for (row, (number, state, wanted)) in rows.iter().enumerate() {
         let mut line = LineBuf::new();
-        write_state_line(&mut line, *number, state);
+        write_state_line(&mut line, version, *number, state);
         expect_line(rt, row, &line, wanted);
     }
 }
@@ -99,6 +111,7 @@ fn expect_states(rt: &impl Abort, rows: &[(u64, State, &[u8])]) {
 fn a_state_is_told_by_its_number_and_its_words(rt: HostRuntime) {
     expect_states(
         &rt,
+        1,
         &[
             (0, FIRST, b"state 0 500000 0 0 0 0 0 0 0 0 0 0\n"),
             (
@@ -111,6 +124,33 @@ fn a_state_is_told_by_its_number_and_its_words(rt: HostRuntime) {
                 2,
                 LEAST,
                 b"state 2 500000 0 0 0 0 0 0 0 -9223372036854775808 18446744073709551615 0\n",
+            ),
+        ],
+    );
+    expect_states(
+        &rt,
+        2,
+        &[
+            (
+                0,
+                SHARED,
+                b"state 0 500000 0 0 0 0 0 1 0 0 0 0 5152535455565758 4000000\n",
+            ),
+            (
+                1,
+                BARRED,
+                b"state 1 500000 0 0 0 0 0 1 0 0 1 0 5152535455565758 3000000\n",
+            ),
+            (
+                18_446_744_073_709_551_615,
+                LATER,
+                b"state 18446744073709551615 60060 -1152921504606846976 -1 1 -20 300 1 4294967295 36028797018963968 1152921504606846975 9 \
+0001feffaf10207e 1099511627776\n",
+            ),
+            (
+                2,
+                LEAST,
+                b"state 2 500000 0 0 0 0 0 0 0 -9223372036854775808 18446744073709551615 0 5152535455565758 -9223372036854775808\n",
             ),
         ],
     );
@@ -248,7 +288,7 @@ fn the_longest_datagram_finds_room(rt: HostRuntime) {
     expect(&rt, 2, &text.ends_with(b"5f5f\n"), &true);
 }
 
-/// A timeline and a start with numbers of their own in every place.
+/// A timeline, a start and a quantum with numbers of their own in every place.
 const EDITED: Commit = Commit {
     timeline: Some(Timeline {
         mpb: 3_000_000,
@@ -260,24 +300,36 @@ const EDITED: Commit = Commit {
         time: 3,
         stamp: -4,
     }),
+    quantum: Some(1_099_511_627_776),
     at: 6,
 };
 
-/// One of nothing, one of the start alone and one of the timeline alone.
-const NONE: Commit = Commit {
-    timeline: None,
-    start: None,
-    at: -7,
+/// One without the quantum, one of the start alone, one of the timeline alone, one of nothing and one of a quantum alone.
+const BEGUN: Commit = Commit {
+    quantum: None,
+    ..EDITED
 };
 
 const STOPPED: Commit = Commit {
     timeline: None,
-    ..EDITED
+    ..BEGUN
 };
 
 const MOVED: Commit = Commit {
     start: None,
-    ..EDITED
+    ..BEGUN
+};
+
+const NONE: Commit = Commit {
+    timeline: None,
+    start: None,
+    quantum: None,
+    at: -7,
+};
+
+const COUNTED: Commit = Commit {
+    quantum: Some(0),
+    ..NONE
 };
 
 // Fails where an application's commit is told otherwise than by a row's line.
@@ -321,8 +373,14 @@ fn a_commit_is_told_by_what_it_carries(rt: HostRuntime) {
             (5, STOPPED, b"app 5 6 s 0 3 -4\n"),
             (
                 5,
-                EDITED,
+                BEGUN,
                 b"app 5 6 t 3000000 1152921504606846976 -1152921504606846976 s 0 3 -4\n",
+            ),
+            (5, COUNTED, b"app 5 -7 q 0\n"),
+            (
+                5,
+                EDITED,
+                b"app 5 6 t 3000000 1152921504606846976 -1152921504606846976 s 0 3 -4 q 1099511627776\n",
             ),
         ],
     );
@@ -340,7 +398,7 @@ fn a_commit_is_told_by_what_it_carries(rt: HostRuntime) {
                 9,
                 8,
                 EDITED,
-                b"audio 9 8 6 t 3000000 1152921504606846976 -1152921504606846976 s 0 3 -4\n",
+                b"audio 9 8 6 t 3000000 1152921504606846976 -1152921504606846976 s 0 3 -4 q 1099511627776\n",
             ),
         ],
     );

@@ -112,7 +112,17 @@ impl Course {
                 time: at.wrapping_sub(i64::from(self.below(1_000_000))),
             }),
             start: None::<ClientStart>,
+            quantum: self.quantum(),
             at,
+        }
+    }
+
+    // Now and then a quantum.
+    fn quantum(&mut self) -> Option<i64> {
+        if self.below(4) == 0 {
+            Some(i64::from(self.below(8_000_000)))
+        } else {
+            None
         }
     }
 

@@ -34,6 +34,7 @@ fn commit(mpb: i64, at: i64) -> Commit {
             time: OPENING,
         }),
         start: None::<ClientStart>,
+        quantum: None::<i64>,
         at,
     }
 }
