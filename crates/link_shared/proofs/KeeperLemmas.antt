@@ -5,7 +5,7 @@ use Rattle.std.proofs.lemmas.List.{map_push}
 use Rattle.std.proofs.lemmas.List.Elements.{All-append}
 use mathlib.Core.Logic.{∥∥₁_elim, ∥∥₁_map}
 use mathlib.Core.List.{map-append}
-use Rattle.client_state.specs.State.{IsTidyState}
+use Rattle.client_state.specs.State.{IsId, IsTidyState}
 use Rattle.client_state.specs.Words.{words_of_state}
 use Rattle.client_state.specs.declared.state.State.{State}
 use Rattle.link_node.specs.Config.{ConfigValue, config_value}
@@ -91,11 +91,11 @@ each_more P published published' change state more each is =
 pub shown_more : (opening : Machine) (journal : List EventValue) (e : EventValue) (before after : Node) (change : Change) (state : State)
     (published published' : List State) (app_made app_made' audio_made audio_made' : List (List ℕ))
     → ∥ StandsFor before (machine_after opening journal) ∥₁ → StepsTo before after e
-    → ((m : Machine) → StandsFor before m → change ≡ change_of m e) → ((m : Machine) → StandsFor after m → state ≡ m.published) → IsTidyState state → state.peers < 2 ^ 32
+    → ((m : Machine) → StandsFor before m → change ≡ change_of m e) → ((m : Machine) → StandsFor after m → state ≡ m.published) → IsTidyState state → state.peers < 2 ^ 32 → IsId state.session
     → published' ≡ published ++ shown_by change state
     → app_made' ≡ app_made ++ map words_of_state (shown_by change state) → audio_made' ≡ audio_made ++ map words_of_state (shown_by change state)
     → IsShown opening journal published app_made audio_made → IsShown opening (journal ++ e ∷ []) published' app_made' audio_made'
-shown_more opening journal e before after change state published published' app_made app_made' audio_made audio_made' stands steps changes shows tidy peers more app_more audio_more shown = record {
+shown_more opening journal e before after change state published published' app_made app_made' audio_made audio_made' stands steps changes shows tidy peers session more app_more audio_more shown = record {
   published_are = ∥∥₁_elim stands (states_equal published' (opening.published ∷ published_by opening (journal ++ e ∷ [])))
       (λ s. let m : Machine = machine_after opening journal in
       more ∙ ap (λ (l : List State). l ++ shown_by change state) shown.published_are
@@ -106,6 +106,7 @@ shown_more opening journal e before after change state published published' app_
   audio_rows = rows published published' audio_made audio_made' more audio_more shown.audio_rows;
   tidy = each_more IsTidyState published published' change state more shown.tidy tidy;
   peers_fit = each_more (λ s. s.peers < 2 ^ 32) published published' change state more shown.peers_fit peers;
+  sessions_fit = each_more (λ s. IsId s.session) published published' change state more shown.sessions_fit session;
 }
   where
     rows : (old new : List State) (made made' : List (List ℕ)) → new ≡ old ++ shown_by change state → made' ≡ made ++ map words_of_state (shown_by change state)

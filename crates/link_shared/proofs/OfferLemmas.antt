@@ -48,6 +48,12 @@ pub as_read : (opening : Machine) (most : ℕ) (now : ℤ) (taken : ℕ) (pair :
 as_read opening most now taken pair e before after unsent sent full new offered is =
     subst (λ (es : List EventValue). IsOffered opening most es before after unsent sent full) (ap (λ d. d ∷ []) is ∙ sym (read_later now taken pair new)) offered
 
+-- an event is offered as any that it equals
+pub offered_as_well : (opening : Machine) (most : ℕ) (e f : EventValue) (before after : List EventValue) (unsent sent : List SendingValue) (full : Bool)
+    → e ≡ f → IsOffered opening most (e ∷ []) before after unsent sent full → IsOffered opening most (f ∷ []) before after unsent sent full
+offered_as_well opening most e f before after unsent sent full same offered =
+    subst (λ (d : EventValue). IsOffered opening most (d ∷ []) before after unsent sent full) same offered
+
 -- the count that the node tells is the machine's
 pub audio_told : (node : Node) (m : Machine) → ∥ StandsFor node m ∥₁ → (count : ℕ) → ((m : Machine) → StandsFor node m → count ≡ audio_of node) → count ≡ m.audio
 audio_told node m stands count told = ∥∥₁_elim stands (equal_numbers count m.audio) (λ s. told m s ∙ s.parts.audio)

@@ -3,7 +3,7 @@ use Rattle.std.proofs.Common.{◌≡◌, ℕ, ℤ, ◌<◌, ◌≤◌, ◌^◌, 
 use Rattle.std.proofs.Math.ListN.{drop_of_length-le}
 use Rattle.std.proofs.lemmas.List.Elements.{All-push}
 use Rattle.audio_handoff.specs.Cell.{Pair, ReaderView}
-use Rattle.client_state.specs.State.{IsTidyState}
+use Rattle.client_state.specs.State.{IsId, IsTidyState}
 use Rattle.client_state.specs.Words.{words_of_state, commit_of_words}
 use Rattle.client_state.specs.declared.commit.Commit.{Commit}
 use Rattle.client_state.specs.declared.state.State.{State}
@@ -41,34 +41,36 @@ no_peers : (config : ConfigValue) (opened_at : ℤ) → (opened config opened_at
 unfolding opened
 no_peers config opened_at = refl
 
-shown_first : (opening : Machine) (rows : List (List ℕ)) (other : List (List ℕ)) → IsTidyState opening.published → opening.published.peers < 2 ^ 32 → rows ≡ map words_of_state (opening.published ∷ []) → other ≡ map words_of_state (opening.published ∷ [])
+shown_first : (opening : Machine) (rows : List (List ℕ)) (other : List (List ℕ)) → IsTidyState opening.published → opening.published.peers < 2 ^ 32 → IsId opening.published.session
+    → rows ≡ map words_of_state (opening.published ∷ []) → other ≡ map words_of_state (opening.published ∷ [])
     → IsShown opening [] (opening.published ∷ []) rows other
 unfolding published_by
-shown_first opening rows other tidy peers rows_are other_are = record {
+shown_first opening rows other tidy peers session rows_are other_are = record {
   published_are = refl;
   app_rows = rows_are;
   audio_rows = other_are;
   tidy = All-push IsTidyState [] opening.published (search rules) tidy;
   peers_fit = All-push (λ (state : State). state.peers < 2 ^ 32) [] opening.published (search rules) peers;
+  sessions_fit = All-push (λ (state : State). IsId state.session) [] opening.published (search rules) session;
 }
 
 shown_unmoved : (opening : Machine) (journal : List Event) (published : List State) (rows other : List (List ℕ)) → journal ≡ [] → published ≡ opening.published ∷ []
-    → IsTidyState opening.published → opening.published.peers < 2 ^ 32 → rows ≡ map words_of_state published → other ≡ map words_of_state published
+    → IsTidyState opening.published → opening.published.peers < 2 ^ 32 → IsId opening.published.session → rows ≡ map words_of_state published → other ≡ map words_of_state published
     → IsShown opening (map event_value journal) published rows other
-shown_unmoved opening journal published rows other none one tidy peers rows_are other_are =
+shown_unmoved opening journal published rows other none one tidy peers session rows_are other_are =
     subst (λ (j : List Event). IsShown opening (map event_value j) published rows other) (sym none)
     (subst (λ (ps : List State). IsShown opening [] ps rows other) (sym one)
-    (shown_first opening rows other tidy peers (rows_are ∙ ap (map words_of_state) one) (other_are ∙ ap (map words_of_state) one)))
+    (shown_first opening rows other tidy peers session (rows_are ∙ ap (map words_of_state) one) (other_are ∙ ap (map words_of_state) one)))
 
 pub shown_at_opening : (config : ConfigValue) (held opened_at : ℤ) (journal : List Event) (published : List State) (rows other : List (List ℕ)) → held ≡ opened_at → journal ≡ []
-    → published ≡ (opened config opened_at).published ∷ [] → IsTidyState (opened config opened_at).published
+    → published ≡ (opened config opened_at).published ∷ [] → IsTidyState (opened config opened_at).published → IsId (opened config opened_at).published.session
     → rows ≡ map words_of_state published → other ≡ map words_of_state published
     → IsShown (opened config held) (map event_value journal) published rows other
-shown_at_opening config held opened_at journal published rows other same none one tidy rows_are other_are =
+shown_at_opening config held opened_at journal published rows other same none one tidy session rows_are other_are =
     let peers = no_peers config opened_at in
     let few_peers : (opened config opened_at).published.peers < 2 ^ 32 = omega arith in
     subst (λ (z : ℤ). IsShown (opened config z) (map event_value journal) published rows other) (sym same)
-    (shown_unmoved (opened config opened_at) journal published rows other none one tidy few_peers rows_are other_are)
+    (shown_unmoved (opened config opened_at) journal published rows other none one tidy few_peers session rows_are other_are)
 
 pub room_at_opening : (most event_places state_places : ℕ) (journal : List Event) (published : List State) (state : State) → journal ≡ [] → published ≡ state ∷ []
     → HasRoom most 0 1 event_places state_places → HasRoom most (length journal) (length published) event_places state_places

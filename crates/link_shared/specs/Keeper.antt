@@ -3,7 +3,7 @@ use Rattle.std.specs.Prelude.{◌≡◌, ℕ, ℤ, ◌+◌, ◌<◌, ◌≤◌, 
 use mathlib.Core.Option.{some}
 use lib.ListN.{get_elem?}
 use Rattle.audio_handoff.specs.Cell.{Pair}
-use Rattle.client_state.specs.State.{IsTidyState}
+use Rattle.client_state.specs.State.{IsId, IsTidyState}
 use Rattle.client_state.specs.Words.{words_of_state, commit_of_words}
 use Rattle.client_state.specs.declared.commit.Commit.{Commit}
 use Rattle.client_state.specs.declared.state.State.{State}
@@ -18,6 +18,7 @@ pub record IsShown (opening : Machine) (journal : List EventValue) (published : 
   pub audio_rows : audio_made ≡ map words_of_state published
   pub tidy : All IsTidyState published
   pub peers_fit : All (λ state. state.peers < 2 ^ 32) published
+  pub sessions_fit : All (λ state. IsId state.session) published
 
 -- there is room for as many events as the journal takes, and for a state after each and the opening one
 pub record HasRoom (most events states event_places state_places : ℕ) : Type 0 where

@@ -19,7 +19,7 @@ use std::sync::ledger::{Book, Share};
 /// The one reader of the states for applications, the one pass that pushes, and the count and the ledger of the commits
 /// pushed.
 #[derive(Drop)]
-pub struct Desk<C: StateCell<9>, N: LinkName> {
+pub struct Desk<C: StateCell<11>, N: LinkName> {
     pub(crate) reader: C::Reader,
     pub(crate) pass: QueuePass,
     /// How many commits were pushed.
@@ -34,7 +34,7 @@ pub struct Desk<C: StateCell<9>, N: LinkName> {
     ghost numbers_fit: { pushed ≤ 2 ^ 60 },
 }
 
-impl<C: StateCell<9>, N: LinkName> Desk<C, N> {
+impl<C: StateCell<11>, N: LinkName> Desk<C, N> {
     /// Reads a state that is no older than any that the note's maker had read, and has the note replaced by one of it.
     /// `known` is a copy of the note. Without memory the note stays.
     /// Waits: by the way. Memory: a note.
@@ -45,7 +45,7 @@ impl<C: StateCell<9>, N: LinkName> Desk<C, N> {
         cell: &C,
         known: C::Note,
         note: &mut C::Note,
-    ) -> Result<Read<9>, AllocError>
+    ) -> Result<Read<11>, AllocError>
         requires cell { C.cell cell.now ≡ N.app_states }
         requires known { (C.noting known).cell ≡ N.app_states }
         requires note { (C.noting note.old).cell ≡ N.app_states }
@@ -127,14 +127,14 @@ impl<C: StateCell<9>, N: LinkName> Desk<C, N> {
 }
 
 // Reads by a reader that has been told a copy of the note, and has the note replaced by one of what was read.
-fn read_anew<C: StateCell<9>>(
+fn read_anew<C: StateCell<11>>(
     reader: &mut C::Reader,
     alloc: Global,
     way: &C::Way,
     cell: &C,
     known: C::Note,
     note: &mut C::Note,
-) -> Result<Read<9>, AllocError>
+) -> Result<Read<11>, AllocError>
     requires reader { (C.reading reader.old).cell ≡ C.cell cell.now }
     requires known { (C.noting known).cell ≡ C.cell cell.now }
     requires note { (C.noting note.old).cell ≡ C.cell cell.now }

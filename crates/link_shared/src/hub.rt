@@ -22,7 +22,7 @@ pub(crate) use handed::HandedPass;
 ///
 /// Whatever happens between its calls, the rows made in both cells of states are those of the states that the journal publishes.
 #[derive(Drop)]
-pub struct Hub<C: StateCell<9>, N: LinkName> {
+pub struct Hub<C: StateCell<11>, N: LinkName> {
     pub(crate) keeper: Keeper<C, N>,
     // Reads the audio thread's commits.
     pub(crate) commits: C::Reader,
@@ -34,7 +34,7 @@ pub struct Hub<C: StateCell<9>, N: LinkName> {
     pub(crate) share: Share<N>,
 }
 
-impl<C: StateCell<9>, N: LinkName> Model for Hub<C, N> {
+impl<C: StateCell<11>, N: LinkName> Model for Hub<C, N> {
     ghost use Rattle.std.specs.Prelude.{◌≡◌, ◌≤◌, [], true, length, map, vec_capacity};
     ghost use Rattle.crossbeam_queue.specs.Passes.{view as hand_of};
     ghost use Rattle.link_node.specs.Config.{config_value};
@@ -65,7 +65,7 @@ impl<C: StateCell<9>, N: LinkName> Model for Hub<C, N> {
         × AreHanded N.app_states N.queue N.whole N.parts h.handed.items h.share.parts h.share.amount };
 }
 
-impl<C: StateCell<9>, N: LinkName> Hub<C, N> {
+impl<C: StateCell<11>, N: LinkName> Hub<C, N> {
     ghost use Rattle.std.specs.Prelude.{◌≡◌, ◌≤◌, length, map};
     ghost use Rattle.lk_base.specs.Ranges.{IsMoment};
     ghost use Rattle.link_node.specs.Config.{IsConfig};

@@ -1,6 +1,7 @@
 //! The node and what is kept of it: the journal, the states published, and the writers of both cells of states.
 ghost use Rattle.std.specs.Prelude.{◌≡◌, ◌≤◌, ◌<◌, ◌^◌, ◌++◌, length, map, vec_capacity};
 ghost use Rattle.lk_base.specs.Ranges.{IsMoment};
+ghost use Rattle.client_state.specs.State.{IsId};
 ghost use Rattle.client_state.specs.Words.{words_of_state};
 ghost use Rattle.link_node.specs.Config.{config_value, IsConfig};
 ghost use Rattle.link_node.specs.Event.{event_value};
@@ -10,6 +11,7 @@ ghost use Rattle.link_node.specs.Standing.{StandsFor, gates_of, app_of, audio_of
 ghost use Rattle.link_shared.specs.Journal.{last_audio_in};
 ghost use Rattle.link_shared.specs.Keeper.{IsShown, HasRoom};
 
+use crate::ids::is_id;
 use crate::name::LinkName;
 use audio_handoff::StateCell;
 use client_state::State;
@@ -22,7 +24,7 @@ mod settle;
 /// The one owner of the node. What it publishes goes into the list of states published and into both cells, and what it takes
 /// into the journal.
 #[derive(Drop)]
-pub(crate) struct Keeper<C: StateCell<9>, N: LinkName> {
+pub(crate) struct Keeper<C: StateCell<11>, N: LinkName> {
     pub(crate) opened_at: i64,
     // How many events the journal takes.
     pub(crate) most: u64,
@@ -43,7 +45,7 @@ pub(crate) struct Keeper<C: StateCell<9>, N: LinkName> {
     ghost numbered: { audio_of node ≡ last_audio_in 0 (map event_value journal.items) },
 }
 
-impl<C: StateCell<9>, N: LinkName> Keeper<C, N> {
+impl<C: StateCell<11>, N: LinkName> Keeper<C, N> {
     ghost use Rattle.std.specs.Prelude.{◌≡◌, ◌≤◌, ◌+◌, [], ◌∷◌, length, map};
     ghost use Rattle.link_node.specs.Config.{config_value};
     ghost use Rattle.link_node.specs.Event.{event_value, Fits};
@@ -102,7 +104,7 @@ impl<C: StateCell<9>, N: LinkName> Keeper<C, N> {
 }
 
 // A state that was published goes into the list and into both cells. Waits: by the way. Memory: none.
-fn show<C: StateCell<9>>(
+fn show<C: StateCell<11>>(
     change: Change,
     state: State,
     app_states: &C,
@@ -120,9 +122,11 @@ fn show<C: StateCell<9>>(
     ensures audio_rows { (C.writing audio_writer.new).made ≡ (C.writing audio_writer.old).made ++ map words_of_state (shown_by change state) }
     ensures published { published.new.items ≡ published.old.items ++ shown_by change state }
     ensures capacity { vec_capacity published.new ≡ vec_capacity published.old }
-    // It stands in a word of its own.
+    // What its type says of it: so it stands in words of its own.
     ensures peers { state.peers < 2 ^ 32 }
+    ensures session { IsId state.session }
 {
+    is_id(state.session);
     if change == Change::Same {
         return;
     }

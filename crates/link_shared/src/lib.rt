@@ -1,7 +1,7 @@
 //! The link between the threads of a session: the applications' commits go in by a queue, in one order and each once,
 //! and the states that the session publishes come out by cells.
 //!
-//! In reading order: `name`, `capture`, `queue`, `desk`, `link` and of it `app` and `audio`; `parts`, `opened`; `got`,
+//! In reading order: `name`, `ids`, `capture`, `queue`, `desk`, `link` and of it `app` and `audio`; `parts`, `opened`; `got`,
 //! `keeper` and of it `commits` and `settle`, `hub` and of it `turn`, `handed`, `heard`, `drain`, `hearing` and `last_turn`.
 #![tactic(auto)]
 
@@ -9,6 +9,7 @@ mod capture;
 mod desk;
 mod got;
 mod hub;
+mod ids;
 mod keeper;
 mod link;
 mod name;

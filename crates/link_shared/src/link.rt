@@ -19,7 +19,7 @@ pub use audio::AudioPass;
 ///
 /// An application waits for another application at the lock. The network thread and the audio thread never take it.
 #[derive(Drop)]
-pub struct Link<C: StateCell<9>, N: LinkName> {
+pub struct Link<C: StateCell<11>, N: LinkName> {
     pub(crate) app_states: C,
     pub(crate) audio_states: C,
     pub(crate) audio_commits: C,

@@ -18,7 +18,7 @@ use std::sync::Mutex;
 
 /// A link as it is opened, with what each thread has of it.
 #[derive(Drop)]
-pub struct Opened<C: StateCell<9>, N: LinkName> {
+pub struct Opened<C: StateCell<11>, N: LinkName> {
     pub link: Link<C, N>,
     /// The network thread's.
     pub hub: Hub<C, N>,
@@ -28,7 +28,7 @@ pub struct Opened<C: StateCell<9>, N: LinkName> {
     pub app: AppPass<C, N>,
 }
 
-impl<C: StateCell<9>, N: LinkName> Link<C, N> {
+impl<C: StateCell<11>, N: LinkName> Link<C, N> {
     /// The link of these parts, which its type names. Waits: no. Memory: none.
     pub fn make(parts: Parts<C>) -> Opened<C, N>
         requires cells { (parts.app_states ≡ N.app_states) × (parts.audio_states ≡ N.audio_states) × (parts.audio_commits ≡ N.audio_commits) }

@@ -2,6 +2,7 @@
 ghost use Rattle.std.specs.Prelude.{◌≡◌, ◌+◌, ◌≤◌, [], ◌∷◌, length, vec_capacity, IfOk};
 
 use crate::hub::HandedPass;
+use crate::ids::is_id;
 use crate::queue::{Queue, QueuePass, open};
 use audio_handoff::StateCell;
 use client_state::{Commit, State};
@@ -12,7 +13,7 @@ use std::sync::ledger::Blank;
 
 /// A cell with its tokens, of which only the opening row was made and none was read.
 #[derive(Drop)]
-pub(crate) struct NewCell<C: StateCell<9>> {
+pub(crate) struct NewCell<C: StateCell<11>> {
     pub(crate) cell: C,
     pub(crate) writer: C::Writer,
     pub(crate) reader: C::Reader,
@@ -26,7 +27,7 @@ pub(crate) struct NewCell<C: StateCell<9>> {
 ///
 /// A type that names them is a `LinkName`; the link is made by a function that is generic in it.
 #[derive(Drop)]
-pub struct Parts<C: StateCell<9>> {
+pub struct Parts<C: StateCell<11>> {
     pub(crate) app_states: NewCell<C>,
     pub(crate) audio_states: NewCell<C>,
     pub(crate) audio_commits: NewCell<C>,
@@ -46,10 +47,10 @@ pub struct Parts<C: StateCell<9>> {
     pub(crate) handed: Vec<HandedPass<C>>,
 }
 
-impl<C: StateCell<9>> Model for Parts<C> {
+impl<C: StateCell<11>> Model for Parts<C> {
     ghost use Rattle.std.specs.Prelude.{◌≡◌, ◌≤◌, [], ◌∷◌, map, vec_capacity};
     ghost use Rattle.crossbeam_queue.specs.Passes.{view as hand_of, IsPassOf, ruled_capacity};
-    ghost use Rattle.client_state.specs.State.{IsTidyState};
+    ghost use Rattle.client_state.specs.State.{IsId, IsTidyState};
     ghost use Rattle.client_state.specs.Words.{words_of_state};
     ghost use Rattle.lk_base.specs.Ranges.{IsMoment};
     ghost use Rattle.link_node.specs.Config.{config_value, IsConfig};
@@ -76,7 +77,7 @@ impl<C: StateCell<9>> Model for Parts<C> {
     ghost invariant = { λ p. IsConfig (config_value p.node.config) × IsMoment p.opened_at
         × StandsFor p.node (opened (config_value p.node.config) p.opened_at) × (app_of p.node ≡ 0) × (audio_of p.node ≡ 0)
         × (p.journal.items ≡ []) × (p.published.items ≡ (opened (config_value p.node.config) p.opened_at).published ∷ [])
-        × IsTidyState (opened (config_value p.node.config) p.opened_at).published
+        × (IsTidyState (opened (config_value p.node.config) p.opened_at).published × IsId (opened (config_value p.node.config) p.opened_at).published.session)
         × ((C.writing p.app_states.writer).made ≡ map words_of_state p.published.items)
         × ((C.writing p.audio_states.writer).made ≡ map words_of_state p.published.items)
         × HasRoom p.most 0 1 (vec_capacity p.journal) (vec_capacity p.published)
@@ -96,10 +97,11 @@ const HANDED: usize = 16;
 const NO_COMMIT: Commit = Commit {
     timeline: None,
     start: None,
+    quantum: None,
     at: 0,
 };
 
-impl<C: StateCell<9>> Parts<C> {
+impl<C: StateCell<11>> Parts<C> {
     ghost use Rattle.lk_base.specs.Ranges.{IsMoment};
     ghost use Rattle.link_node.specs.Config.{config_value, IsConfig};
 
@@ -122,6 +124,7 @@ impl<C: StateCell<9>> Parts<C> {
     {
         let node = Node::new(alloc, config, now)?;
         let state = node.state();
+        is_id(state.session);
         let row = state.row();
         let lists = NewLists::<C>::new(alloc, events, state)?;
         let (queue, pushing, popping) = open(alloc)?;
@@ -159,7 +162,7 @@ impl<C: StateCell<9>> Parts<C> {
 
 // The three cells, and a note of the reader of the first one, which has read nothing.
 #[derive(Drop)]
-struct NewCells<C: StateCell<9>> {
+struct NewCells<C: StateCell<11>> {
     app_states: NewCell<C>,
     audio_states: NewCell<C>,
     audio_commits: NewCell<C>,
@@ -167,9 +170,9 @@ struct NewCells<C: StateCell<9>> {
     ghost note_is: { ((C.noting note).cell ≡ C.cell app_states.cell) × ((C.noting note).seen ≡ []) },
 }
 
-impl<C: StateCell<9>> NewCells<C> {
+impl<C: StateCell<11>> NewCells<C> {
     // The cells of states with that opening row, and the cell of commits with none.
-    fn new(alloc: Global, way: &C::Way, row: &[u64; 9]) -> Result<NewCells<C>, AllocError>
+    fn new(alloc: Global, way: &C::Way, row: &[u64; 11]) -> Result<NewCells<C>, AllocError>
         ensures app_row { IfOk result (λ new. (C.writing new.app_states.writer).made ≡ row.now ∷ []) }
         ensures audio_row { IfOk result (λ new. (C.writing new.audio_states.writer).made ≡ row.now ∷ []) }
     {
@@ -187,14 +190,14 @@ impl<C: StateCell<9>> NewCells<C> {
 
 // The journal, the list of published states and the list of passes handed in.
 #[derive(Drop)]
-struct NewLists<C: StateCell<9>> {
+struct NewLists<C: StateCell<11>> {
     journal: Vec<Event>,
     published: Vec<State>,
     handed: Vec<HandedPass<C>>,
     ghost empty: { (journal.items ≡ []) × (handed.items ≡ []) × (16 ≤ vec_capacity handed) },
 }
 
-impl<C: StateCell<9>> NewLists<C> {
+impl<C: StateCell<11>> NewLists<C> {
     // Lists with room for so many events, of which only the opening state stands in one.
     fn new(alloc: Global, events: u64, state: State) -> Result<NewLists<C>, AllocError>
         requires { events ≤ 524_288 }
@@ -210,10 +213,10 @@ impl<C: StateCell<9>> NewLists<C> {
 }
 
 // A cell with that opening row.
-fn new_cell<C: StateCell<9>>(
+fn new_cell<C: StateCell<11>>(
     alloc: Global,
     way: &C::Way,
-    row: &[u64; 9],
+    row: &[u64; 11],
 ) -> Result<NewCell<C>, AllocError>
     ensures { IfOk result (λ new. (C.writing new.writer).made ≡ row.now ∷ []) }
 {
@@ -226,10 +229,10 @@ fn new_cell<C: StateCell<9>>(
 }
 
 // A cell with that opening row, and a note of its reader, which has read nothing.
-fn noted_cell<C: StateCell<9>>(
+fn noted_cell<C: StateCell<11>>(
     alloc: Global,
     way: &C::Way,
-    row: &[u64; 9],
+    row: &[u64; 11],
 ) -> Result<(NewCell<C>, C::Note), AllocError>
     ensures row { IfOk result (λ t. (C.writing t.0.writer).made ≡ row.now ∷ []) }
     ensures note { IfOk result (λ t. ((C.noting t.1).cell ≡ C.cell t.0.cell) × ((C.noting t.1).seen ≡ [])) }

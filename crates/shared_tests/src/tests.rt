@@ -1,4 +1,5 @@
 ghost use Rattle.std.specs.Prelude.{◌≡◌, ◌≤◌, length, IfOk};
+ghost use Rattle.std.specs.Option.{ForSome};
 ghost use Rattle.client_state.specs.Commit.{IsTidyCommit, IsTidyStart};
 ghost use Rattle.link_node.specs.Config.{config_value, IsConfig};
 
@@ -30,6 +31,12 @@ mod threads;
 /// The host time at which each node opens.
 const OPENING: i64 = 1_000_000;
 
+/// Each node, and so its session, which no other joins.
+const NODE: NodeId = NodeId(*b"AAAAAAAA");
+
+/// The quantum that each node opens with.
+const QUANTUM: i64 = 4_000_000;
+
 fn endpoint(port: u16) -> Endpoint {
     Endpoint {
         addr: 0x0A00_0001,
@@ -50,17 +57,17 @@ fn config() -> Config
         peers,
     });
     Config {
-        id: NodeId(*b"AAAAAAAA"),
+        id: NODE,
         seed: 1,
         mpb: 500_000,
         sync: false,
         group: 0,
-        quantum: 4_000_000,
+        quantum: QUANTUM,
         gates,
     }
 }
 
-fn parts_of<C: StateCell<9>>(
+fn parts_of<C: StateCell<11>>(
     alloc: Global,
     way: &C::Way,
     events: u64,
@@ -83,19 +90,31 @@ fn start_at(time: u16) -> ClientStart
     }
 }
 
-/// The commit of such a start.
+/// The start in the commit that is made at a time. Every fourth commit, of each thread's the third one, has none.
+fn start_in(time: u16) -> Option<ClientStart>
+    ensures { ForSome result IsTidyStart }
+{
+    if time % 4 == 3 {
+        None
+    } else {
+        Some(start_at(time))
+    }
+}
+
+/// A commit of such a start and of a quantum, or of the quantum alone. The quantum is as many microbeats as the time microseconds.
 fn edit(time: u16) -> Commit
     ensures { IsTidyCommit result }
 {
     Commit {
         timeline: None,
-        start: Some(start_at(time)),
+        start: start_in(time),
+        quantum: Some(i64::from(time)),
         at: i64::from(time),
     }
 }
 
-/// The state after so many commits at the opening moment, with that start.
-fn state_of(app: u64, audio: u64, start: ClientStart) -> State {
+/// The state after so many commits at the opening moment, with that start and that quantum.
+fn state_of(app: u64, audio: u64, start: ClientStart, quantum: i64) -> State {
     State {
         timeline: Timeline {
             mpb: 500_000,
@@ -108,6 +127,8 @@ fn state_of(app: u64, audio: u64, start: ClientStart) -> State {
         moment: OPENING,
         app,
         audio,
+        session: NODE,
+        quantum,
     }
 }
 
@@ -117,13 +138,14 @@ fn opening_state() -> State {
         time: 0,
         stamp: 0,
     };
-    state_of(0, 0, still)
+    state_of(0, 0, still, QUANTUM)
 }
 
 /// The state with that commit over it.
 fn shown_with(state: &State, time: u16) -> State {
     let mut shown = *state;
-    shown.start = start_at(time);
+    shown.start = start_in(time).unwrap_or(state.start);
+    shown.quantum = i64::from(time);
     shown
 }
 
@@ -134,7 +156,7 @@ enum Trial<'a> {
     Run(&'a str),
 }
 
-fn try_link<C: StateCell<9>, N: LinkName, R: Wait + Abort>(
+fn try_link<C: StateCell<11>, N: LinkName, R: Wait + Abort>(
     rt: &R,
     alloc: Global,
     way: &C::Way,
@@ -152,7 +174,7 @@ fn try_link<C: StateCell<9>, N: LinkName, R: Wait + Abort>(
     Ok(())
 }
 
-fn try_bench<C: StateCell<9>, N: LinkName, R: Wait + Abort>(
+fn try_bench<C: StateCell<11>, N: LinkName, R: Wait + Abort>(
     rt: &R,
     alloc: Global,
     way: &C::Way,
@@ -169,7 +191,7 @@ fn try_bench<C: StateCell<9>, N: LinkName, R: Wait + Abort>(
 }
 
 /// A journal of 300 events for the queue, and of what a run says for it.
-fn try_new_link<C: StateCell<9>, R: Wait + Abort>(
+fn try_new_link<C: StateCell<11>, R: Wait + Abort>(
     rt: &R,
     alloc: Global,
     way: &C::Way,
@@ -185,11 +207,15 @@ fn try_new_link<C: StateCell<9>, R: Wait + Abort>(
 }
 
 fn try_both_cells<R: Wait + Abort>(rt: &R, alloc: Global, trial: Trial) -> Result<(), AllocError> {
-    try_new_link::<Triple<9>, R>(rt, alloc, &(), trial)?;
-    try_new_link::<SeqState<R, 9>, R>(rt, alloc, rt, trial)
+    try_new_link::<Triple<11>, R>(rt, alloc, &(), trial)?;
+    try_new_link::<SeqState<R, 11>, R>(rt, alloc, rt, trial)
 }
 
-fn thread_link<C: StateCell<9> + Sync, N: LinkName + Send + Sync, R: Threads + Wait + Sync + Abort>(
+fn thread_link<
+    C: StateCell<11> + Sync,
+    N: LinkName + Send + Sync,
+    R: Threads + Wait + Sync + Abort,
+>(
     rt: &R,
     alloc: Global,
     way: &C::Way,
@@ -208,7 +234,7 @@ where
     Ok(run_threads(rt, alloc, way, bench, reports))
 }
 
-fn thread_new_link<C: StateCell<9> + Sync, R: Threads + Wait + Sync + Abort>(
+fn thread_new_link<C: StateCell<11> + Sync, R: Threads + Wait + Sync + Abort>(
     rt: &R,
     alloc: Global,
     way: &C::Way,
@@ -239,7 +265,7 @@ fn steps_in_any_order_answer_as_worked_by_hand(rt: HostRuntime) -> Result<(), Fa
 
 #[test]
 fn four_threads_see_published_states_and_lose_no_commit(rt: HostRuntime) -> Result<(), Fail> {
-    thread_new_link::<Triple<9>, HostRuntime>(&rt, rt.alloc(), &())?;
-    thread_new_link::<SeqState<HostRuntime, 9>, HostRuntime>(&rt, rt.alloc(), &rt)?;
+    thread_new_link::<Triple<11>, HostRuntime>(&rt, rt.alloc(), &())?;
+    thread_new_link::<SeqState<HostRuntime, 11>, HostRuntime>(&rt, rt.alloc(), &rt)?;
     Ok(())
 }

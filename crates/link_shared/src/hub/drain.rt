@@ -18,7 +18,7 @@ use std::sync::Wait;
 
 // Pops all items, and offers each commit. Answers whether the journal was full at one of these.
 // Waits: for a place's last user in the queue, and by the way. Memory: none.
-pub(crate) fn drain<C: StateCell<9>, N: LinkName, R: Wait>(
+pub(crate) fn drain<C: StateCell<11>, N: LinkName, R: Wait>(
     rt: &R,
     queue: &Queue,
     pass: &mut QueuePass,
@@ -66,7 +66,7 @@ pub(crate) fn drain<C: StateCell<9>, N: LinkName, R: Wait>(
 
 // Pops an item, and offers it where it is a commit. Answers whether the journal was full then, and `None` where the queue was empty.
 // Waits: for a place's last user in the queue, and by the way. Memory: none.
-fn drain_one<C: StateCell<9>, N: LinkName, R: Wait>(
+fn drain_one<C: StateCell<11>, N: LinkName, R: Wait>(
     rt: &R,
     queue: &Queue,
     pass: &mut QueuePass,

@@ -7,7 +7,7 @@ use std::marker::Model;
 
 // An application's pass without its share, and so without the link's name: room for it stands among the parts of a link.
 #[derive(Drop)]
-pub(crate) struct HandedPass<C: StateCell<9>> {
+pub(crate) struct HandedPass<C: StateCell<11>> {
     pub(crate) note: C::Note,
     pub(crate) pass: QueuePass,
     pub(crate) own: Own,
@@ -16,7 +16,7 @@ pub(crate) struct HandedPass<C: StateCell<9>> {
     pub(crate) made: u64,
 }
 
-impl<C: StateCell<9>> Model for HandedPass<C> {
+impl<C: StateCell<11>> Model for HandedPass<C> {
     ghost use Rattle.std.specs.Prelude.{◌≡◌, []};
     ghost use Rattle.crossbeam_queue.specs.Passes.{view as hand_of};
     ghost use Rattle.link_shared.specs.Handed.{HandedView};

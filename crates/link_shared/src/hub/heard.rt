@@ -5,7 +5,7 @@ use crate::link::AppPass;
 use crate::name::LinkName;
 use audio_handoff::StateCell;
 
-impl<C: StateCell<9>, N: LinkName> Hub<C, N> {
+impl<C: StateCell<11>, N: LinkName> Hub<C, N> {
     ghost use Rattle.std.specs.Prelude.{◌≡◌, ◌<◌, [], ◌∷◌, ◌++◌, length};
 
     /// Keeps an application's pass, at most 16 of them, so that the last turn tells what became of its commits. Waits: no. Memory: none.

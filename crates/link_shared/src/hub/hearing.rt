@@ -12,7 +12,7 @@ use std::sync::ledger::{Book, Share};
 
 // Counts the share of all passes handed in against the book, and hears each pass. Of the pass that was the only one the share is its own.
 // Waits: by the way. Memory: none.
-pub(crate) fn hear_all<C: StateCell<9>, N: LinkName>(
+pub(crate) fn hear_all<C: StateCell<11>, N: LinkName>(
     queue: &Queue,
     own: &mut QueuePass,
     book: &mut Book<N>,
@@ -39,7 +39,7 @@ pub(crate) fn hear_all<C: StateCell<9>, N: LinkName>(
 
 // Hears each pass, the last one first.
 // Waits: by the way. Memory: none.
-fn hear_each<C: StateCell<9>, N: LinkName>(
+fn hear_each<C: StateCell<11>, N: LinkName>(
     queue: &Queue,
     own: &mut QueuePass,
     cell: &C,
@@ -63,7 +63,7 @@ fn hear_each<C: StateCell<9>, N: LinkName>(
 
 // Tells the pass's note to the reader, and takes in what it knew of the commits pushed.
 // Waits: by the way. Memory: none.
-fn hear<C: StateCell<9>, N: LinkName>(
+fn hear<C: StateCell<11>, N: LinkName>(
     queue: &Queue,
     own: &mut QueuePass,
     cell: &C,

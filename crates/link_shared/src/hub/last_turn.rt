@@ -17,7 +17,7 @@ use audio_handoff::StateCell;
 use link_node::Sends;
 use std::sync::Wait;
 
-impl<C: StateCell<9>, N: LinkName> Hub<C, N> {
+impl<C: StateCell<11>, N: LinkName> Hub<C, N> {
     /// Clears `sends` and ends the link: it ends the cell of audio commits and offers the last one made, where it wasn't
     /// taken, pops the queue until it is empty and offers each commit, offers the end, and ends both cells of states. Each
     /// of these events carries the moment `now`.

@@ -10,7 +10,7 @@ use audio_handoff::StateCell;
 use link_node::{Event, Sends, commits_are_counted};
 use std::sync::Wait;
 
-impl<C: StateCell<9>, N: LinkName> Hub<C, N> {
+impl<C: StateCell<11>, N: LinkName> Hub<C, N> {
     ghost use Rattle.std.specs.Prelude.{◌≡◌, ◌≤◌, ◌+◌, [], length};
     ghost use Rattle.lk_base.specs.Ranges.{IsMoment};
     ghost use Rattle.link_shared.specs.Hub.{HasTurned, IsOnGate, got_events};

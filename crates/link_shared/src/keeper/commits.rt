@@ -16,7 +16,7 @@ use audio_handoff::{Read, StateCell};
 use client_state::Commit;
 use link_node::{Event, Sends, commits_send_nothing};
 
-impl<C: StateCell<9>, N: LinkName> Keeper<C, N> {
+impl<C: StateCell<11>, N: LinkName> Keeper<C, N> {
     // Offers an application's commit. Answers whether the journal is full.
     // Waits: by the way. Memory: none.
     pub(crate) fn offer_app(
@@ -57,7 +57,7 @@ impl<C: StateCell<9>, N: LinkName> Keeper<C, N> {
         app_states: &C,
         audio_states: &C,
         way: &C::Way,
-        read: &Read<9>,
+        read: &Read<11>,
         now: i64,
         sends: &mut Sends,
     ) -> bool

@@ -8,7 +8,7 @@ use audio_handoff::StateCell;
 use client_state::{State, rows_are_read_back};
 use link_node::Event;
 
-impl<C: StateCell<9>, N: LinkName> Keeper<C, N> {
+impl<C: StateCell<11>, N: LinkName> Keeper<C, N> {
     // Ends both cells of states: whatever was read of them was published. Answers the journal and the states published.
     // Waits: by the way. Memory: none.
     pub(crate) fn settle(

@@ -20,7 +20,7 @@ use std::sync::ledger::Share;
 /// been read for the applications when it last captured, a beginning of the commits pushed, how many of those are its own,
 /// its own last commit with its number, how many further passes it may make, and whether it is the only pass.
 #[derive(Drop)]
-pub struct AppPass<C: StateCell<9>, N: LinkName> {
+pub struct AppPass<C: StateCell<11>, N: LinkName> {
     pub(crate) note: C::Note,
     pub(crate) pass: QueuePass,
     pub(crate) share: Share<N>,
@@ -30,7 +30,7 @@ pub struct AppPass<C: StateCell<9>, N: LinkName> {
     pub(crate) made: u64,
 }
 
-impl<C: StateCell<9>, N: LinkName> Model for AppPass<C, N> {
+impl<C: StateCell<11>, N: LinkName> Model for AppPass<C, N> {
     ghost Value = { AppView };
 
     ghost view = { λ p. record {
@@ -47,7 +47,7 @@ impl<C: StateCell<9>, N: LinkName> Model for AppPass<C, N> {
         × (p.share.amount ≡ p.made) };
 }
 
-impl<C: StateCell<9>, N: LinkName> AppPass<C, N> {
+impl<C: StateCell<11>, N: LinkName> AppPass<C, N> {
     /// How many further passes can be made from this one, 65,535 at the first pass of a link.
     /// Waits: no. Memory: none.
     pub fn room(&self) -> u64
@@ -57,7 +57,7 @@ impl<C: StateCell<9>, N: LinkName> AppPass<C, N> {
     }
 }
 
-impl<C: StateCell<9>, N: LinkName> Link<C, N> {
+impl<C: StateCell<11>, N: LinkName> Link<C, N> {
     /// A further pass, for another thread. It has captured what the given pass has, and has committed nothing. Without
     /// memory the given pass stays as it was.
     /// Waits: by the way. Memory: a note.

@@ -15,7 +15,7 @@ use std::marker::{Model, PhantomData};
 /// The audio thread's right to use a link. It stands for the pairs of number and row that it read, the look of each, and the commits that
 /// it made.
 #[derive(Drop)]
-pub struct AudioPass<C: StateCell<9>, N: LinkName> {
+pub struct AudioPass<C: StateCell<11>, N: LinkName> {
     // Reads the states.
     pub(crate) reader: C::Reader,
     // Makes the commits.
@@ -25,7 +25,7 @@ pub struct AudioPass<C: StateCell<9>, N: LinkName> {
     pub(crate) name: PhantomData<N>,
 }
 
-impl<C: StateCell<9>, N: LinkName> Model for AudioPass<C, N> {
+impl<C: StateCell<11>, N: LinkName> Model for AudioPass<C, N> {
     ghost use Rattle.std.specs.Prelude.{◌≡◌, ◌<◌, length, map, drop};
     ghost use Rattle.client_state.specs.Commit.{IsTidyOwn};
     ghost use Rattle.client_state.specs.Words.{commit_of_words};
@@ -46,7 +46,7 @@ impl<C: StateCell<9>, N: LinkName> Model for AudioPass<C, N> {
         × (p.own.last ≡ last_of (map commit_of_words (drop 1 (C.writing p.writer).made))) × IsTidyOwn p.own.last };
 }
 
-impl<C: StateCell<9>, N: LinkName> Link<C, N> {
+impl<C: StateCell<11>, N: LinkName> Link<C, N> {
     /// A state that was published, and what the audio thread is shown: its last commit over the state, until that is taken.
     /// It is no older than any that it was answered before.
     /// Waits: only by the way, so never where that is `()`. Memory: none.

@@ -13,13 +13,13 @@ use std::sync::Wait;
 
 /// A hub, and what its last turn sends.
 #[derive(Drop)]
-pub struct Network<C: StateCell<9>, N: LinkName> {
+pub struct Network<C: StateCell<11>, N: LinkName> {
     pub hub: Hub<C, N>,
     pub sends: Sends,
     ghost gate: { length hub.config.gates ≡ 1 },
 }
 
-impl<C: StateCell<9>, N: LinkName> Network<C, N> {
+impl<C: StateCell<11>, N: LinkName> Network<C, N> {
     /// A turn, so many microseconds after the opening.
     pub fn turn<R: Wait>(
         &mut self,
@@ -51,7 +51,7 @@ pub fn datagram() -> Got
 
 /// A link, and what each thread has of it.
 #[derive(Drop)]
-pub struct Bench<C: StateCell<9>, N: LinkName> {
+pub struct Bench<C: StateCell<11>, N: LinkName> {
     pub link: Link<C, N>,
     pub network: Network<C, N>,
     pub audio: AudioPass<C, N>,
@@ -59,7 +59,7 @@ pub struct Bench<C: StateCell<9>, N: LinkName> {
     pub second: AppPass<C, N>,
 }
 
-impl<C: StateCell<9>, N: LinkName> Bench<C, N> {
+impl<C: StateCell<11>, N: LinkName> Bench<C, N> {
     /// The second pass is made by the first.
     pub fn open<R: Wait>(
         rt: &R,

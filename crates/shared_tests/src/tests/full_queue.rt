@@ -17,7 +17,7 @@ const TAKEN: Turned = Turned {
 /// Two passes capture the opening state, and the further one has no room for others. 256 commits are pushed, the next one comes
 /// back, and a quit doesn't fit either. A turn makes room for one. The own last commit is shown until the state has taken it, which
 /// is the 257th.
-pub fn fill_queue<C: StateCell<9>, N: LinkName, R: Wait + Abort>(
+pub fn fill_queue<C: StateCell<11>, N: LinkName, R: Wait + Abort>(
     rt: &R,
     alloc: Global,
     way: &C::Way,
@@ -32,7 +32,7 @@ pub fn fill_queue<C: StateCell<9>, N: LinkName, R: Wait + Abort>(
     } = bench;
     assert_eq!(rt; (first.room(), second.room()), (65_534, 0));
     let opening = opening_state();
-    let last = state_of(257, 0, start_at(301));
+    let last = state_of(257, 0, start_at(301), 301);
     expect_capture(rt, alloc, way, link, first, 0, &opening, &opening);
     expect_capture(rt, alloc, way, link, second, 0, &opening, &opening);
     push_all(rt, link, first);
@@ -54,7 +54,7 @@ pub fn fill_queue<C: StateCell<9>, N: LinkName, R: Wait + Abort>(
 }
 
 /// A capture is of the state that so many commits were taken for, each in a state of its own, and shows this.
-fn expect_capture<C: StateCell<9>, N: LinkName, R: Wait + Abort>(
+fn expect_capture<C: StateCell<11>, N: LinkName, R: Wait + Abort>(
     rt: &R,
     alloc: Global,
     way: &C::Way,
@@ -73,7 +73,7 @@ fn expect_capture<C: StateCell<9>, N: LinkName, R: Wait + Abort>(
 }
 
 /// A turn with nothing else takes a commit.
-fn expect_taken<C: StateCell<9>, N: LinkName, R: Wait + Abort>(
+fn expect_taken<C: StateCell<11>, N: LinkName, R: Wait + Abort>(
     rt: &R,
     way: &C::Way,
     link: &Link<C, N>,
@@ -83,8 +83,8 @@ fn expect_taken<C: StateCell<9>, N: LinkName, R: Wait + Abort>(
     assert_eq!(rt; turned, TAKEN);
 }
 
-/// A commit whose start is at a time has a number.
-fn expect_commit<C: StateCell<9>, N: LinkName, R: Wait + Abort>(
+/// The commit that is made at a time has a number.
+fn expect_commit<C: StateCell<11>, N: LinkName, R: Wait + Abort>(
     rt: &R,
     link: &Link<C, N>,
     pass: &mut AppPass<C, N>,
@@ -94,7 +94,7 @@ fn expect_commit<C: StateCell<9>, N: LinkName, R: Wait + Abort>(
     assert_eq!(rt; link.commit(rt, pass, edit(time)), Ok(u64::from(number)));
 }
 
-fn push_all<C: StateCell<9>, N: LinkName, R: Wait + Abort>(
+fn push_all<C: StateCell<11>, N: LinkName, R: Wait + Abort>(
     rt: &R,
     link: &Link<C, N>,
     pass: &mut AppPass<C, N>,
@@ -107,7 +107,7 @@ fn push_all<C: StateCell<9>, N: LinkName, R: Wait + Abort>(
     assert_eq!(rt; link.quit(rt), Err(QueueFull));
 }
 
-fn take_all<C: StateCell<9>, N: LinkName, R: Wait + Abort>(
+fn take_all<C: StateCell<11>, N: LinkName, R: Wait + Abort>(
     rt: &R,
     alloc: Global,
     way: &C::Way,
@@ -115,8 +115,10 @@ fn take_all<C: StateCell<9>, N: LinkName, R: Wait + Abort>(
     pass: &mut AppPass<C, N>,
     network: &mut Network<C, N>,
 ) {
+    let mut state = opening_state();
     for taken in 1..257u16 {
-        let state = state_of(u64::from(taken), 0, start_at(taken));
+        state = shown_with(&state, taken);
+        state.app = u64::from(taken);
         expect_capture(
             rt,
             alloc,

@@ -21,17 +21,18 @@ use std::sync::Wait;
 /// then Q for a quit, F where something found no room, and behind > how many datagrams it sends; - for nothing at all.
 ///
 /// k, l, m: a capture by the first or the second pass or by the audio thread, the state's number, how many commits of
-/// applications it has taken, the number of the last audio commit taken, and which own commit is shown over it. z: the last
-/// turn, what it took, as a turn and with E for the end, and behind = how many states were published.
+/// applications it has taken, the number of the last audio commit taken, the commit that its quantum is of, as in a turn's
+/// answer, or O0 for the opening, and which own commit is shown over it. The third commit of a thread is of a quantum alone. z:
+/// the last turn, what it took, as a turn and with E for the end, and behind = how many states were published.
 pub const RUNS: &[&str] = &[
-    "9k000.l000.m000.zE>1=1",
-    "9a1k0001zX1E>1=2",
-    "9a1nX1k110.zE>1=2",
-    "9c1m0001zU1E>1=2",
-    "9c1nU1m101.zE>1=2",
-    "9c1c2m0002nU2m102.zE>1=2",
-    "9a1c1nX1U1k211.m211.zE>1=3",
-    "9a1b2nX1k110.l1101nY1l220.zE>1=3",
+    "9k000O0.l000O0.m000O0.zE>1=1",
+    "9a1k000O01zX1E>1=2",
+    "9a1nX1k110X1.zE>1=2",
+    "9c1m000O01zU1E>1=2",
+    "9c1nU1m101U1.zE>1=2",
+    "9c1c2m000O02nU2m102U2.zE>1=2",
+    "9a1c1nX1U1k211U1.m211U1.zE>1=3",
+    "9a1b2nX1k110X1.l110X11nY1l220Y1.zE>1=3",
     "9tT>1tTzE>1=1",
     "9dRdRzE>1=1",
     "9n-n-zE>1=1",
@@ -41,28 +42,28 @@ pub const RUNS: &[&str] = &[
     "9a1tX1T>1zE>1=2",
     "9c1dU1RzE>1=2",
     "9a1c1tX1U1T>1zE>1=3",
-    "9a1a2a3nX1nX2k2203nX3k330.zE>1=4",
+    "9a1a2a3nX1nX2k220X23nX3k330X3.zE>1=4",
     "9a1b2a3b4zX1Y1X2Y2E>1=5",
     "9c1c2c3zU3E>1=2",
-    "9c1nU1c2m1012nU2m202.zE>1=3",
+    "9c1nU1c2m101U12nU2m202U2.zE>1=3",
     "9a1c1zU1X1E>1=3",
-    "9a1c1k0001m0001zU1X1E>1=3",
-    "1tT>1a1nFk0001zF=1",
-    "1a1nX1k110.zF=2",
+    "9a1c1k000O01m000O01zU1X1E>1=3",
+    "1tT>1a1nFk000O01zF=1",
+    "1a1nX1k110X1.zF=2",
     "1a1c1nX1FzF=2",
     "2a1c1nX1U1zF=3",
     "2a1b2nX1nY1zF=3",
-    "2a1b2a3nX1nY1nFk2202l220.zF=3",
-    "3c1nU1c2nU2c3nU3c4nFm3034zF=4",
-    "9b1l0001nY1l110.k110.zE>1=2",
-    "9a1k0001b2l0001k0001zX1Y1E>1=3",
+    "2a1b2a3nX1nY1nFk220Y12l220Y1.zF=3",
+    "3c1nU1c2nU2c3nU3c4nFm303U34zF=4",
+    "9b1l000O01nY1l110Y1.k110Y1.zE>1=2",
+    "9a1k000O01b2l000O01k000O01zX1Y1E>1=3",
     "9q.q.nQnQn-zE>1=1",
     "9q.zE>1=1",
     "9a1q.b2zX1Y1E>1=3",
     "9tT>1a1tX1TzE>1=2",
-    "9dRa1dX1Rc1dU1Rm211.zE>1=3",
+    "9dRa1dX1Rc1dU1Rm211U1.zE>1=3",
     "9c1nU1n-zE>1=2",
-    "9a1nX1c1nU1a2nX2c2nU2k422.m422.zE>1=5",
+    "9a1nX1c1nU1a2nX2k321X2.c2nU2k422U2.m422U2.zE>1=5",
     "4a1a2c1tX1U1T>1nX2zF=4",
 ];
 
@@ -103,22 +104,32 @@ fn put_taken(text: &mut Text, event: &Event) {
     match event {
         Event::Rx { .. } => put(text, b'R'),
         Event::Tick { .. } => put(text, b'T'),
-        Event::App { commit, .. } => {
-            put(text, if commit.at < 200 { b'X' } else { b'Y' });
-            put_digit(text, which(commit.at));
-        }
+        Event::App { commit, .. } => put_commit(text, commit.at),
         Event::Audio { number, commit, .. } => {
-            put(text, b'U');
-            put_digit(
-                text,
-                if which(commit.at) == *number {
-                    *number
-                } else {
-                    10
-                },
-            );
+            put_commit(text, commit.at);
+            if which(commit.at) != *number {
+                put(text, b'*');
+            }
         }
         Event::End { .. } => put(text, b'E'),
+    }
+}
+
+/// Whose commit was made at that time, and which of them.
+fn put_commit(text: &mut Text, at: i64) {
+    put(text, whose(at));
+    put_digit(text, which(at));
+}
+
+fn whose(at: i64) -> u8 {
+    if at < 200 {
+        b'X'
+    } else if at < 300 {
+        b'Y'
+    } else if at < 400 {
+        b'U'
+    } else {
+        b'O'
     }
 }
 
@@ -148,25 +159,32 @@ fn put_news(text: &mut Text, events: &[Event], before: usize, quit: bool, full: 
     }
 }
 
+/// The own commit that is shown over a state, by the time of the last one: a point for none, and * where a state is as none can be.
+fn put_shown(text: &mut Text, capture: &Capture, last: u16) {
+    let Capture { state, shown, .. } = capture;
+    if *state != state_of(state.app, state.audio, state.start, state.quantum) {
+        put(text, b'*');
+    } else if shown == state {
+        put(text, b'.');
+    } else if *shown == shown_with(state, last) {
+        put_digit(text, u64::from(last % 100));
+    } else {
+        put(text, b'*');
+    }
+}
+
 /// The answer to a capture by a pass that made that commit last.
 fn capture_text(capture: &Capture, last: u16) -> Text {
     let mut text = Text::new();
     put_digit(&mut text, capture.number);
     put_digit(&mut text, capture.state.app);
     put_digit(&mut text, capture.state.audio);
-    if capture.state != state_of(capture.state.app, capture.state.audio, capture.state.start) {
-        put(&mut text, b'*');
-    } else if capture.shown == capture.state {
-        put(&mut text, b'.');
-    } else if capture.shown == shown_with(&capture.state, last) {
-        put_digit(&mut text, u64::from(last % 100));
-    } else {
-        put(&mut text, b'*');
-    }
+    put_commit(&mut text, capture.state.quantum);
+    put_shown(&mut text, capture, last);
     text
 }
 
-fn commit<C: StateCell<9>, N: LinkName, R: Wait>(
+fn commit<C: StateCell<11>, N: LinkName, R: Wait>(
     rt: &R,
     link: &Link<C, N>,
     pass: &mut AppPass<C, N>,
@@ -179,7 +197,7 @@ fn commit<C: StateCell<9>, N: LinkName, R: Wait>(
 }
 
 /// Where memory is wanting the answer is that of no run.
-fn capture<C: StateCell<9>, N: LinkName, R: Wait>(
+fn capture<C: StateCell<11>, N: LinkName, R: Wait>(
     rt: &R,
     alloc: Global,
     way: &C::Way,
@@ -193,7 +211,7 @@ fn capture<C: StateCell<9>, N: LinkName, R: Wait>(
     }
 }
 
-fn commit_audio<C: StateCell<9>, N: LinkName>(
+fn commit_audio<C: StateCell<11>, N: LinkName>(
     way: &C::Way,
     link: &Link<C, N>,
     pass: &mut AudioPass<C, N>,
@@ -210,13 +228,13 @@ fn commit_audio<C: StateCell<9>, N: LinkName>(
     text
 }
 
-fn quit<C: StateCell<9>, N: LinkName, R: Wait>(rt: &R, link: &Link<C, N>) -> Text {
+fn quit<C: StateCell<11>, N: LinkName, R: Wait>(rt: &R, link: &Link<C, N>) -> Text {
     let mut text = Text::new();
     put(&mut text, if link.quit(rt).is_ok() { b'.' } else { b'*' });
     text
 }
 
-fn turn<C: StateCell<9>, N: LinkName, R: Wait>(
+fn turn<C: StateCell<11>, N: LinkName, R: Wait>(
     rt: &R,
     link: &Link<C, N>,
     way: &C::Way,
@@ -244,7 +262,7 @@ fn turn<C: StateCell<9>, N: LinkName, R: Wait>(
 }
 
 /// The steps of applications and of the audio thread.
-fn take_step<C: StateCell<9>, N: LinkName, R: Wait>(
+fn take_step<C: StateCell<11>, N: LinkName, R: Wait>(
     rt: &R,
     alloc: Global,
     way: &C::Way,
@@ -274,7 +292,7 @@ fn take_step<C: StateCell<9>, N: LinkName, R: Wait>(
 }
 
 /// Takes the steps of a run before the last turn, and compares each answer.
-pub fn play_run<C: StateCell<9>, N: LinkName, R: Wait + Abort>(
+pub fn play_run<C: StateCell<11>, N: LinkName, R: Wait + Abort>(
     rt: &R,
     alloc: Global,
     way: &C::Way,
@@ -310,7 +328,7 @@ fn expect_answer(rt: &impl Abort, answer: &Text, at: u64, byte: Option<u8>, run:
 }
 
 /// The last turn of a run, whose answer stands behind its sign.
-pub fn end_run<C: StateCell<9>, N: LinkName, R: Wait + Abort>(
+pub fn end_run<C: StateCell<11>, N: LinkName, R: Wait + Abort>(
     rt: &R,
     way: &C::Way,
     bench: Bench<C, N>,

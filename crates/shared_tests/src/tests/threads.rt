@@ -106,14 +106,14 @@ impl Reports {
 
 /// An application, whose commits have the starts behind `base`.
 #[derive(Drop)]
-struct Application<C: StateCell<9>, N: LinkName> {
+struct Application<C: StateCell<11>, N: LinkName> {
     pass: AppPass<C, N>,
     alloc: Global,
     base: u16,
     report: Report,
 }
 
-impl<C: StateCell<9>, N: LinkName> Application<C, N> {
+impl<C: StateCell<11>, N: LinkName> Application<C, N> {
     fn play<R: Wait>(self, rt: &R, way: &C::Way, link: &Link<C, N>) -> Application<C, N> {
         let mut application = self;
         let mut last = Last {
@@ -161,12 +161,12 @@ impl<C: StateCell<9>, N: LinkName> Application<C, N> {
 
 /// The audio thread.
 #[derive(Drop)]
-struct Player<C: StateCell<9>, N: LinkName> {
+struct Player<C: StateCell<11>, N: LinkName> {
     pass: AudioPass<C, N>,
     report: Report,
 }
 
-impl<C: StateCell<9>, N: LinkName> Player<C, N> {
+impl<C: StateCell<11>, N: LinkName> Player<C, N> {
     fn play(self, way: &C::Way, link: &Link<C, N>) -> Player<C, N> {
         let mut player = self;
         for round in 0..ROUNDS {
@@ -189,7 +189,7 @@ impl<C: StateCell<9>, N: LinkName> Player<C, N> {
 }
 
 /// All turns: ticks, datagrams, and turns with nothing.
-fn turn_all<C: StateCell<9>, N: LinkName, R: Wait>(
+fn turn_all<C: StateCell<11>, N: LinkName, R: Wait>(
     rt: &R,
     way: &C::Way,
     link: &Link<C, N>,
@@ -217,7 +217,7 @@ fn turn_beside_player<
     B: Drop + Send,
     D: Drop + Send,
     W: Sync,
-    C: StateCell<9, Way = W, Writer = A, Reader = B, Note = D> + Sync,
+    C: StateCell<11, Way = W, Writer = A, Reader = B, Note = D> + Sync,
     N: LinkName + Send + Sync,
     R: Threads + Wait + Sync,
 >(
@@ -241,7 +241,7 @@ fn play_both<
     B: Drop + Send,
     D: Drop + Send,
     W: Sync,
-    C: StateCell<9, Way = W, Writer = A, Reader = B, Note = D> + Sync,
+    C: StateCell<11, Way = W, Writer = A, Reader = B, Note = D> + Sync,
     N: LinkName + Send + Sync,
     R: Threads + Wait + Sync,
 >(
@@ -264,7 +264,7 @@ fn play_both<
 
 /// A link's threads.
 #[derive(Drop)]
-struct Sides<C: StateCell<9>, N: LinkName> {
+struct Sides<C: StateCell<11>, N: LinkName> {
     network: Network<C, N>,
     player: Player<C, N>,
     one: Application<C, N>,
@@ -276,7 +276,7 @@ fn run_four<
     B: Drop + Send,
     D: Drop + Send,
     W: Sync,
-    C: StateCell<9, Way = W, Writer = A, Reader = B, Note = D> + Sync,
+    C: StateCell<11, Way = W, Writer = A, Reader = B, Note = D> + Sync,
     N: LinkName + Send + Sync,
     R: Threads + Wait + Sync,
 >(rt: &R, way: &W, link: &Link<C, N>, sides: Sides<C, N>) -> Sides<C, N> {
@@ -305,7 +305,7 @@ fn run_four<
 
 /// The four threads run beside one another. Answers what is left of the link, and what they wrote.
 pub fn run_threads<
-    C: StateCell<9> + Sync,
+    C: StateCell<11> + Sync,
     N: LinkName + Send + Sync,
     R: Threads + Wait + Sync + Abort,
 >(rt: &R, alloc: Global, way: &C::Way, bench: Bench<C, N>, reports: Reports) -> (Ended, Reports)
@@ -342,7 +342,7 @@ where
     end_threads(rt, way, link, sides)
 }
 
-fn end_threads<C: StateCell<9>, N: LinkName, R: Wait + Abort>(
+fn end_threads<C: StateCell<11>, N: LinkName, R: Wait + Abort>(
     rt: &R,
     way: &C::Way,
     link: Link<C, N>,

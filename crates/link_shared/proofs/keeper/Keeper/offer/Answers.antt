@@ -62,7 +62,7 @@ invariant_of-self-2-clause-shown g c =
     let grown : List Event = c.push_reserved.new.self.items in
     shown_as (config_value k.node.config) (config_value node.config) k.opened_at journal (map event_value grown) e _ _ _ same (journal_grows k.journal.items c.args.event grown c.push_reserved.ensures.items)
     (shown_more opening journal e k.node node c.step-change.result c.state-state.result _ _ _ _ _ _
-    k.stands c.step-change.ensures.stands c.step-change.ensures.change c.state-state.ensures.value c.state-state.ensures.tidy c.show.ensures.peers
+    k.stands c.step-change.ensures.stands c.step-change.ensures.change c.state-state.ensures.value c.state-state.ensures.tidy c.show.ensures.peers c.show.ensures.session
     c.show.ensures.published c.show.ensures.app_rows c.show.ensures.audio_rows k.shown)
 
 pub invariant_of-self-2-clause-fitting : goal.invariant_of-self-2-clause-fitting
