@@ -25,60 +25,60 @@ use Rattle.link_live.proofs.GrownLemmas.{both_tell, itself_told}
 
 -- ---- one block more at the end of those so far
 
-commits_push : (quantum : ℤ) (commands : List BlockCommand) (made : List Commit) (number : ℕ) (reads : List BlockRead) (read : BlockRead)
-    → blocks_commits quantum commands made number (reads ++ read ∷ [])
-    ≡ blocks_commits quantum commands made number reads ++ block_commits quantum commands (made ++ blocks_commits quantum commands made number reads) (number + length reads) read
+commits_push : (commands : List BlockCommand) (made : List Commit) (number : ℕ) (reads : List BlockRead) (read : BlockRead)
+    → blocks_commits commands made number (reads ++ read ∷ [])
+    ≡ blocks_commits commands made number reads ++ block_commits commands (made ++ blocks_commits commands made number reads) (number + length reads) read
 unfolding blocks_commits
-commits_push quantum commands made number [] read =
+commits_push commands made number [] read =
     let at : number + 0 ≡ number = omega arith in
-    append-nil (block_commits quantum commands made number read)
-    ∙ ap (λ (l : List Commit). block_commits quantum commands l number read) (sym (append-nil made))
-    ∙ ap (λ (n : ℕ). block_commits quantum commands (made ++ []) n read) (sym at)
-commits_push quantum commands made number (r ∷ reads) read =
-    let commits = block_commits quantum commands made number r in
-    let rest = blocks_commits quantum commands (made ++ commits) (number + 1) reads in
+    append-nil (block_commits commands made number read)
+    ∙ ap (λ (l : List Commit). block_commits commands l number read) (sym (append-nil made))
+    ∙ ap (λ (n : ℕ). block_commits commands (made ++ []) n read) (sym at)
+commits_push commands made number (r ∷ reads) read =
+    let commits = block_commits commands made number r in
+    let rest = blocks_commits commands (made ++ commits) (number + 1) reads in
     let at : (number + 1) + length reads ≡ number + suc (length reads) = omega arith in
-    ap (λ (l : List Commit). commits ++ l) (commits_push quantum commands (made ++ commits) (number + 1) reads read)
-    ∙ sym (append_assoc commits rest (block_commits quantum commands ((made ++ commits) ++ rest) ((number + 1) + length reads) read))
-    ∙ ap (λ (l : List Commit). (commits ++ rest) ++ block_commits quantum commands l ((number + 1) + length reads) read) (append_assoc made commits rest)
-    ∙ ap (λ (n : ℕ). (commits ++ rest) ++ block_commits quantum commands (made ++ (commits ++ rest)) n read) at
+    ap (λ (l : List Commit). commits ++ l) (commits_push commands (made ++ commits) (number + 1) reads read)
+    ∙ sym (append_assoc commits rest (block_commits commands ((made ++ commits) ++ rest) ((number + 1) + length reads) read))
+    ∙ ap (λ (l : List Commit). (commits ++ rest) ++ block_commits commands l ((number + 1) + length reads) read) (append_assoc made commits rest)
+    ∙ ap (λ (n : ℕ). (commits ++ rest) ++ block_commits commands (made ++ (commits ++ rest)) n read) at
 
-captures_push : (quantum : ℤ) (commands : List BlockCommand) (made : List Commit) (number : ℕ) (reads : List BlockRead) (read : BlockRead)
-    → blocks_captures quantum commands made number (reads ++ read ∷ [])
-    ≡ blocks_captures quantum commands made number reads ++ capture_of audio_taken (made ++ blocks_commits quantum commands made number reads) read.pair ∷ []
+captures_push : (commands : List BlockCommand) (made : List Commit) (number : ℕ) (reads : List BlockRead) (read : BlockRead)
+    → blocks_captures commands made number (reads ++ read ∷ [])
+    ≡ blocks_captures commands made number reads ++ capture_of audio_taken (made ++ blocks_commits commands made number reads) read.pair ∷ []
 unfolding blocks_captures blocks_commits
-captures_push quantum commands made number [] read = ap (λ (l : List Commit). capture_of audio_taken l read.pair ∷ []) (sym (append-nil made))
-captures_push quantum commands made number (r ∷ reads) read =
-    let commits = block_commits quantum commands made number r in
-    let rest = blocks_commits quantum commands (made ++ commits) (number + 1) reads in
+captures_push commands made number [] read = ap (λ (l : List Commit). capture_of audio_taken l read.pair ∷ []) (sym (append-nil made))
+captures_push commands made number (r ∷ reads) read =
+    let commits = block_commits commands made number r in
+    let rest = blocks_commits commands (made ++ commits) (number + 1) reads in
     ap (λ (l : List Capture). capture_of audio_taken made r.pair ∷ l)
-    (captures_push quantum commands (made ++ commits) (number + 1) reads read
-    ∙ ap (λ (l : List Commit). blocks_captures quantum commands (made ++ commits) (number + 1) reads ++ capture_of audio_taken l read.pair ∷ []) (append_assoc made commits rest))
+    (captures_push commands (made ++ commits) (number + 1) reads read
+    ∙ ap (λ (l : List Commit). blocks_captures commands (made ++ commits) (number + 1) reads ++ capture_of audio_taken l read.pair ∷ []) (append_assoc made commits rest))
 
-captures_count : (quantum : ℤ) (commands : List BlockCommand) (made : List Commit) (number : ℕ) (reads : List BlockRead) → length (blocks_captures quantum commands made number reads) ≡ length reads
+captures_count : (commands : List BlockCommand) (made : List Commit) (number : ℕ) (reads : List BlockRead) → length (blocks_captures commands made number reads) ≡ length reads
 unfolding blocks_captures
-captures_count quantum commands made number [] = refl
-captures_count quantum commands made number (r ∷ reads) = ap suc (captures_count quantum commands (made ++ block_commits quantum commands made number r) (number + 1) reads)
+captures_count commands made number [] = refl
+captures_count commands made number (r ∷ reads) = ap suc (captures_count commands (made ++ block_commits commands made number r) (number + 1) reads)
 
-clicks_first : (quantum : ℤ) (captures : List Capture) (capture : Capture) (reads : List BlockRead) → length captures ≡ length reads
-    → clicks_of_blocks quantum (captures ++ capture ∷ []) reads ≡ clicks_of_blocks quantum captures reads
-clicks_first quantum [] capture [] e = refl
-clicks_first quantum [] capture (r ∷ reads) e = absurd (omega (arith, e))
-clicks_first quantum (c ∷ captures) capture [] e = absurd (omega (arith, e))
-clicks_first quantum (c ∷ captures) capture (r ∷ reads) e = ap (λ (l : List (List Click)). clicks_in c.shown r.block quantum ∷ l) (clicks_first quantum captures capture reads (omega (arith, e)))
+clicks_first : (captures : List Capture) (capture : Capture) (reads : List BlockRead) → length captures ≡ length reads
+    → clicks_of_blocks (captures ++ capture ∷ []) reads ≡ clicks_of_blocks captures reads
+clicks_first [] capture [] e = refl
+clicks_first [] capture (r ∷ reads) e = absurd (omega (arith, e))
+clicks_first (c ∷ captures) capture [] e = absurd (omega (arith, e))
+clicks_first (c ∷ captures) capture (r ∷ reads) e = ap (λ (l : List (List Click)). clicks_in c.shown r.block ∷ l) (clicks_first captures capture reads (omega (arith, e)))
 
-clicks_push : (quantum : ℤ) (captures : List Capture) (capture : Capture) (reads : List BlockRead) (read : BlockRead) → length captures ≡ length reads
-    → clicks_of_blocks quantum (captures ++ capture ∷ []) (reads ++ read ∷ []) ≡ clicks_of_blocks quantum captures reads ++ clicks_in capture.shown read.block quantum ∷ []
-clicks_push quantum [] capture [] read e = refl
-clicks_push quantum [] capture (r ∷ reads) read e = absurd (omega (arith, e))
-clicks_push quantum (c ∷ captures) capture [] read e = absurd (omega (arith, e))
-clicks_push quantum (c ∷ captures) capture (r ∷ reads) read e = ap (λ (l : List (List Click)). clicks_in c.shown r.block quantum ∷ l) (clicks_push quantum captures capture reads read (omega (arith, e)))
+clicks_push : (captures : List Capture) (capture : Capture) (reads : List BlockRead) (read : BlockRead) → length captures ≡ length reads
+    → clicks_of_blocks (captures ++ capture ∷ []) (reads ++ read ∷ []) ≡ clicks_of_blocks captures reads ++ clicks_in capture.shown read.block ∷ []
+clicks_push [] capture [] read e = refl
+clicks_push [] capture (r ∷ reads) read e = absurd (omega (arith, e))
+clicks_push (c ∷ captures) capture [] read e = absurd (omega (arith, e))
+clicks_push (c ∷ captures) capture (r ∷ reads) read e = ap (λ (l : List (List Click)). clicks_in c.shown r.block ∷ l) (clicks_push captures capture reads read (omega (arith, e)))
 
-clicks_count : (quantum : ℤ) (captures : List Capture) (reads : List BlockRead) → length captures ≡ length reads → length (clicks_of_blocks quantum captures reads) ≡ length reads
-clicks_count quantum [] [] e = refl
-clicks_count quantum [] (r ∷ reads) e = absurd (omega (arith, e))
-clicks_count quantum (c ∷ captures) [] e = absurd (omega (arith, e))
-clicks_count quantum (c ∷ captures) (r ∷ reads) e = ap suc (clicks_count quantum captures reads (omega (arith, e)))
+clicks_count : (captures : List Capture) (reads : List BlockRead) → length captures ≡ length reads → length (clicks_of_blocks captures reads) ≡ length reads
+clicks_count [] [] e = refl
+clicks_count [] (r ∷ reads) e = absurd (omega (arith, e))
+clicks_count (c ∷ captures) [] e = absurd (omega (arith, e))
+clicks_count (c ∷ captures) (r ∷ reads) e = ap suc (clicks_count captures reads (omega (arith, e)))
 
 fresh_push : (seen : List Pair) (reads : List BlockRead) (read : BlockRead) → AreFresh seen reads → NoneIsNewer read.look (seen ++ pairs_of reads) → read.look ≤ read.pair.0 → AreFresh seen (reads ++ read ∷ [])
 fresh_push seen [] read fresh newest answered = (subst (NoneIsNewer read.look) (append-nil seen) newest, answered, tt)
@@ -118,14 +118,14 @@ none_left (Some a) (Some b) last = (ap (λ (c : AudioContents). Some c) last.sta
 -- ---- a block was given, and a state captured for it
 
 -- what is said of the blocks so far and of this one, whether its clicks are played or not
-record HasGiven (quantum : ℤ) (commands : List BlockCommand) (first now : AudioView) (told told_now : Option AudioContents) (reads : List Capture) (plays : List (List Click)) (played : List BlockRead) (read : BlockRead) : Type 0 where
+record HasGiven (commands : List BlockCommand) (first now : AudioView) (told told_now : Option AudioContents) (reads : List Capture) (plays : List (List Click)) (played : List BlockRead) (read : BlockRead) : Type 0 where
   each_block : All IsBlock (blocks_of (played ++ read ∷ []))
   grown : BothTell (HasPlayed (blocks_of (played ++ read ∷ [])) plays) told told_now
   seen : now.seen ≡ first.seen ++ pairs_of (played ++ read ∷ [])
   looks : now.looks ≡ first.looks ++ looks_of (played ++ read ∷ [])
   fresh : AreFresh first.seen (played ++ read ∷ [])
   never_falls : NumbersNeverFall first.seen → NumbersNeverFall now.seen
-  reads_are : reads ≡ blocks_captures quantum commands first.made 1 (played ++ read ∷ [])
+  reads_are : reads ≡ blocks_captures commands first.made 1 (played ++ read ∷ [])
 
 captured : (before after : AudioView) (capture : Capture) (read : HasReadAudio before after capture.number capture.state capture.shown) → capture ≡ capture_of audio_taken before.made (capture.number, read.row)
 unfolding capture_of
@@ -133,11 +133,11 @@ captured before after capture read =
     let shown_is : capture.shown ≡ shown_over (last_of before.made) (state_of_words read.row).audio (state_of_words read.row) = read.shown_is ∙ ap (λ (s : State). shown_over (last_of before.made) s.audio s) read.state_is in
     λ i. record { number = capture.number; state = read.state_is i; shown = shown_is i }
 
-has_given : (quantum : ℤ) (commands : List BlockCommand) (number : ℕ) (first before after : AudioView) (told one two : Option AudioContents) (block : Block) (capture : Capture) (reads reads_then : List Capture) (commits : List Commit) (plays : List (List Click))
-    → (playing : IsPlaying quantum commands number first before told one reads commits plays) → IsBlock block → BothTell (GivesBlock block) one two
+has_given : (commands : List BlockCommand) (number : ℕ) (first before after : AudioView) (told one two : Option AudioContents) (block : Block) (capture : Capture) (reads reads_then : List Capture) (commits : List Commit) (plays : List (List Click))
+    → (playing : IsPlaying commands number first before told one reads commits plays) → IsBlock block → BothTell (GivesBlock block) one two
     → (read : HasReadAudio before after capture.number capture.state capture.shown) → reads_then ≡ reads ++ capture ∷ []
-    → HasGiven quantum commands first after told two reads_then plays playing.played (record { block = block; look = read.look; pair = (capture.number, read.row) })
-has_given quantum commands number first before after told one two block capture reads reads_then commits plays playing is_block gives read reads_are = record {
+    → HasGiven commands first after told two reads_then plays playing.played (record { block = block; look = read.look; pair = (capture.number, read.row) })
+has_given commands number first before after told one two block capture reads reads_then commits plays playing is_block gives read reads_are = record {
   each_block = subst (All IsBlock) (sym (map-append (λ (r : BlockRead). r.block) playing.played (this ∷ []))) (All-push IsBlock (blocks_of playing.played) block playing.each_block is_block);
   grown = subst (λ (l : List Block). BothTell (HasPlayed l plays) told two) (sym (map-append (λ (r : BlockRead). r.block) playing.played (this ∷ []))) (given_then (blocks_of playing.played) plays block told one two playing.grown gives);
   seen = read.seen ∙ ap (λ (l : List Pair). l ++ this.pair ∷ []) playing.seen ∙ append_assoc first.seen (pairs_of playing.played) (this.pair ∷ [])
@@ -147,38 +147,38 @@ has_given quantum commands number first before after told one two block capture 
   fresh = fresh_push first.seen playing.played this playing.fresh (subst (NoneIsNewer this.look) playing.seen read.look_is_not_older) read.look_was_answered;
   never_falls = λ _. read.never_falls;
   reads_are = reads_are ∙ ap (λ (l : List Capture). l ++ capture ∷ []) playing.reads_are
-      ∙ ap (λ (c : Capture). blocks_captures quantum commands first.made 1 playing.played ++ c ∷ [])
+      ∙ ap (λ (c : Capture). blocks_captures commands first.made 1 playing.played ++ c ∷ [])
       (captured before after capture read ∙ ap (λ (l : List Commit). capture_of audio_taken l this.pair) (playing.made ∙ ap (λ (l : List Commit). first.made ++ l) playing.commits_are))
-      ∙ sym (captures_push quantum commands first.made 1 playing.played this);
+      ∙ sym (captures_push commands first.made 1 playing.played this);
 }
   where
     this : BlockRead
     this = record { block = block; look = read.look; pair = (capture.number, read.row) }
 
 -- the commits made in this block
-block_commits_are : (quantum : ℤ) (commands : List BlockCommand) (number n : ℕ) (read : BlockRead) (made before : List Commit) (state : State) → number ≡ n → made ≡ before → state ≡ state_of_words read.pair.1
-    → commits_on quantum read.block.start state made (acts_in number commands) ≡ block_commits quantum commands before n read
+block_commits_are : (commands : List BlockCommand) (number n : ℕ) (read : BlockRead) (made before : List Commit) (state : State) → number ≡ n → made ≡ before → state ≡ state_of_words read.pair.1
+    → commits_on read.block.start state made (acts_in number commands) ≡ block_commits commands before n read
 unfolding block_commits
-block_commits_are quantum commands number n read made before state number_is made_is state_is =
-    ap (λ (s : State). commits_on quantum read.block.start s made (acts_in number commands)) state_is
-    ∙ ap (λ (l : List Commit). commits_on quantum read.block.start (state_of_words read.pair.1) l (acts_in number commands)) made_is
-    ∙ sym (commits_of_pair quantum read.block.start read.pair before (acts_in number commands))
-    ∙ ap (λ (k : ℕ). act_commits quantum read.block.start read.pair before (acts_in k commands)) number_is
+block_commits_are commands number n read made before state number_is made_is state_is =
+    ap (λ (s : State). commits_on read.block.start s made (acts_in number commands)) state_is
+    ∙ ap (λ (l : List Commit). commits_on read.block.start (state_of_words read.pair.1) l (acts_in number commands)) made_is
+    ∙ sym (commits_of_pair read.block.start read.pair before (acts_in number commands))
+    ∙ ap (λ (k : ℕ). act_commits read.block.start read.pair before (acts_in k commands)) number_is
 
 -- the captures are as many as the blocks
-reads_count : (quantum : ℤ) (commands : List BlockCommand) (number : ℕ) (first now : AudioView) (told told_now : Option AudioContents) (reads : List Capture) (commits : List Commit) (plays : List (List Click))
-    → (playing : IsPlaying quantum commands number first now told told_now reads commits plays) → length reads ≡ length playing.played
-reads_count quantum commands number first now told told_now reads commits plays playing = ap length playing.reads_are ∙ captures_count quantum commands first.made 1 playing.played
+reads_count : (commands : List BlockCommand) (number : ℕ) (first now : AudioView) (told told_now : Option AudioContents) (reads : List Capture) (commits : List Commit) (plays : List (List Click))
+    → (playing : IsPlaying commands number first now told told_now reads commits plays) → length reads ≡ length playing.played
+reads_count commands number first now told told_now reads commits plays playing = ap length playing.reads_are ∙ captures_count commands first.made 1 playing.played
 
 -- ---- a block was played
 
-pub played_one : (quantum : ℤ) (commands : List BlockCommand) (number : ℕ) (first before between after : AudioView) (told one two three : Option AudioContents) (block : Block) (capture : Capture)
+pub played_one : (commands : List BlockCommand) (number : ℕ) (first before between after : AudioView) (told one two three : Option AudioContents) (block : Block) (capture : Capture)
     (reads reads_then : List Capture) (commits commits_then : List Commit) (plays plays_then : List (List Click)) (clicks : List Click)
     → IsBlock block → BothTell (GivesBlock block) one two → HasReadAudio before between capture.number capture.state capture.shown → reads_then ≡ reads ++ capture ∷ []
-    → clicks ≡ clicks_in capture.shown block quantum → BothTell (PlaysOne clicks) two three → plays_then ≡ plays ++ clicks ∷ []
-    → HasCommitted quantum block.start number commands capture.state between after commits commits_then
-    → IsPlaying quantum commands number first before told one reads commits plays → IsPlaying quantum commands (number + 1) first after told three reads_then commits_then plays_then
-played_one quantum commands number first before between after told one two three block capture reads reads_then commits commits_then plays plays_then clicks is_block gives read reads_are clicks_are done plays_are committed playing = record {
+    → clicks ≡ clicks_in capture.shown block → BothTell (PlaysOne clicks) two three → plays_then ≡ plays ++ clicks ∷ []
+    → HasCommitted block.start number commands capture.state between after commits commits_then
+    → IsPlaying commands number first before told one reads commits plays → IsPlaying commands (number + 1) first after told three reads_then commits_then plays_then
+played_one commands number first before between after told one two three block capture reads reads_then commits commits_then plays plays_then clicks is_block gives read reads_are clicks_are done plays_are committed playing = record {
   played = playing.played ++ this ∷ [];
   next = ap (λ (n : ℕ). n + 1) playing.next ∙ ap (λ (n : ℕ). n + 1) (sym (length-append playing.played (this ∷ [])));
   each_block = given.each_block;
@@ -188,49 +188,45 @@ played_one quantum commands number first before between after told one two three
   fresh = given.fresh;
   never_falls = λ never. subst NumbersNeverFall (sym committed.seen) (given.never_falls never);
   reads_are = given.reads_are;
-  plays_are = plays_are ∙ ap (λ (l : List (List Click)). l ++ clicks ∷ []) playing.plays_are ∙ ap (λ (l : List Click). clicks_of_blocks quantum reads playing.played ++ l ∷ []) clicks_are
-      ∙ sym (clicks_push quantum reads capture playing.played this (reads_count quantum commands number first before told one reads commits plays playing))
-      ∙ ap (λ (l : List Capture). clicks_of_blocks quantum l (playing.played ++ this ∷ [])) (sym reads_are);
-  commits_are = committed.commits_are ∙ ap (λ (l : List Commit). l ++ news) playing.commits_are ∙ ap (λ (l : List Commit). blocks_commits quantum commands first.made 1 playing.played ++ l) news_are
-      ∙ sym (commits_push quantum commands first.made 1 playing.played this);
+  plays_are = plays_are ∙ ap (λ (l : List (List Click)). l ++ clicks ∷ []) playing.plays_are ∙ ap (λ (l : List Click). clicks_of_blocks reads playing.played ++ l ∷ []) clicks_are
+      ∙ sym (clicks_push reads capture playing.played this (reads_count commands number first before told one reads commits plays playing))
+      ∙ ap (λ (l : List Capture). clicks_of_blocks l (playing.played ++ this ∷ [])) (sym reads_are);
+  commits_are = committed.commits_are ∙ ap (λ (l : List Commit). l ++ news) playing.commits_are ∙ ap (λ (l : List Commit). blocks_commits commands first.made 1 playing.played ++ l) news_are
+      ∙ sym (commits_push commands first.made 1 playing.played this);
   made = committed.made_are ∙ ap (λ (l : List Commit). l ++ news) (read.commits_stay ∙ playing.made) ∙ append_assoc first.made commits news ∙ ap (λ (l : List Commit). first.made ++ l) (sym committed.commits_are);
   few = enough (length commits_then) (length commits) (length (acts_in number commands)) (length (commands_before number commands)) (length (commands_before (number + 1) commands))
-      (made_by quantum block.start number commands capture.state between after commits commits_then committed).1 (before-next number commands) playing.few;
+      (made_by block.start number commands capture.state between after commits commits_then committed).1 (before-next number commands) playing.few;
 }
   where
     this : BlockRead
     this = record { block = block; look = read.look; pair = (capture.number, read.row) }
 
-    given : HasGiven quantum commands first between told two reads_then plays playing.played this
-    given = has_given quantum commands number first before between told one two block capture reads reads_then commits plays playing is_block gives read reads_are
+    given : HasGiven commands first between told two reads_then plays playing.played this
+    given = has_given commands number first before between told one two block capture reads reads_then commits plays playing is_block gives read reads_are
 
     news : List Commit
-    news = commits_on quantum block.start capture.state between.made (acts_in number commands)
+    news = commits_on block.start capture.state between.made (acts_in number commands)
 
-    before_are : between.made ≡ first.made ++ blocks_commits quantum commands first.made 1 playing.played
+    before_are : between.made ≡ first.made ++ blocks_commits commands first.made 1 playing.played
     before_are = read.commits_stay ∙ playing.made ∙ ap (λ (l : List Commit). first.made ++ l) playing.commits_are
 
     enough : (a b c d e : ℕ) → a ≡ b + c → e ≡ d + c → b ≤ d → a ≤ e
     enough a b c d e x y z = omega (arith, x, y, z)
 
-    news_are : news ≡ block_commits quantum commands (first.made ++ blocks_commits quantum commands first.made 1 playing.played) (1 + length playing.played) this
-    news_are = block_commits_are quantum commands number (1 + length playing.played) this between.made (first.made ++ blocks_commits quantum commands first.made 1 playing.played) capture.state
+    news_are : news ≡ block_commits commands (first.made ++ blocks_commits commands first.made 1 playing.played) (1 + length playing.played) this
+    news_are = block_commits_are commands number (1 + length playing.played) this between.made (first.made ++ blocks_commits commands first.made 1 playing.played) capture.state
         (omega (arith, playing.next)) before_are read.state_is
 
--- the same with the quantum and the start as they are stored
-pub played_stored : (quantum quantum_clicks quantum_stored start_stored : ℤ) (commands : List BlockCommand) (number : ℕ) (first before between after : AudioView) (told one two three : Option AudioContents) (block : Block) (capture : Capture)
+-- the same with the start as it is stored
+pub played_stored : (start_stored : ℤ) (commands : List BlockCommand) (number : ℕ) (first before between after : AudioView) (told one two three : Option AudioContents) (block : Block) (capture : Capture)
     (reads reads_then : List Capture) (commits commits_then : List Commit) (plays plays_then : List (List Click)) (clicks : List Click)
-    → quantum_clicks ≡ quantum → quantum_stored ≡ quantum → start_stored ≡ block.start
-    → IsBlock block → BothTell (GivesBlock block) one two → HasReadAudio before between capture.number capture.state capture.shown → reads_then ≡ reads ++ capture ∷ []
-    → clicks ≡ clicks_in capture.shown block quantum_clicks → BothTell (PlaysOne clicks) two three → plays_then ≡ plays ++ clicks ∷ []
-    → HasCommitted quantum_stored start_stored number commands capture.state between after commits commits_then
-    → IsPlaying quantum commands number first before told one reads commits plays → IsPlaying quantum commands (number + 1) first after told three reads_then commits_then plays_then
-played_stored quantum quantum_clicks quantum_stored start_stored commands number first before between after told one two three block capture reads reads_then commits commits_then plays plays_then clicks clicks_is quantum_is start_is is_block gives read reads_are clicks_are done plays_are committed playing =
-    played_one quantum commands number first before between after told one two three block capture reads reads_then commits commits_then plays plays_then clicks is_block gives read reads_are
-    (clicks_are ∙ ap (λ (q : ℤ). clicks_in capture.shown block q) clicks_is) done plays_are
-    (subst (λ (q : ℤ). HasCommitted q block.start number commands capture.state between after commits commits_then) quantum_is
-    (subst (λ (at : ℤ). HasCommitted quantum_stored at number commands capture.state between after commits commits_then) start_is committed))
-    playing
+    → start_stored ≡ block.start → IsBlock block → BothTell (GivesBlock block) one two → HasReadAudio before between capture.number capture.state capture.shown → reads_then ≡ reads ++ capture ∷ []
+    → clicks ≡ clicks_in capture.shown block → BothTell (PlaysOne clicks) two three → plays_then ≡ plays ++ clicks ∷ []
+    → HasCommitted start_stored number commands capture.state between after commits commits_then
+    → IsPlaying commands number first before told one reads commits plays → IsPlaying commands (number + 1) first after told three reads_then commits_then plays_then
+played_stored start_stored commands number first before between after told one two three block capture reads reads_then commits commits_then plays plays_then clicks start_is is_block gives read reads_are clicks_are done plays_are committed playing =
+    played_one commands number first before between after told one two three block capture reads reads_then commits commits_then plays plays_then clicks is_block gives read reads_are clicks_are done plays_are
+    (subst (λ (at : ℤ). HasCommitted at number commands capture.state between after commits commits_then) start_is committed) playing
 
 pub mapped_push : {A B : Type 0} (f : A → B) (xs ys : List A) (x : A) → ys ≡ xs ++ x ∷ [] → map f ys ≡ map f xs ++ f x ∷ []
 mapped_push f xs ys x is = ap (map f) is ∙ map-append f xs (x ∷ [])
@@ -238,10 +234,10 @@ mapped_push f xs ys x is = ap (map f) is ∙ map-append f xs (x ∷ [])
 -- ---- the run has ended
 
 -- where it ends between two blocks
-ended_run : (quantum : ℤ) (commands : List BlockCommand) (number most : ℕ) (first now : AudioView) (told told_now : Option AudioContents) (reads : List Capture) (commits : List Commit) (plays : List (List Click)) (failed : Bool)
-    → IsPlaying quantum commands number first now told told_now reads commits plays → ((n : ℕ) → number ≡ n + 1 → n ≤ most) → (failed ≡ false → (n : ℕ) → number ≡ n + 1 → n < most → HasNoneLeft told_now)
-    → IsAudioRun quantum most commands first now told told_now reads commits plays failed
-ended_run quantum commands number most first now told told_now reads commits plays failed playing few ended = record {
+ended_run : (commands : List BlockCommand) (number most : ℕ) (first now : AudioView) (told told_now : Option AudioContents) (reads : List Capture) (commits : List Commit) (plays : List (List Click)) (failed : Bool)
+    → IsPlaying commands number first now told told_now reads commits plays → ((n : ℕ) → number ≡ n + 1 → n ≤ most) → (failed ≡ false → (n : ℕ) → number ≡ n + 1 → n < most → HasNoneLeft told_now)
+    → IsAudioRun most commands first now told told_now reads commits plays failed
+ended_run commands number most first now told told_now reads commits plays failed playing few ended = record {
   played = playing.played;
   unplayed = [];
   one_unplayed = omega arith;
@@ -254,7 +250,7 @@ ended_run quantum commands number most first now told told_now reads commits pla
   looks = playing.looks ∙ ap (λ (l : List BlockRead). first.looks ++ looks_of l) same;
   fresh = subst (λ (l : List BlockRead). AreFresh first.seen l) same playing.fresh;
   never_falls = playing.never_falls;
-  reads_are = playing.reads_are ∙ ap (λ (l : List BlockRead). blocks_captures quantum commands first.made 1 l) same;
+  reads_are = playing.reads_are ∙ ap (λ (l : List BlockRead). blocks_captures commands first.made 1 l) same;
   plays_are = playing.plays_are;
   commits_are = playing.commits_are;
   made = playing.made;
@@ -264,11 +260,11 @@ ended_run quantum commands number most first now told told_now reads commits pla
     same = sym (append-nil playing.played)
 
 -- the device failed to play a block
-pub failed_to_play : (quantum : ℤ) (commands : List BlockCommand) (number : ℕ) (first before between : AudioView) (told one two three : Option AudioContents) (block : Block) (capture : Capture)
+pub failed_to_play : (commands : List BlockCommand) (number : ℕ) (first before between : AudioView) (told one two three : Option AudioContents) (block : Block) (capture : Capture)
     (reads reads_then : List Capture) (commits : List Commit) (plays : List (List Click))
     → IsBlock block → BothTell (GivesBlock block) one two → HasReadAudio before between capture.number capture.state capture.shown → reads_then ≡ reads ++ capture ∷ [] → three ≡ two
-    → IsPlaying quantum commands number first before told one reads commits plays → IsEnded quantum commands number first between told three reads_then commits plays true
-failed_to_play quantum commands number first before between told one two three block capture reads reads_then commits plays is_block gives read reads_are same playing most le = record {
+    → IsPlaying commands number first before told one reads commits plays → IsEnded commands number first between told three reads_then commits plays true
+failed_to_play commands number first before between told one two three block capture reads reads_then commits plays is_block gives read reads_are same playing most le = record {
   played = playing.played;
   unplayed = this ∷ [];
   one_unplayed = omega arith;
@@ -282,8 +278,8 @@ failed_to_play quantum commands number first before between told one two three b
   fresh = given.fresh;
   never_falls = given.never_falls;
   reads_are = given.reads_are;
-  plays_are = playing.plays_are ∙ sym (clicks_first quantum reads capture playing.played (reads_count quantum commands number first before told one reads commits plays playing))
-      ∙ ap (λ (l : List Capture). clicks_of_blocks quantum l playing.played) (sym reads_are);
+  plays_are = playing.plays_are ∙ sym (clicks_first reads capture playing.played (reads_count commands number first before told one reads commits plays playing))
+      ∙ ap (λ (l : List Capture). clicks_of_blocks l playing.played) (sym reads_are);
   commits_are = playing.commits_are;
   made = read.commits_stay ∙ playing.made;
 }
@@ -291,39 +287,38 @@ failed_to_play quantum commands number first before between told one two three b
     this : BlockRead
     this = record { block = block; look = read.look; pair = (capture.number, read.row) }
 
-    given : HasGiven quantum commands first between told two reads_then plays playing.played this
-    given = has_given quantum commands number first before between told one two block capture reads reads_then commits plays playing is_block gives read reads_are
+    given : HasGiven commands first between told two reads_then plays playing.played this
+    given = has_given commands number first before between told one two block capture reads reads_then commits plays playing is_block gives read reads_are
 
 -- no block is left
-pub has_closed : (quantum : ℤ) (commands : List BlockCommand) (number : ℕ) (first now : AudioView) (told one two : Option AudioContents) (reads : List Capture) (commits : List Commit) (plays : List (List Click))
-    → BothTell IsAtLast one two → IsPlaying quantum commands number first now told one reads commits plays → IsEnded quantum commands number first now told two reads commits plays false
-has_closed quantum commands number first now told one two reads commits plays last playing most le =
-    ended_run quantum commands number most first now told two reads commits plays false
-    (subst (λ (o : Option AudioContents). IsPlaying quantum commands number first now told o reads commits plays) (sym (none_left one two last).0) playing)
+pub has_closed : (commands : List BlockCommand) (number : ℕ) (first now : AudioView) (told one two : Option AudioContents) (reads : List Capture) (commits : List Commit) (plays : List (List Click))
+    → BothTell IsAtLast one two → IsPlaying commands number first now told one reads commits plays → IsEnded commands number first now told two reads commits plays false
+has_closed commands number first now told one two reads commits plays last playing most le =
+    ended_run commands number most first now told two reads commits plays false
+    (subst (λ (o : Option AudioContents). IsPlaying commands number first now told o reads commits plays) (sym (none_left one two last).0) playing)
     (λ n is. omega (arith, le, is)) (λ _ _ _ _. (none_left one two last).1)
 
 -- the device failed to give one
-pub has_failed : (quantum : ℤ) (commands : List BlockCommand) (number : ℕ) (first now : AudioView) (told one two : Option AudioContents) (reads : List Capture) (commits : List Commit) (plays : List (List Click))
-    → two ≡ one → IsPlaying quantum commands number first now told one reads commits plays → IsEnded quantum commands number first now told two reads commits plays true
-has_failed quantum commands number first now told one two reads commits plays same playing most le =
-    ended_run quantum commands number most first now told two reads commits plays true
-    (subst (λ (o : Option AudioContents). IsPlaying quantum commands number first now told o reads commits plays) (sym same) playing)
+pub has_failed : (commands : List BlockCommand) (number : ℕ) (first now : AudioView) (told one two : Option AudioContents) (reads : List Capture) (commits : List Commit) (plays : List (List Click))
+    → two ≡ one → IsPlaying commands number first now told one reads commits plays → IsEnded commands number first now told two reads commits plays true
+has_failed commands number first now told one two reads commits plays same playing most le =
+    ended_run commands number most first now told two reads commits plays true
+    (subst (λ (o : Option AudioContents). IsPlaying commands number first now told o reads commits plays) (sym same) playing)
     (λ n is. omega (arith, le, is)) (λ e _ _ _. absurd (true≢false e))
 
--- as many blocks were played as were asked for; the quantum is told as it is stored
-pub has_played_all : (quantum quantum_stored : ℤ) (commands : List BlockCommand) (played most : ℕ) (first now : AudioView) (told told_now : Option AudioContents) (reads : List Capture) (commits : List Commit) (plays : List (List Click))
-    → quantum_stored ≡ quantum → played ≤ most → most ≤ played → IsPlaying quantum_stored commands (played + 1) first now told told_now reads commits plays
-    → IsAudioRun quantum most commands first now told told_now reads commits plays false
-has_played_all quantum quantum_stored commands played most first now told told_now reads commits plays quantum_is few all playing =
-    subst (λ (q : ℤ). IsAudioRun q most commands first now told told_now reads commits plays false) quantum_is
-    (ended_run quantum_stored commands (played + 1) most first now told told_now reads commits plays false playing (λ n is. omega (arith, few, is)) (λ _ n is less. absurd (omega (arith, all, is, less))))
+-- as many blocks were played as were asked for
+pub has_played_all : (commands : List BlockCommand) (played most : ℕ) (first now : AudioView) (told told_now : Option AudioContents) (reads : List Capture) (commits : List Commit) (plays : List (List Click))
+    → played ≤ most → most ≤ played → IsPlaying commands (played + 1) first now told told_now reads commits plays
+    → IsAudioRun most commands first now told told_now reads commits plays false
+has_played_all commands played most first now told told_now reads commits plays few all playing =
+    ended_run commands (played + 1) most first now told told_now reads commits plays false playing (λ n is. omega (arith, few, is)) (λ _ n is less. absurd (omega (arith, all, is, less)))
 
 -- ---- the first block
 
-pub has_begun : (quantum : ℤ) (commands : List BlockCommand) (view : AudioView) (told : Option AudioContents) (reads : List Capture) (commits : List Commit) (plays : List (List Click))
-    → reads ≡ [] → commits ≡ [] → plays ≡ [] → IsPlaying quantum commands 1 view view told told reads commits plays
+pub has_begun : (commands : List BlockCommand) (view : AudioView) (told : Option AudioContents) (reads : List Capture) (commits : List Commit) (plays : List (List Click))
+    → reads ≡ [] → commits ≡ [] → plays ≡ [] → IsPlaying commands 1 view view told told reads commits plays
 unfolding blocks_captures blocks_commits
-has_begun quantum commands view told reads commits plays no_reads no_commits no_plays = record {
+has_begun commands view told reads commits plays no_reads no_commits no_plays = record {
   played = [];
   next = refl;
   each_block = All-nil IsBlock;
@@ -333,7 +328,7 @@ has_begun quantum commands view told reads commits plays no_reads no_commits no_
   fresh = tt;
   never_falls = λ never. never;
   reads_are = no_reads;
-  plays_are = no_plays ∙ ap (λ (l : List Capture). clicks_of_blocks quantum l []) (sym no_reads);
+  plays_are = no_plays ∙ ap (λ (l : List Capture). clicks_of_blocks l []) (sym no_reads);
   commits_are = no_commits;
   made = sym (ap (λ (l : List Commit). view.made ++ l) no_commits ∙ append-nil view.made);
   few = subst (λ (l : List Commit). length l ≤ length (commands_before 1 commands)) (sym no_commits) (omega arith);
@@ -342,13 +337,13 @@ has_begun quantum commands view told reads commits plays no_reads no_commits no_
 -- ---- room
 
 -- for what a block adds to the lists, where there is room for all blocks and commands
-pub room_for_block : (quantum : ℤ) (commands : List BlockCommand) (number : ℕ) (first now : AudioView) (told told_now : Option AudioContents) (reads : List Capture) (commits : List Commit) (plays : List (List Click))
-    → IsPlaying quantum commands number first now told told_now reads commits plays
+pub room_for_block : (commands : List BlockCommand) (number : ℕ) (first now : AudioView) (told told_now : Option AudioContents) (reads : List Capture) (commits : List Commit) (plays : List (List Click))
+    → IsPlaying commands number first now told told_now reads commits plays
     → (length reads + 1 ≡ number) × (length plays + 1 ≡ number) × (length commits + length (acts_in number commands) ≤ length commands)
     × (length now.made + length (acts_in number commands) ≤ length first.made + length commands)
-room_for_block quantum commands number first now told told_now reads commits plays playing =
-    let count = reads_count quantum commands number first now told told_now reads commits plays playing in
-    let played = ap length playing.plays_are ∙ clicks_count quantum reads playing.played count in
+room_for_block commands number first now told told_now reads commits plays playing =
+    let count = reads_count commands number first now told told_now reads commits plays playing in
+    let played = ap length playing.plays_are ∙ clicks_count reads playing.played count in
     let made = ap length playing.made ∙ length-append first.made commits in
     let next = before-next number commands in
     let most = few_before (number + 1) commands in

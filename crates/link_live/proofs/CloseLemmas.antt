@@ -2,7 +2,6 @@
 use Rattle.std.proofs.Common.{◌≡◌, ℕ, ℤ, pos, ◌<◌, ◌≤◌, ◌+◌, ◌^◌, ◌⊎◌, ⊎_elim, Bool, true, false, not, List, [], ◌∷◌, ◌++◌, length, map, Option, None, refl, sym, ap, subst, ◌∙◌, length-append, true≢false, arith}
 use Rattle.std.specs.List.{AllByRecursion}
 use Rattle.std.proofs.lemmas.List.{length-map}
-use Rattle.lk_base.specs.Ranges.{IsQuantum}
 use Rattle.lk_base.specs.declared.block.Click.{Click}
 use Rattle.lk_base.specs.declared.endpoint.Endpoint.{Endpoint}
 use Rattle.lk_outside.specs.Audio.{AudioContents}
@@ -23,7 +22,7 @@ use Rattle.link_text.specs.declared.live_script.AppCommand.{AppCommand}
 use Rattle.link_text.specs.declared.live_script.BlockCommand.{BlockCommand}
 use Rattle.link_text.specs.declared.live_script.LiveScript.{LiveScript}
 use Rattle.link_live.specs.AudioRun.{BlockRead, IsAudioRun, clicks_of_blocks}
-use Rattle.link_live.specs.Headline.{IsLiveRun, LiveSetup, new_audio}
+use Rattle.link_live.specs.Headline.{LiveSetup, new_audio}
 use Rattle.link_live.specs.LiveRun.{EndsLiveRun, IsReady, first_of}
 use Rattle.link_live.specs.Loops.{CanPlay, CanRun, CanTake, HasPlayedBlocks, HasRun, HasTakenCommands}
 use Rattle.link_live.specs.Network.{IsNetworkRun, locals_of}
@@ -48,10 +47,9 @@ can_run bound hub gates config given now most is same gates_are = record {
   bound_to = λ yes. gates_are yes ∙ ap locals_of (sym same ∙ sym (ap (λ (h : HubView). h.config) is));
 }
 
-pub can_play : (quantum stored : ℤ) (blocks : ℕ) (script : LiveScript) (pass : AudioView) (room : Room)
-    → stored ≡ quantum → IsQuantum quantum → IsReady script blocks room → pass ≡ new_audio → CanPlay stored blocks script.blocks.items pass room.audio
-can_play quantum stored blocks script pass room same range ready is = record {
-  range = subst IsQuantum (sym same) range;
+pub can_play : (blocks : ℕ) (script : LiveScript) (pass : AudioView) (room : Room)
+    → IsReady script blocks room → pass ≡ new_audio → CanPlay blocks script.blocks.items pass room.audio
+can_play blocks script pass room ready is = record {
   each = ready.commands;
   numbers = subst (λ (p : AudioView). length p.made + length script.blocks.items < 2 ^ 60) (sym is) (omega (arith, ready.few));
   empty = (ready.reads.0, ready.audio_commits.0, ready.plays.0);
@@ -62,10 +60,9 @@ can_play quantum stored blocks script pass room same range ready is = record {
 abbrev pub new_app : AppView
 new_app = record { seen = []; pushed = []; made = 0; own = None; room = 65535; sole = true }
 
-pub can_take : (quantum stored : ℤ) (blocks : ℕ) (script : LiveScript) (pass : AppView) (room : Room)
-    → stored ≡ quantum → IsQuantum quantum → IsReady script blocks room → pass ≡ new_app → CanTake stored script.apps.items pass room.script
-can_take quantum stored blocks script pass room same range ready is = record {
-  range = subst IsQuantum (sym same) range;
+pub can_take : (blocks : ℕ) (script : LiveScript) (pass : AppView) (room : Room)
+    → IsReady script blocks room → pass ≡ new_app → CanTake script.apps.items pass room.script
+can_take blocks script pass room ready is = record {
   each = ready.apps;
   sole = (ap (λ (p : AppView). p.sole) is, ap (λ (p : AppView). p.made) is, ap (λ (p : AppView). p.own) is, ap (λ (p : AppView). p.pushed) is);
   empty = (ready.captures.0, ready.app_commits.0);
@@ -99,12 +96,12 @@ still_bound bound hub0 hub1 hub2 app told told_then gates gates_then faults faul
 
 -- ---- how it ends
 
-module _ (laws : RunLaws) (best : BestLaw) (config : ConfigValue) (now : ℤ) (most blocks : ℕ) (quantum stored : ℤ) (apps : List AppCommand) (list : List BlockCommand) (late : Option ℤ) (hub0 hub1 hub2 : HubView) (app : AppView) (pass0 pass : AudioView) (end : NetEnd) (clock : ℤ)
+module _ (laws : RunLaws) (best : BestLaw) (config : ConfigValue) (now : ℤ) (most blocks : ℕ) (apps : List AppCommand) (list : List BlockCommand) (late : Option ℤ) (hub0 hub1 hub2 : HubView) (app : AppView) (pass0 pass : AudioView) (end : NetEnd) (clock : ℤ)
     (p0 p1 p2 p3 : Option PortContents) (gates1 gates2 gates3 : List Endpoint) (f0 f1 f2 f3 : ℕ) (a0 a1 : Option AudioContents) (af0 af1 : ℕ) (audio_report : AudioReport) (script_report : ScriptReport)
     (events : List EventValue) (published : List State) (sends posts : List SendingValue) (bound : Bool)
     (hub0_is : hub0 ≡ new_hub config now most) (net : HasRun bound hub0 hub1 p1 p2 gates1 gates2 f1 f2 end)
     (bind_gates : bound ≡ true → gates1 ≡ locals_of config) (bind_works : bound ≡ true → f1 ≡ f0) (bind_fails : bound ≡ false → Rose f0 f1) (bind_contents : p1 ≡ p0)
-    (pass_is : pass0 ≡ new_audio) (hub2_is : hub2 ≡ record hub1 { handed = hub1.handed ++ app ∷ [] }) (clock_is : clock ≡ end.clock) (stored_is : stored ≡ quantum) (opening : IsPaced late (pos 0) now)
+    (pass_is : pass0 ≡ new_audio) (hub2_is : hub2 ≡ record hub1 { handed = hub1.handed ++ app ∷ [] }) (clock_is : clock ≡ end.clock) (opening : IsPaced late (pos 0) now)
     (posts_are : posts ≡ sends) (post_gates : gates3 ≡ gates2) where
   run : IsNetworkRun (new_hub config now most) hub1 p1 p2 end.clock end.failed end.full
   run = subst (λ (h : HubView). IsNetworkRun h hub1 p1 p2 end.clock end.failed end.full) hub0_is net.run
@@ -146,14 +143,14 @@ module _ (laws : RunLaws) (best : BestLaw) (config : ConfigValue) (now : ℤ) (m
   }
 
   abbrev setup : LiveSetup
-  setup = record { config = config; events = most; blocks = blocks; quantum = quantum; apps = apps; block_commands = list }
+  setup = record { config = config; events = most; blocks = blocks; apps = apps; block_commands = list }
 
   net_is : IsNetworkRun (new_hub config now most) hub1 p0 p2 end.clock end.failed end.full
   net_is = subst (λ (o : Option PortContents). IsNetworkRun (new_hub config now most) hub1 o p2 end.clock end.failed end.full) bind_contents run
 
   pub run_ends : (captured failed played full : Bool) → HasEnded hub2 pass clock events published sends full → HasPosted posts end.failed failed p2 p3
       → (failed ≡ false → f3 ≡ f2) → (end.failed ≡ false → failed ≡ true → Rose f2 f3) → (end.failed ≡ true → f3 ≡ f2)
-      → HasPlayedBlocks stored blocks list pass0 pass a0 a1 af0 af1 audio_report played → HasTakenCommands stored late apps app script_report captured
+      → HasPlayedBlocks blocks list pass0 pass a0 a1 af0 af1 audio_report played → HasTakenCommands late apps app script_report captured
       → EndsLiveRun setup late p0 p3 gates3 f0 f3 a0 a1 af0 af1 told (first_of captured failed played full)
   run_ends captured failed played full last posted works fails unbound audio script = record {
     course = record { captured = captured; failed = failed; played = played; full = full };
@@ -162,17 +159,16 @@ module _ (laws : RunLaws) (best : BestLaw) (config : ConfigValue) (now : ℤ) (m
     port_fails = λ e. rose failed fails unbound e;
     audio_works = audio.cause.works;
     audio_fails = audio.cause.fails;
-    run = subst (λ (q : ℤ). IsLiveRun (record setup { quantum = q }) late (record { captured = captured; failed = failed; played = played; full = full }) p0 p3 gates3 a0 a1 told) stored_is
-        (record {
-          recorded =
-              is_recorded laws config now most hub1 (hub1.handed ++ app ∷ []) pass end.clock p0 p2 events published sends end.failed end.full full net_is last_is best late failed p3 gates3 told opening
-              (subst (λ (l : List SendingValue). HasPosted l end.failed failed p2 p3) posts_are posted)
-              (λ e. let before = (posted.all e).0 in post_gates ∙ net.stay ∙ bind_gates (net.cause.works before).0);
-          played =
-              is_audio_part hub2 pass clock events published sends full (record setup { quantum = stored }) played a0 a1 told last
-              (subst (λ (v : AudioView). IsAudioRun stored blocks list v pass a0 a1 audio_report.reads.items audio_report.commits.items (map (λ clicks. clicks.items) audio_report.plays.items) (not played)) pass_is audio.run);
-          taken = is_script_part hub2 app pass clock events published sends full (record setup { quantum = stored }) captured late told last only script;
-        });
+    run = record {
+      recorded =
+          is_recorded laws config now most hub1 (hub1.handed ++ app ∷ []) pass end.clock p0 p2 events published sends end.failed end.full full net_is last_is best late failed p3 gates3 told opening
+          (subst (λ (l : List SendingValue). HasPosted l end.failed failed p2 p3) posts_are posted)
+          (λ e. let before = (posted.all e).0 in post_gates ∙ net.stay ∙ bind_gates (net.cause.works before).0);
+      played =
+          is_audio_part hub2 pass clock events published sends full setup played a0 a1 told last
+          (subst (λ (v : AudioView). IsAudioRun blocks list v pass a0 a1 audio_report.reads.items audio_report.commits.items (map (λ clicks. clicks.items) audio_report.plays.items) (not played)) pass_is audio.run);
+      taken = is_script_part hub2 app pass clock events published sends full setup captured late told last only script;
+    };
   }
     where
       only : hub2.handed ≡ app ∷ []
@@ -184,17 +180,17 @@ module _ (laws : RunLaws) (best : BestLaw) (config : ConfigValue) (now : ℤ) (m
 
 -- ---- how much was played
 
-clicks_few : (quantum : ℤ) (captures : List Capture) (reads : List BlockRead) → length (clicks_of_blocks quantum captures reads) ≤ length reads
-clicks_few quantum [] reads = omega arith
-clicks_few quantum (capture ∷ captures) [] = omega arith
-clicks_few quantum (capture ∷ captures) (read ∷ reads) = let rest = clicks_few quantum captures reads in omega (arith, rest)
+clicks_few : (captures : List Capture) (reads : List BlockRead) → length (clicks_of_blocks captures reads) ≤ length reads
+clicks_few [] reads = omega arith
+clicks_few (capture ∷ captures) [] = omega arith
+clicks_few (capture ∷ captures) (read ∷ reads) = let rest = clicks_few captures reads in omega (arith, rest)
 
 -- no more blocks are played than asked for
-pub plays_few : (quantum : ℤ) (most : ℕ) (commands : List BlockCommand) (before after : AudioView) (told told_then : Option AudioContents)
+pub plays_few : (most : ℕ) (commands : List BlockCommand) (before after : AudioView) (told told_then : Option AudioContents)
     (reads : List Capture) (commits : List Commit) (plays : List (List Click)) (failed : Bool)
-    → IsAudioRun quantum most commands before after told told_then reads commits plays failed → length plays ≤ most
-plays_few quantum most commands before after told told_then reads commits plays failed run =
-    omega (arith, run.few, length-append run.played run.unplayed, clicks_few quantum reads run.played, ap length run.plays_are)
+    → IsAudioRun most commands before after told told_then reads commits plays failed → length plays ≤ most
+plays_few most commands before after told told_then reads commits plays failed run =
+    omega (arith, run.few, length-append run.played run.unplayed, clicks_few reads run.played, ap length run.plays_are)
 
 -- the events of a run are ones that its node can take
 pub all_fit : (bound : Bool) (hub0 hub1 hub2 : HubView) (app : AppView) (given given_then : Option PortContents) (gates gates_then : List Endpoint) (faults faults_then : ℕ) (end : NetEnd) (config : ConfigValue) (now : ℤ) (most : ℕ) (events : List EventValue)

@@ -56,81 +56,81 @@ acts_fit number commands n d less =
 
 -- ---- their commits
 
-pub commits_on-append : (quantum start : ℤ) (state : State) (made : List Commit) (xs ys : List Act)
-    → commits_on quantum start state made (xs ++ ys) ≡ commits_on quantum start state made xs ++ commits_on quantum start state (made ++ commits_on quantum start state made xs) ys
+pub commits_on-append : (start : ℤ) (state : State) (made : List Commit) (xs ys : List Act)
+    → commits_on start state made (xs ++ ys) ≡ commits_on start state made xs ++ commits_on start state (made ++ commits_on start state made xs) ys
 unfolding commits_on
-commits_on-append quantum start state made [] ys = ap (λ (l : List Commit). commits_on quantum start state l ys) (sym (append-nil made))
-commits_on-append quantum start state made (act ∷ xs) ys =
-    let commit = one_commit quantum start state made act in
-    ap (λ (l : List Commit). commit ∷ l) (commits_on-append quantum start state (made ++ commit ∷ []) xs ys
-    ∙ ap (λ (l : List Commit). commits_on quantum start state (made ++ commit ∷ []) xs ++ commits_on quantum start state l ys) (append_assoc made (commit ∷ []) (commits_on quantum start state (made ++ commit ∷ []) xs)))
+commits_on-append start state made [] ys = ap (λ (l : List Commit). commits_on start state l ys) (sym (append-nil made))
+commits_on-append start state made (act ∷ xs) ys =
+    let commit = one_commit start state made act in
+    ap (λ (l : List Commit). commit ∷ l) (commits_on-append start state (made ++ commit ∷ []) xs ys
+    ∙ ap (λ (l : List Commit). commits_on start state (made ++ commit ∷ []) xs ++ commits_on start state l ys) (append_assoc made (commit ∷ []) (commits_on start state (made ++ commit ∷ []) xs)))
 
-pub length-commits_on : (quantum start : ℤ) (state : State) (made : List Commit) (acts : List Act) → length (commits_on quantum start state made acts) ≡ length acts
+pub length-commits_on : (start : ℤ) (state : State) (made : List Commit) (acts : List Act) → length (commits_on start state made acts) ≡ length acts
 unfolding commits_on
-length-commits_on quantum start state made [] = refl
-length-commits_on quantum start state made (act ∷ acts) = ap suc (length-commits_on quantum start state (made ++ one_commit quantum start state made act ∷ []) acts)
+length-commits_on start state made [] = refl
+length-commits_on start state made (act ∷ acts) = ap suc (length-commits_on start state (made ++ one_commit start state made act ∷ []) acts)
 
-pub no_commits : (quantum start : ℤ) (state : State) (made : List Commit) → commits_on quantum start state made [] ≡ []
+pub no_commits : (start : ℤ) (state : State) (made : List Commit) → commits_on start state made [] ≡ []
 unfolding commits_on
-no_commits quantum start state made = refl
+no_commits start state made = refl
 
-pub one_commit_on : (quantum start : ℤ) (state : State) (made : List Commit) (act : Act) → commits_on quantum start state made (act ∷ []) ≡ one_commit quantum start state made act ∷ []
+pub one_commit_on : (start : ℤ) (state : State) (made : List Commit) (act : Act) → commits_on start state made (act ∷ []) ≡ one_commit start state made act ∷ []
 unfolding commits_on
-one_commit_on quantum start state made act = refl
+one_commit_on start state made act = refl
 
 -- they are those of the pair that was captured
-pub commits_of_pair : (quantum start : ℤ) (pair : Pair) (made : List Commit) (acts : List Act) → act_commits quantum start pair made acts ≡ commits_on quantum start (state_of_words pair.1) made acts
+pub commits_of_pair : (start : ℤ) (pair : Pair) (made : List Commit) (acts : List Act) → act_commits start pair made acts ≡ commits_on start (state_of_words pair.1) made acts
 unfolding act_commits commits_on one_commit commit_of_act capture_of
-commits_of_pair quantum start pair made [] = refl
-commits_of_pair quantum start pair made (act ∷ acts) =
-    ap (λ (l : List Commit). commit_of_act quantum act start (capture_of audio_taken made pair) ∷ l)
-    (commits_of_pair quantum start pair (made ++ commit_of_act quantum act start (capture_of audio_taken made pair) ∷ []) acts)
+commits_of_pair start pair made [] = refl
+commits_of_pair start pair made (act ∷ acts) =
+    ap (λ (l : List Commit). commit_of_act act start (capture_of audio_taken made pair) ∷ l)
+    (commits_of_pair start pair (made ++ commit_of_act act start (capture_of audio_taken made pair) ∷ []) acts)
 
 -- ---- the loop over the commands
 
-pub committed_none : (quantum start : ℤ) (number : ℕ) (state : State) (view : AudioView) (commits : List Commit) → HasCommitted quantum start number [] state view view commits commits
-committed_none quantum start number state view commits = record {
+pub committed_none : (start : ℤ) (number : ℕ) (state : State) (view : AudioView) (commits : List Commit) → HasCommitted start number [] state view view commits commits
+committed_none start number state view commits = record {
   seen = refl;
   looks = refl;
   made_are = sym (ap (λ (l : List Commit). view.made ++ l) none ∙ append-nil view.made);
   commits_are = sym (ap (λ (l : List Commit). commits ++ l) none ∙ append-nil commits);
 }
   where
-    none : commits_on quantum start state view.made (acts_in number []) ≡ []
-    none = ap (commits_on quantum start state view.made) (no_acts number) ∙ no_commits quantum start state view.made
+    none : commits_on start state view.made (acts_in number []) ≡ []
+    none = ap (commits_on start state view.made) (no_acts number) ∙ no_commits start state view.made
 
 -- a command of another block
-pub committed_other : (quantum start : ℤ) (number : ℕ) (command : BlockCommand) (state : State) (view : AudioView) (commits : List Commit) → (command.block ≡ number → ⊥)
-    → HasCommitted quantum start number (command ∷ []) state view view commits commits
-committed_other quantum start number command state view commits isnt = record {
+pub committed_other : (start : ℤ) (number : ℕ) (command : BlockCommand) (state : State) (view : AudioView) (commits : List Commit) → (command.block ≡ number → ⊥)
+    → HasCommitted start number (command ∷ []) state view view commits commits
+committed_other start number command state view commits isnt = record {
   seen = refl;
   looks = refl;
   made_are = sym (ap (λ (l : List Commit). view.made ++ l) none ∙ append-nil view.made);
   commits_are = sym (ap (λ (l : List Commit). commits ++ l) none ∙ append-nil commits);
 }
   where
-    none : commits_on quantum start state view.made (acts_in number (command ∷ [])) ≡ []
-    none = ap (commits_on quantum start state view.made) (no_act number command isnt) ∙ no_commits quantum start state view.made
+    none : commits_on start state view.made (acts_in number (command ∷ [])) ≡ []
+    none = ap (commits_on start state view.made) (no_act number command isnt) ∙ no_commits start state view.made
 
 -- a command of this block
-pub committed_one : (quantum start : ℤ) (number : ℕ) (command : BlockCommand) (state : State) (before after : AudioView) (commits commits_then : List Commit) (commit : Commit)
-    → command.block ≡ number → commit ≡ one_commit quantum start state before.made command.act
+pub committed_one : (start : ℤ) (number : ℕ) (command : BlockCommand) (state : State) (before after : AudioView) (commits commits_then : List Commit) (commit : Commit)
+    → command.block ≡ number → commit ≡ one_commit start state before.made command.act
     → after ≡ record before { made = before.made ++ commit ∷ [] } → commits_then ≡ commits ++ commit ∷ []
-    → HasCommitted quantum start number (command ∷ []) state before after commits commits_then
-committed_one quantum start number command state before after commits commits_then commit is commit_is after_is then_is = record {
+    → HasCommitted start number (command ∷ []) state before after commits commits_then
+committed_one start number command state before after commits commits_then commit is commit_is after_is then_is = record {
   seen = ap (λ (v : AudioView). v.seen) after_is;
   looks = ap (λ (v : AudioView). v.looks) after_is;
   made_are = ap (λ (v : AudioView). v.made) after_is ∙ ap (λ (l : List Commit). before.made ++ l) (sym one);
   commits_are = then_is ∙ ap (λ (l : List Commit). commits ++ l) (sym one);
 }
   where
-    one : commits_on quantum start state before.made (acts_in number (command ∷ [])) ≡ commit ∷ []
-    one = ap (commits_on quantum start state before.made) (one_act number command is) ∙ one_commit_on quantum start state before.made command.act ∙ ap (λ (c : Commit). c ∷ []) (sym commit_is)
+    one : commits_on start state before.made (acts_in number (command ∷ [])) ≡ commit ∷ []
+    one = ap (commits_on start state before.made) (one_act number command is) ∙ one_commit_on start state before.made command.act ∙ ap (λ (c : Commit). c ∷ []) (sym commit_is)
 
-pub committed_then : (quantum start : ℤ) (number : ℕ) (xs ys : List BlockCommand) (state : State) (before between after : AudioView) (commits commits_between commits_then : List Commit)
-    → HasCommitted quantum start number xs state before between commits commits_between → HasCommitted quantum start number ys state between after commits_between commits_then
-    → HasCommitted quantum start number (xs ++ ys) state before after commits commits_then
-committed_then quantum start number xs ys state before between after commits commits_between commits_then one two = record {
+pub committed_then : (start : ℤ) (number : ℕ) (xs ys : List BlockCommand) (state : State) (before between after : AudioView) (commits commits_between commits_then : List Commit)
+    → HasCommitted start number xs state before between commits commits_between → HasCommitted start number ys state between after commits_between commits_then
+    → HasCommitted start number (xs ++ ys) state before after commits commits_then
+committed_then start number xs ys state before between after commits commits_between commits_then one two = record {
   seen = two.seen ∙ one.seen;
   looks = two.looks ∙ one.looks;
   made_are = two.made_are ∙ ap (λ (l : List Commit). l ++ later between.made) one.made_are ∙ append_assoc before.made first (later between.made) ∙ ap (λ (l : List Commit). before.made ++ l) (sym both);
@@ -138,40 +138,39 @@ committed_then quantum start number xs ys state before between after commits com
 }
   where
     first : List Commit
-    first = commits_on quantum start state before.made (acts_in number xs)
+    first = commits_on start state before.made (acts_in number xs)
 
     later : List Commit → List Commit
-    later made = commits_on quantum start state made (acts_in number ys)
+    later made = commits_on start state made (acts_in number ys)
 
-    both : commits_on quantum start state before.made (acts_in number (xs ++ ys)) ≡ commits_on quantum start state before.made (acts_in number xs) ++ commits_on quantum start state between.made (acts_in number ys)
-    both = ap (commits_on quantum start state before.made) (acts-append number xs ys) ∙ commits_on-append quantum start state before.made (acts_in number xs) (acts_in number ys)
-        ∙ ap (λ (l : List Commit). commits_on quantum start state before.made (acts_in number xs) ++ commits_on quantum start state l (acts_in number ys)) (sym one.made_are)
+    both : commits_on start state before.made (acts_in number (xs ++ ys)) ≡ commits_on start state before.made (acts_in number xs) ++ commits_on start state between.made (acts_in number ys)
+    both = ap (commits_on start state before.made) (acts-append number xs ys) ∙ commits_on-append start state before.made (acts_in number xs) (acts_in number ys)
+        ∙ ap (λ (l : List Commit). commits_on start state before.made (acts_in number xs) ++ commits_on start state l (acts_in number ys)) (sym one.made_are)
 
 -- one command more of a list
-pub committed_more : (quantum start : ℤ) (number : ℕ) (commands : List BlockCommand) (n : ℕ) (d : BlockCommand) (state state_then : State) (before between after : AudioView) (commits commits_between commits_then : List Commit)
-    → n < length commands → state_then ≡ state → HasCommitted quantum start number (take n commands) state before between commits commits_between
-    → HasCommitted quantum start number (get_or commands n d ∷ []) state_then between after commits_between commits_then → HasCommitted quantum start number (take (n + 1) commands) state before after commits commits_then
-committed_more quantum start number commands n d state state_then before between after commits commits_between commits_then less stays one two =
-    subst (λ (l : List BlockCommand). HasCommitted quantum start number l state before after commits commits_then) (sym (take_more commands n d less))
-    (committed_then quantum start number (take n commands) (get_or commands n d ∷ []) state before between after commits commits_between commits_then one
-    (subst (λ (s : State). HasCommitted quantum start number (get_or commands n d ∷ []) s between after commits_between commits_then) stays two))
+pub committed_more : (start : ℤ) (number : ℕ) (commands : List BlockCommand) (n : ℕ) (d : BlockCommand) (state state_then : State) (before between after : AudioView) (commits commits_between commits_then : List Commit)
+    → n < length commands → state_then ≡ state → HasCommitted start number (take n commands) state before between commits commits_between
+    → HasCommitted start number (get_or commands n d ∷ []) state_then between after commits_between commits_then → HasCommitted start number (take (n + 1) commands) state before after commits commits_then
+committed_more start number commands n d state state_then before between after commits commits_between commits_then less stays one two =
+    subst (λ (l : List BlockCommand). HasCommitted start number l state before after commits commits_then) (sym (take_more commands n d less))
+    (committed_then start number (take n commands) (get_or commands n d ∷ []) state before between after commits commits_between commits_then one
+    (subst (λ (s : State). HasCommitted start number (get_or commands n d ∷ []) s between after commits_between commits_then) stays two))
 
--- all of a list; the quantum and the moment are told as they are stored
-pub committed_all : (quantum quantum_stored start start_stored : ℤ) (number : ℕ) (commands : List BlockCommand) (n : ℕ) (state : State) (before after : AudioView) (commits commits_then : List Commit)
-    → quantum_stored ≡ quantum → start_stored ≡ start → length commands ≤ n
-    → HasCommitted quantum_stored start_stored number (take n commands) state before after commits commits_then → HasCommitted quantum start number commands state before after commits commits_then
-committed_all quantum quantum_stored start start_stored number commands n state before after commits commits_then quantum_is start_is past h =
-    subst (λ (q : ℤ). HasCommitted q start number commands state before after commits commits_then) quantum_is
-    (subst (λ (at : ℤ). HasCommitted quantum_stored at number commands state before after commits commits_then) start_is
-    (subst (λ (l : List BlockCommand). HasCommitted quantum_stored start_stored number l state before after commits commits_then) (take_all n commands past) h))
+-- all of a list; the moment is told as it is stored
+pub committed_all : (start start_stored : ℤ) (number : ℕ) (commands : List BlockCommand) (n : ℕ) (state : State) (before after : AudioView) (commits commits_then : List Commit)
+    → start_stored ≡ start → length commands ≤ n
+    → HasCommitted start_stored number (take n commands) state before after commits commits_then → HasCommitted start number commands state before after commits commits_then
+committed_all start start_stored number commands n state before after commits commits_then start_is past h =
+    subst (λ (at : ℤ). HasCommitted at number commands state before after commits commits_then) start_is
+    (subst (λ (l : List BlockCommand). HasCommitted start_stored number l state before after commits commits_then) (take_all n commands past) h)
 
 -- how many were made
-pub made_by : (quantum start : ℤ) (number : ℕ) (commands : List BlockCommand) (state : State) (before after : AudioView) (commits commits_then : List Commit) → HasCommitted quantum start number commands state before after commits commits_then
+pub made_by : (start : ℤ) (number : ℕ) (commands : List BlockCommand) (state : State) (before after : AudioView) (commits commits_then : List Commit) → HasCommitted start number commands state before after commits commits_then
     → (length after.made ≡ length before.made + length (acts_in number commands)) × (length commits_then ≡ length commits + length (acts_in number commands))
-made_by quantum start number commands state before after commits commits_then h =
-    let count = length-commits_on quantum start state before.made (acts_in number commands) in (
-      ap length h.made_are ∙ length-append before.made (commits_on quantum start state before.made (acts_in number commands)) ∙ ap (λ n. length before.made + n) count,
-      ap length h.commits_are ∙ length-append commits (commits_on quantum start state before.made (acts_in number commands)) ∙ ap (λ n. length commits + n) count,
+made_by start number commands state before after commits commits_then h =
+    let count = length-commits_on start state before.made (acts_in number commands) in (
+      ap length h.made_are ∙ length-append before.made (commits_on start state before.made (acts_in number commands)) ∙ ap (λ n. length before.made + n) count,
+      ap length h.commits_are ∙ length-append commits (commits_on start state before.made (acts_in number commands)) ∙ ap (λ n. length commits + n) count,
     )
 
 -- ---- how many there are before a block
@@ -192,12 +191,12 @@ pub room_for_one : (number : ℕ) (command : BlockCommand) (n most : ℕ) → co
 room_for_one number command n most is fits = let one = ap length (one_act number command is) in omega (arith, one, fits)
 
 -- what is left for a command, where there is room for all
-pub room_at : (quantum start : ℤ) (number : ℕ) (commands : List BlockCommand) (n : ℕ) (d : BlockCommand) (state : State) (before after : AudioView) (commits commits_then : List Commit)
-    → n < length commands → HasCommitted quantum start number (take n commands) state before after commits commits_then
+pub room_at : (start : ℤ) (number : ℕ) (commands : List BlockCommand) (n : ℕ) (d : BlockCommand) (state : State) (before after : AudioView) (commits commits_then : List Commit)
+    → n < length commands → HasCommitted start number (take n commands) state before after commits commits_then
     → (length after.made + length (acts_in number (get_or commands n d ∷ [])) ≤ length before.made + length (acts_in number commands))
     × (length commits_then + length (acts_in number (get_or commands n d ∷ [])) ≤ length commits + length (acts_in number commands))
-room_at quantum start number commands n d state before after commits commits_then less h =
-    let made = made_by quantum start number (take n commands) state before after commits commits_then h in
+room_at start number commands n d state before after commits commits_then less h =
+    let made = made_by start number (take n commands) state before after commits commits_then h in
     let fit = acts_fit number commands n d less in (omega (arith, made.0, fit), omega (arith, made.1, fit))
 
 -- ---- what is shown once a commit was made
@@ -220,9 +219,9 @@ shown_then state shown before after commit number after_is number_is is =
     made_is : after.made ≡ before.made ++ commit ∷ []
     made_is = ap (λ (v : AudioView). v.made) after_is
 
-pub commit_is : (quantum quantum_stored start start_stored : ℤ) (capture : Capture) (made : List Commit) (act : Act) → quantum_stored ≡ quantum → start_stored ≡ start → IsShownWith capture made
-    → commit_of_act quantum_stored act start_stored capture ≡ one_commit quantum start capture.state made act
+pub commit_is : (start start_stored : ℤ) (capture : Capture) (made : List Commit) (act : Act) → start_stored ≡ start → IsShownWith capture made
+    → commit_of_act act start_stored capture ≡ one_commit start capture.state made act
 unfolding commit_of_act one_commit
-commit_is quantum quantum_stored start start_stored capture made act quantum_is start_is shown =
-    ap (λ (q : ℤ). commit_of_act q act start_stored capture) quantum_is ∙ ap (λ (at : ℤ). commit_of_act quantum act at capture) start_is
-    ∙ ap (λ (s : State). commit_between capture.state s (edited_of quantum act start s) start) shown
+commit_is start start_stored capture made act start_is shown =
+    ap (λ (at : ℤ). commit_of_act act at capture) start_is
+    ∙ ap (λ (s : State). commit_between capture.state s (edited_of act start s) start) shown

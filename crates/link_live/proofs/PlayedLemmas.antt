@@ -22,15 +22,15 @@ use Rattle.link_live.specs.Headline.{ArePublished, IsAudioPart, LiveSetup, new_a
 use Rattle.link_live.specs.Report.{ReportValue}
 
 -- what was captured was published
-reads_published : (published : List State) (quantum : ℤ) (commands : List BlockCommand) (made : List Commit) (number : ℕ) (reads : List BlockRead)
+reads_published : (published : List State) (commands : List BlockCommand) (made : List Commit) (number : ℕ) (reads : List BlockRead)
     → AllByRecursion (λ r. get_elem? published r.pair.0 ≡ some (state_of_words r.pair.1)) reads
-    → ArePublished published (blocks_captures quantum commands made number reads)
+    → ArePublished published (blocks_captures commands made number reads)
 unfolding blocks_captures capture_of
-reads_published published quantum commands made number [] all = All-nil (λ (c : Capture). get_elem? published c.number ≡ some c.state)
-reads_published published quantum commands made number (read ∷ reads) all =
+reads_published published commands made number [] all = All-nil (λ (c : Capture). get_elem? published c.number ≡ some c.state)
+reads_published published commands made number (read ∷ reads) all =
     All-cons (λ (c : Capture). get_elem? published c.number ≡ some c.state) (capture_of audio_taken made read.pair)
-    (blocks_captures quantum commands (made ++ block_commits quantum commands made number read) (number + 1) reads) all.0
-    (reads_published published quantum commands (made ++ block_commits quantum commands made number read) (number + 1) reads all.1)
+    (blocks_captures commands (made ++ block_commits commands made number read) (number + 1) reads) all.0
+    (reads_published published commands (made ++ block_commits commands made number read) (number + 1) reads all.1)
 
 -- each pair that was read for a block was published
 blocks_each : (published : List State) (reads : List BlockRead) → WerePublished published (pairs_of reads)
@@ -40,14 +40,14 @@ blocks_each published (read ∷ reads) were = (were 0 read.pair refl, blocks_eac
 
 pub is_audio_part : (hub : HubView) (pass : AudioView) (clock : ℤ) (events : List EventValue) (published : List State) (sends : List SendingValue) (full : Bool) (setup : LiveSetup) (played : Bool) (audio audio_then : Option AudioContents) (report : ReportValue)
     → HasEnded hub pass clock events published sends full
-    → IsAudioRun setup.quantum setup.blocks setup.block_commands new_audio pass audio audio_then report.reads report.audio_commits report.plays (not played)
+    → IsAudioRun setup.blocks setup.block_commands new_audio pass audio audio_then report.reads report.audio_commits report.plays (not played)
     → IsAudioPart setup played full audio audio_then (record report { events = events; published = published })
 is_audio_part hub pass clock events published sends full setup played audio audio_then report last run = record {
   reads = record {
     pass = pass;
     run = run;
     published = subst (λ (l : List Capture). ArePublished published l) (sym run.reads_are)
-        (reads_published published setup.quantum setup.block_commands [] 1 (run.played ++ run.unplayed)
+        (reads_published published setup.block_commands [] 1 (run.played ++ run.unplayed)
         (blocks_each published (run.played ++ run.unplayed) (subst (λ (l : List Pair). WerePublished published l) run.seen last.audio_seen)));
   };
   audio_commits = subst (λ (l : List Commit). AreCarried l events) run.made last.carried;

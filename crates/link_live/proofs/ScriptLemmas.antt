@@ -62,45 +62,45 @@ module _ {A : Type 0} where
 
 -- ---- what is captured and committed
 
-none_captured : (quantum : ℤ) (made : List Commit) (commands : List AppCommand) → commands_captures quantum made commands [] ≡ []
+none_captured : (made : List Commit) (commands : List AppCommand) → commands_captures made commands [] ≡ []
 unfolding commands_captures
-none_captured quantum made [] = refl
-none_captured quantum made (command ∷ commands) = refl
+none_captured made [] = refl
+none_captured made (command ∷ commands) = refl
 
-none_committed : (quantum : ℤ) (made : List Commit) (commands : List AppCommand) → commands_commits quantum made commands [] ≡ []
+none_committed : (made : List Commit) (commands : List AppCommand) → commands_commits made commands [] ≡ []
 unfolding commands_commits
-none_committed quantum made [] = refl
-none_committed quantum made (command ∷ commands) = refl
+none_committed made [] = refl
+none_committed made (command ∷ commands) = refl
 
-commits_more : (quantum : ℤ) (made : List Commit) (commands : List AppCommand) (taken : List Taken) (command : AppCommand) (one : Taken) → IsCommandAt commands (length taken) command
-    → commands_commits quantum made commands (taken ++ one ∷ []) ≡ commands_commits quantum made commands taken ++ commits_of_command quantum (made ++ commands_commits quantum made commands taken) command one
+commits_more : (made : List Commit) (commands : List AppCommand) (taken : List Taken) (command : AppCommand) (one : Taken) → IsCommandAt commands (length taken) command
+    → commands_commits made commands (taken ++ one ∷ []) ≡ commands_commits made commands taken ++ commits_of_command (made ++ commands_commits made commands taken) command one
 unfolding commands_commits
-commits_more quantum made [] taken command one e = absurd (some-ne-none command (sym e))
-commits_more quantum made (c ∷ cs) [] command one e =
-    ap (λ l. commits_of_command quantum made c one ++ l) (none_committed quantum (made ++ commits_of_command quantum made c one) cs)
-    ∙ append-nil (commits_of_command quantum made c one)
-    ∙ ap (λ c. commits_of_command quantum made c one) (some-injective c command e)
-    ∙ ap (λ l. commits_of_command quantum l command one) (sym (append-nil made))
-commits_more quantum made (c ∷ cs) (t ∷ ts) command one e =
-    let first = commits_of_command quantum made c t in
-    let rest = commands_commits quantum (made ++ first) cs ts in
-    ap (λ l. first ++ l) (commits_more quantum (made ++ first) cs ts command one e)
-    ∙ sym (append_assoc first rest (commits_of_command quantum ((made ++ first) ++ rest) command one))
-    ∙ ap (λ l. (first ++ rest) ++ commits_of_command quantum l command one) (append_assoc made first rest)
+commits_more made [] taken command one e = absurd (some-ne-none command (sym e))
+commits_more made (c ∷ cs) [] command one e =
+    ap (λ l. commits_of_command made c one ++ l) (none_committed (made ++ commits_of_command made c one) cs)
+    ∙ append-nil (commits_of_command made c one)
+    ∙ ap (λ c. commits_of_command made c one) (some-injective c command e)
+    ∙ ap (λ l. commits_of_command l command one) (sym (append-nil made))
+commits_more made (c ∷ cs) (t ∷ ts) command one e =
+    let first = commits_of_command made c t in
+    let rest = commands_commits (made ++ first) cs ts in
+    ap (λ l. first ++ l) (commits_more (made ++ first) cs ts command one e)
+    ∙ sym (append_assoc first rest (commits_of_command ((made ++ first) ++ rest) command one))
+    ∙ ap (λ l. (first ++ rest) ++ commits_of_command l command one) (append_assoc made first rest)
 
-captures_more : (quantum : ℤ) (made : List Commit) (commands : List AppCommand) (taken : List Taken) (command : AppCommand) (one : Taken) → IsCommandAt commands (length taken) command
-    → commands_captures quantum made commands (taken ++ one ∷ []) ≡ commands_captures quantum made commands taken ++ capture_of apps_taken (made ++ commands_commits quantum made commands taken) one.pair ∷ []
+captures_more : (made : List Commit) (commands : List AppCommand) (taken : List Taken) (command : AppCommand) (one : Taken) → IsCommandAt commands (length taken) command
+    → commands_captures made commands (taken ++ one ∷ []) ≡ commands_captures made commands taken ++ capture_of apps_taken (made ++ commands_commits made commands taken) one.pair ∷ []
 unfolding commands_captures commands_commits
-captures_more quantum made [] taken command one e = absurd (some-ne-none command (sym e))
-captures_more quantum made (c ∷ cs) [] command one e =
-    ap (λ l. capture_of apps_taken made one.pair ∷ l) (none_captured quantum (made ++ commits_of_command quantum made c one) cs)
+captures_more made [] taken command one e = absurd (some-ne-none command (sym e))
+captures_more made (c ∷ cs) [] command one e =
+    ap (λ l. capture_of apps_taken made one.pair ∷ l) (none_captured (made ++ commits_of_command made c one) cs)
     ∙ ap (λ l. capture_of apps_taken l one.pair ∷ []) (sym (append-nil made))
-captures_more quantum made (c ∷ cs) (t ∷ ts) command one e =
-    let first = commits_of_command quantum made c t in
-    let rest = commands_commits quantum (made ++ first) cs ts in
-    let before = commands_captures quantum (made ++ first) cs ts in
+captures_more made (c ∷ cs) (t ∷ ts) command one e =
+    let first = commits_of_command made c t in
+    let rest = commands_commits (made ++ first) cs ts in
+    let before = commands_captures (made ++ first) cs ts in
     ap (λ l. capture_of apps_taken made t.pair ∷ l)
-    (captures_more quantum (made ++ first) cs ts command one e
+    (captures_more (made ++ first) cs ts command one e
     ∙ ap (λ l. before ++ capture_of apps_taken l one.pair ∷ []) (append_assoc made first rest))
 
 paced_more : (late : Option ℤ) (commands : List AppCommand) (taken : List Taken) (command : AppCommand) (one : Taken) → IsCommandAt commands (length taken) command
@@ -191,14 +191,14 @@ knows_more before after commits commit number knows done = record {
 
 -- ---- the run
 
-pub nothing_taken : (quantum : ℤ) (late : Option ℤ) (commands : List AppCommand) (now : AppView) (captures : List Capture) (commits : List Commit)
-    → (now.sole ≡ true) × (now.made ≡ 0) × (now.own ≡ None) × (now.pushed ≡ []) → (captures ≡ []) × (commits ≡ []) → IsTaking quantum late commands 0 now captures commits
-nothing_taken quantum late commands now captures commits sole empty = record {
+pub nothing_taken : (late : Option ℤ) (commands : List AppCommand) (now : AppView) (captures : List Capture) (commits : List Commit)
+    → (now.sole ≡ true) × (now.made ≡ 0) × (now.own ≡ None) × (now.pushed ≡ []) → (captures ≡ []) × (commits ≡ []) → IsTaking late commands 0 now captures commits
+nothing_taken late commands now captures commits sole empty = record {
   taken = [];
   count_is = refl;
   paced = none_paced late commands;
-  captures_are = empty.0 ∙ sym (none_captured quantum [] commands);
-  commits_are = empty.1 ∙ sym (none_committed quantum [] commands);
+  captures_are = empty.0 ∙ sym (none_captured [] commands);
+  commits_are = empty.1 ∙ sym (none_committed [] commands);
   seen = All-nil (IsIn now.seen);
   never_falls = λ j k first second le e f. absurd (some-ne-none first (sym e));
   pushed = sole.3 ∙ sym empty.1;
@@ -212,23 +212,23 @@ nothing_taken quantum late commands now captures commits sole empty = record {
     none_paced late (c ∷ cs) = tt
 
 -- a command is taken at the moment that the pace answers, with the pair that is captured, and what it commits is committed
-taken_more : (quantum : ℤ) (late : Option ℤ) (commands : List AppCommand) (count : ℕ) (command : AppCommand) (at : ℤ) (before between after : AppView) (captures : List Capture) (commits made : List Commit) (capture : Capture)
+taken_more : (late : Option ℤ) (commands : List AppCommand) (count : ℕ) (command : AppCommand) (at : ℤ) (before between after : AppView) (captures : List Capture) (commits made : List Commit) (capture : Capture)
     → IsCommandAt commands count command → IsPaced late command.at at → (captured : HasCaptured before between capture.number capture.state capture.shown)
-    → made ≡ commits_of_command quantum commits command (record { at = at; pair = (capture.number, captured.row) })
+    → made ≡ commits_of_command commits command (record { at = at; pair = (capture.number, captured.row) })
     → after.seen ≡ between.seen → KnowsOwn after (commits ++ made)
-    → IsTaking quantum late commands count before captures commits → IsTaking quantum late commands (count + 1) after (captures ++ capture ∷ []) (commits ++ made)
-taken_more quantum late commands count command at before between after captures commits made capture comes paced captured made_is seen knows run = record {
+    → IsTaking late commands count before captures commits → IsTaking late commands (count + 1) after (captures ++ capture ∷ []) (commits ++ made)
+taken_more late commands count command at before between after captures commits made capture comes paced captured made_is seen knows run = record {
   taken = run.taken ++ one ∷ [];
   count_is = length-append run.taken (one ∷ []) ∙ ap (λ n. n + 1) run.count_is;
   paced = paced_more late commands run.taken command one comes_then run.paced paced;
   captures_are =
       ap (λ l. l ++ capture ∷ []) run.captures_are
-      ∙ ap (λ c. commands_captures quantum [] commands run.taken ++ c ∷ []) (is_capture before.own commits capture captured.row captured.state_is captured.shown_is run.own)
-      ∙ ap (λ l. commands_captures quantum [] commands run.taken ++ capture_of apps_taken l one.pair ∷ []) run.commits_are
-      ∙ sym (captures_more quantum [] commands run.taken command one comes_then);
+      ∙ ap (λ c. commands_captures [] commands run.taken ++ c ∷ []) (is_capture before.own commits capture captured.row captured.state_is captured.shown_is run.own)
+      ∙ ap (λ l. commands_captures [] commands run.taken ++ capture_of apps_taken l one.pair ∷ []) run.commits_are
+      ∙ sym (captures_more [] commands run.taken command one comes_then);
   commits_are =
-      ap (λ l. commits ++ l) made_is ∙ ap (λ l. l ++ commits_of_command quantum l command one) run.commits_are
-      ∙ sym (commits_more quantum [] commands run.taken command one comes_then);
+      ap (λ l. commits ++ l) made_is ∙ ap (λ l. l ++ commits_of_command l command one) run.commits_are
+      ∙ sym (commits_more [] commands run.taken command one comes_then);
   seen = subst (λ (l : List Pair). All (IsIn after.seen) l) (sym pairs_are)
       (All-push (IsIn after.seen) (pairs_of run.taken) one.pair
       (All-weaker (IsIn before.seen) (IsIn after.seen) (λ pair known. still_in before.seen captured.between after.seen one.pair seen_is falls pair known) (pairs_of run.taken) run.seen)
@@ -257,9 +257,9 @@ taken_more quantum late commands count command at before between after captures 
     pairs_are : pairs_of (run.taken ++ one ∷ []) ≡ pairs_of run.taken ++ one.pair ∷ []
     pairs_are = map-append (λ (t : Taken). t.pair) run.taken (one ∷ [])
 
-knows_captured : (quantum : ℤ) (late : Option ℤ) (commands : List AppCommand) (count : ℕ) (before after : AppView) (captures : List Capture) (commits : List Commit) (capture : Capture)
-    → IsTaking quantum late commands count before captures commits → HasCaptured before after capture.number capture.state capture.shown → KnowsOwn after commits
-knows_captured quantum late commands count before after captures commits capture run captured = record {
+knows_captured : (late : Option ℤ) (commands : List AppCommand) (count : ℕ) (before after : AppView) (captures : List Capture) (commits : List Commit) (capture : Capture)
+    → IsTaking late commands count before captures commits → HasCaptured before after capture.number capture.state capture.shown → KnowsOwn after commits
+knows_captured late commands count before after captures commits capture run captured = record {
   pushed = ap (λ (v : AppView). v.pushed) captured.others_stay ∙ run.pushed;
   made = ap (λ (v : AppView). v.made) captured.others_stay ∙ run.made;
   sole = ap (λ (v : AppView). v.sole) captured.others_stay ∙ run.sole;
@@ -267,51 +267,51 @@ knows_captured quantum late commands count before after captures commits capture
 }
 
 -- a look
-pub look_taken : (quantum : ℤ) (late : Option ℤ) (commands : List AppCommand) (count : ℕ) (command : AppCommand) (moment at : ℤ) (before after : AppView) (captures captures_then : List Capture) (commits : List Commit) (capture : Capture)
+pub look_taken : (late : Option ℤ) (commands : List AppCommand) (count : ℕ) (command : AppCommand) (moment at : ℤ) (before after : AppView) (captures captures_then : List Capture) (commits : List Commit) (capture : Capture)
     → is_look command.act ≡ true → moment ≡ command.at → IsPaced late moment at → HasCaptured before after capture.number capture.state capture.shown → captures_then ≡ captures ++ capture ∷ []
-    → IsCommandAt commands count command → IsTaking quantum late commands count before captures commits → IsTaking quantum late commands (count + 1) after captures_then commits
+    → IsCommandAt commands count command → IsTaking late commands count before captures commits → IsTaking late commands (count + 1) after captures_then commits
 unfolding commits_of_command
-look_taken quantum late commands count command moment at before after captures captures_then commits capture looks moment_is paced captured captures_are comes run =
-    subst (λ (x : List Capture × List Commit). IsTaking quantum late commands (count + 1) after x.0 x.1) (λ k. (sym captures_are k, append-nil commits k))
-    (taken_more quantum late commands count command at before after after captures commits [] capture comes (subst (λ (z : ℤ). IsPaced late z at) moment_is paced) captured (commits_none (is_look command.act) _ looks) refl
-    (subst (λ (l : List Commit). KnowsOwn after l) (sym (append-nil commits)) (knows_captured quantum late commands count before after captures commits capture run captured)) run)
+look_taken late commands count command moment at before after captures captures_then commits capture looks moment_is paced captured captures_are comes run =
+    subst (λ (x : List Capture × List Commit). IsTaking late commands (count + 1) after x.0 x.1) (λ k. (sym captures_are k, append-nil commits k))
+    (taken_more late commands count command at before after after captures commits [] capture comes (subst (λ (z : ℤ). IsPaced late z at) moment_is paced) captured (commits_none (is_look command.act) _ looks) refl
+    (subst (λ (l : List Commit). KnowsOwn after l) (sym (append-nil commits)) (knows_captured late commands count before after captures commits capture run captured)) run)
   where
     commits_none : (b : Bool) (commit : Commit) → b ≡ true → [] ≡ (if b then [] else commit ∷ [])
     commits_none true commit e = refl
     commits_none false commit e = absurd (true≢false (sym e))
 
 -- any other act
-pub act_taken : (quantum : ℤ) (late : Option ℤ) (commands : List AppCommand) (count : ℕ) (command : AppCommand) (moment at length_of at_then : ℤ) (before between after : AppView) (captures captures_then : List Capture) (commits commits_then : List Commit) (capture : Capture) (commit : Commit) (number : ℕ)
-    → is_look command.act ≡ false → moment ≡ command.at → length_of ≡ quantum → at_then ≡ at → IsPaced late moment at → HasCaptured before between capture.number capture.state capture.shown
-    → commit ≡ commit_of_act length_of command.act at_then capture → HasCommitted between after commit number → captures_then ≡ captures ++ capture ∷ [] → commits_then ≡ commits ++ commit ∷ []
-    → IsCommandAt commands count command → IsTaking quantum late commands count before captures commits → IsTaking quantum late commands (count + 1) after captures_then commits_then
+pub act_taken : (late : Option ℤ) (commands : List AppCommand) (count : ℕ) (command : AppCommand) (moment at at_then : ℤ) (before between after : AppView) (captures captures_then : List Capture) (commits commits_then : List Commit) (capture : Capture) (commit : Commit) (number : ℕ)
+    → is_look command.act ≡ false → moment ≡ command.at → at_then ≡ at → IsPaced late moment at → HasCaptured before between capture.number capture.state capture.shown
+    → commit ≡ commit_of_act command.act at_then capture → HasCommitted between after commit number → captures_then ≡ captures ++ capture ∷ [] → commits_then ≡ commits ++ commit ∷ []
+    → IsCommandAt commands count command → IsTaking late commands count before captures commits → IsTaking late commands (count + 1) after captures_then commits_then
 unfolding commits_of_command
-act_taken quantum late commands count command moment at length_of at_then before between after captures captures_then commits commits_then capture commit number acts moment_is length_is at_is paced captured commit_is committed captures_are commits_are comes run =
-    subst (λ (x : List Capture × List Commit). IsTaking quantum late commands (count + 1) after x.0 x.1) (λ k. (sym captures_are k, sym commits_are k))
-    (taken_more quantum late commands count command at before between after captures commits (commit ∷ []) capture comes (subst (λ (z : ℤ). IsPaced late z at) moment_is paced) captured
-    (ap (λ c. c ∷ []) (commit_is ∙ (λ k. commit_of_act (length_is k) command.act (at_is k) capture) ∙ ap (λ c. commit_of_act quantum command.act at c) (is_capture before.own commits capture captured.row captured.state_is captured.shown_is run.own)) ∙ commits_one (is_look command.act) _ acts)
+act_taken late commands count command moment at at_then before between after captures captures_then commits commits_then capture commit number acts moment_is at_is paced captured commit_is committed captures_are commits_are comes run =
+    subst (λ (x : List Capture × List Commit). IsTaking late commands (count + 1) after x.0 x.1) (λ k. (sym captures_are k, sym commits_are k))
+    (taken_more late commands count command at before between after captures commits (commit ∷ []) capture comes (subst (λ (z : ℤ). IsPaced late z at) moment_is paced) captured
+    (ap (λ c. c ∷ []) (commit_is ∙ ap (λ (z : ℤ). commit_of_act command.act z capture) at_is ∙ ap (λ c. commit_of_act command.act at c) (is_capture before.own commits capture captured.row captured.state_is captured.shown_is run.own)) ∙ commits_one (is_look command.act) _ acts)
     (ap (λ (v : AppView). v.seen) committed.others_stay)
-    (knows_more between after commits commit number (knows_captured quantum late commands count before between captures commits capture run captured) committed) run)
+    (knows_more between after commits commit number (knows_captured late commands count before between captures commits capture run captured) committed) run)
   where
     commits_one : (b : Bool) (one : Commit) → b ≡ false → one ∷ [] ≡ (if b then [] else one ∷ [])
     commits_one false one e = refl
     commits_one true one e = absurd (true≢false e)
 
 -- the command at a place, from what its call promises
-pub one_taken : (quantum : ℤ) (late late_then : Option ℤ) (commands : List AppCommand) (count : ℕ) (fallback : AppCommand) (before after : AppView) (captures captures_then : List Capture) (commits commits_then : List Commit) (all more : Bool)
+pub one_taken : (late late_then : Option ℤ) (commands : List AppCommand) (count : ℕ) (fallback : AppCommand) (before after : AppView) (captures captures_then : List Capture) (commits commits_then : List Commit) (all more : Bool)
     → late_then ≡ late → count < length commands → all ≡ more
-    → ((cs : List AppCommand) (n : ℕ) → IsCommandAt cs n (get_or commands count fallback) → IsTaking quantum late_then cs n before captures commits
-    → IsTaking quantum late_then cs (if all then n + 1 else n) after captures_then commits_then)
-    → IsTaking quantum late commands count before captures commits → IsTaking quantum late commands (if more then count + 1 else count) after captures_then commits_then
-one_taken quantum late late_then commands count fallback before after captures captures_then commits commits_then all more late_is less is takes run =
-    subst (λ (x : Option ℤ × Bool). IsTaking quantum x.0 commands (if x.1 then count + 1 else count) after captures_then commits_then) (λ k. (late_is k, is k))
+    → ((cs : List AppCommand) (n : ℕ) → IsCommandAt cs n (get_or commands count fallback) → IsTaking late_then cs n before captures commits
+    → IsTaking late_then cs (if all then n + 1 else n) after captures_then commits_then)
+    → IsTaking late commands count before captures commits → IsTaking late commands (if more then count + 1 else count) after captures_then commits_then
+one_taken late late_then commands count fallback before after captures captures_then commits commits_then all more late_is less is takes run =
+    subst (λ (x : Option ℤ × Bool). IsTaking x.0 commands (if x.1 then count + 1 else count) after captures_then commits_then) (λ k. (late_is k, is k))
     (takes commands count (at_place commands count fallback less)
-    (subst (λ (o : Option ℤ). IsTaking quantum o commands count before captures commits) (sym late_is) run))
+    (subst (λ (o : Option ℤ). IsTaking o commands count before captures commits) (sym late_is) run))
 
 -- the run, where so many commands were taken
-pub has_run : (quantum : ℤ) (late : Option ℤ) (commands : List AppCommand) (count : ℕ) (after : AppView) (captures : List Capture) (commits : List Commit) (all : Bool)
-    → (all ≡ true → count ≡ length commands) → IsTaking quantum late commands count after captures commits → IsScriptRun quantum late commands after captures commits all
-has_run quantum late commands count after captures commits all all_taken run = record {
+pub has_run : (late : Option ℤ) (commands : List AppCommand) (count : ℕ) (after : AppView) (captures : List Capture) (commits : List Commit) (all : Bool)
+    → (all ≡ true → count ≡ length commands) → IsTaking late commands count after captures commits → IsScriptRun late commands after captures commits all
+has_run late commands count after captures commits all all_taken run = record {
   taken = run.taken;
   all_taken = λ e. run.count_is ∙ all_taken e;
   paced = run.paced;

@@ -22,16 +22,16 @@ use Rattle.link_live.specs.Report.{ReportValue}
 use Rattle.link_live.specs.ScriptRun.{IsScriptRun, IsIn, Taken, commands_captures, commits_of_command, pairs_of}
 
 -- what was captured was published
-captures_published : (published : List State) (quantum : ℤ) (made : List Commit) (commands : List AppCommand) (taken : List Taken)
+captures_published : (published : List State) (made : List Commit) (commands : List AppCommand) (taken : List Taken)
     → AllByRecursion (λ t. get_elem? published t.pair.0 ≡ some (state_of_words t.pair.1)) taken
-    → ArePublished published (commands_captures quantum made commands taken)
+    → ArePublished published (commands_captures made commands taken)
 unfolding commands_captures capture_of
-captures_published published quantum made [] taken all = All-nil (λ (c : Capture). get_elem? published c.number ≡ some c.state)
-captures_published published quantum made (command ∷ commands) [] all = All-nil (λ (c : Capture). get_elem? published c.number ≡ some c.state)
-captures_published published quantum made (command ∷ commands) (one ∷ taken) all =
+captures_published published made [] taken all = All-nil (λ (c : Capture). get_elem? published c.number ≡ some c.state)
+captures_published published made (command ∷ commands) [] all = All-nil (λ (c : Capture). get_elem? published c.number ≡ some c.state)
+captures_published published made (command ∷ commands) (one ∷ taken) all =
     All-cons (λ (c : Capture). get_elem? published c.number ≡ some c.state) (capture_of apps_taken made one.pair)
-    (commands_captures quantum (made ++ commits_of_command quantum made command one) commands taken) all.0
-    (captures_published published quantum (made ++ commits_of_command quantum made command one) commands taken all.1)
+    (commands_captures (made ++ commits_of_command made command one) commands taken) all.0
+    (captures_published published (made ++ commits_of_command made command one) commands taken all.1)
 
 -- each pair that was captured was published
 commands_each : (published : List State) (seen : List Pair) (taken : List Taken) → WerePublished published seen → All (IsIn seen) (pairs_of taken)
@@ -53,14 +53,14 @@ same_list (x ∷ xs) (y ∷ ys) more split len =
 -- where its pass is the only one that was handed in
 pub is_script_part : (hub : HubView) (app : AppView) (pass : AudioView) (clock : ℤ) (events : List EventValue) (published : List State) (sends : List SendingValue) (full : Bool) (setup : LiveSetup) (captured : Bool) (late : Option ℤ) (report : ReportValue)
     → HasEnded hub pass clock events published sends full → hub.handed ≡ app ∷ []
-    → IsScriptRun setup.quantum late setup.apps app report.captures report.app_commits captured
+    → IsScriptRun late setup.apps app report.captures report.app_commits captured
     → IsScriptPart setup captured full late (record report { events = events; published = published })
 is_script_part hub app pass clock events published sends full setup captured late report last only run = record {
   captures = record {
     pass = app;
     run = run;
     published = subst (λ (l : List Capture). ArePublished published l) (sym run.captures_are)
-        (captures_published published setup.quantum [] setup.apps run.taken (commands_each published app.seen run.taken heard.seen run.seen));
+        (captures_published published [] setup.apps run.taken (commands_each published app.seen run.taken heard.seen run.seen));
   };
   app_begin = subst (λ (l : List Commit). Grows (app_commits_in events) l) (sym pushed_are) last.taken_begin;
   app_commits = λ room. last.all_taken room ∙ sym pushed_are;

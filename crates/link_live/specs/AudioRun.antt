@@ -29,36 +29,36 @@ unfoldable pub acts_in : ℕ → List BlockCommand → List Act
 acts_in number commands = map (λ command. command.act) (filter (λ command. nat_eq command.block number) commands)
 
 -- The commits of acts at the start of a block. Each edits the state that was captured for it, shown with the last commit made so far.
-unfoldable pub act_commits : ℤ → ℤ → Pair → List Commit → List Act → List Commit
-act_commits quantum start pair made [] = []
-act_commits quantum start pair made (act ∷ acts) =
-    let commit = commit_of_act quantum act start (capture_of audio_taken made pair) in
-    commit ∷ act_commits quantum start pair (made ++ commit ∷ []) acts
+unfoldable pub act_commits : ℤ → Pair → List Commit → List Act → List Commit
+act_commits start pair made [] = []
+act_commits start pair made (act ∷ acts) =
+    let commit = commit_of_act act start (capture_of audio_taken made pair) in
+    commit ∷ act_commits start pair (made ++ commit ∷ []) acts
 
 -- the commits that are made in the block of this number, where these were made before
-unfoldable pub block_commits : ℤ → List BlockCommand → List Commit → ℕ → BlockRead → List Commit
-block_commits quantum commands made number read = act_commits quantum read.block.start read.pair made (acts_in number commands)
+unfoldable pub block_commits : List BlockCommand → List Commit → ℕ → BlockRead → List Commit
+block_commits commands made number read = act_commits read.block.start read.pair made (acts_in number commands)
 
 -- the commits of the blocks from this number on
-unfoldable pub blocks_commits : ℤ → List BlockCommand → List Commit → ℕ → List BlockRead → List Commit
-blocks_commits quantum commands made number [] = []
-blocks_commits quantum commands made number (read ∷ reads) =
-    let commits = block_commits quantum commands made number read in
-    commits ++ blocks_commits quantum commands (made ++ commits) (number + 1) reads
+unfoldable pub blocks_commits : List BlockCommand → List Commit → ℕ → List BlockRead → List Commit
+blocks_commits commands made number [] = []
+blocks_commits commands made number (read ∷ reads) =
+    let commits = block_commits commands made number read in
+    commits ++ blocks_commits commands (made ++ commits) (number + 1) reads
 
 -- and their captures, each shown with the last commit made before its block
-unfoldable pub blocks_captures : ℤ → List BlockCommand → List Commit → ℕ → List BlockRead → List Capture
-blocks_captures quantum commands made number [] = []
-blocks_captures quantum commands made number (read ∷ reads) =
+unfoldable pub blocks_captures : List BlockCommand → List Commit → ℕ → List BlockRead → List Capture
+blocks_captures commands made number [] = []
+blocks_captures commands made number (read ∷ reads) =
     capture_of audio_taken made read.pair
-    ∷ blocks_captures quantum commands (made ++ block_commits quantum commands made number read) (number + 1) reads
+    ∷ blocks_captures commands (made ++ block_commits commands made number read) (number + 1) reads
 
--- the clicks of each block, by the state that was shown for it
-abbrev pub clicks_of_blocks : ℤ → List Capture → List BlockRead → List (List Click)
-clicks_of_blocks quantum [] reads = []
-clicks_of_blocks quantum (capture ∷ captures) [] = []
-clicks_of_blocks quantum (capture ∷ captures) (read ∷ reads) =
-    clicks_in capture.shown read.block quantum ∷ clicks_of_blocks quantum captures reads
+-- the clicks of each block, by the state that was shown for it and its quantum
+abbrev pub clicks_of_blocks : List Capture → List BlockRead → List (List Click)
+clicks_of_blocks [] reads = []
+clicks_of_blocks (capture ∷ captures) [] = []
+clicks_of_blocks (capture ∷ captures) (read ∷ reads) =
+    clicks_in capture.shown read.block ∷ clicks_of_blocks captures reads
 
 -- ---- what the device and the pass say of it
 
@@ -88,7 +88,7 @@ abbrev pub HasNoneLeft : Option AudioContents → Type 0
 HasNoneLeft told = IfSome told (λ contents. contents.left ≡ [])
 
 -- From lists that were empty: what was read, committed and played for the first blocks that the device gave, at most `most` of them.
-pub record IsAudioRun (quantum : ℤ) (most : ℕ) (commands : List BlockCommand) (before after : AudioView) (told told_then : Option AudioContents) (reads : List Capture) (commits : List Commit) (plays : List (List Click)) (failed : Bool) : Type 0 where
+pub record IsAudioRun (most : ℕ) (commands : List BlockCommand) (before after : AudioView) (told told_then : Option AudioContents) (reads : List Capture) (commits : List Commit) (plays : List (List Click)) (failed : Bool) : Type 0 where
   -- the blocks that were played, and one more where the device failed to play it
   pub played : List BlockRead
   pub unplayed : List BlockRead
@@ -104,10 +104,10 @@ pub record IsAudioRun (quantum : ℤ) (most : ℕ) (commands : List BlockCommand
   pub looks : after.looks ≡ before.looks ++ looks_of (played ++ unplayed)
   pub fresh : AreFresh before.seen (played ++ unplayed)
   pub never_falls : NumbersNeverFall before.seen → NumbersNeverFall after.seen
-  pub reads_are : reads ≡ blocks_captures quantum commands before.made 1 (played ++ unplayed)
+  pub reads_are : reads ≡ blocks_captures commands before.made 1 (played ++ unplayed)
   -- what was played, and what was committed once it was
-  pub plays_are : plays ≡ clicks_of_blocks quantum reads played
-  pub commits_are : commits ≡ blocks_commits quantum commands before.made 1 played
+  pub plays_are : plays ≡ clicks_of_blocks reads played
+  pub commits_are : commits ≡ blocks_commits commands before.made 1 played
   pub made : after.made ≡ before.made ++ commits
 
 -- it ends well exactly where no call of the device failed

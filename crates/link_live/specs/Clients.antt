@@ -2,7 +2,7 @@
 use Rattle.std.specs.Prelude.{ℕ, ℤ, true, false, List}
 use Rattle.audio_handoff.specs.Cell.{Pair}
 use Rattle.client_state.specs.Commit.{commit_between}
-use Rattle.client_state.specs.Edits.{tempo_set_of, forced_of, requested_of, played_of}
+use Rattle.client_state.specs.Edits.{tempo_set_of, forced_of, requested_of, quantum_set_of, played_of}
 use Rattle.client_state.specs.Shown.{shown_over}
 use Rattle.client_state.specs.Words.{state_of_words}
 use Rattle.client_state.specs.declared.commit.Commit.{Commit}
@@ -10,16 +10,17 @@ use Rattle.client_state.specs.declared.state.State.{State}
 use Rattle.link_shared.specs.Audio.{last_of}
 use Rattle.link_shared.specs.declared.capture.Capture.{Capture}
 use Rattle.link_text.specs.declared.live_script.Act.{Act}
-use Rattle.link_text.specs.declared.live_script.Act.TheVariants.{Tempo, Force, Request, Play, Stop, Look}
+use Rattle.link_text.specs.declared.live_script.Act.TheVariants.{Tempo, Force, Request, Quantum, Play, Stop, Look}
 
--- what an act makes of a state at a moment
-unfoldable pub edited_of : ℤ → Act → ℤ → State → State
-edited_of quantum (Tempo mpb) at state = record state { timeline = tempo_set_of state.timeline mpb at }
-edited_of quantum (Force beat) at state = record state { timeline = forced_of state.timeline beat at quantum }
-edited_of quantum (Request beat) at state = record state { timeline = requested_of state.peers state.timeline beat at quantum }
-edited_of quantum Play at state = record state { start = played_of state.start true at }
-edited_of quantum Stop at state = record state { start = played_of state.start false at }
-edited_of quantum Look at state = state
+-- what an act makes of a state at a moment: beats go by the state's own quantum
+unfoldable pub edited_of : Act → ℤ → State → State
+edited_of (Tempo mpb) at state = record state { timeline = tempo_set_of state.timeline mpb at }
+edited_of (Force beat) at state = record state { timeline = forced_of state.timeline beat at state.quantum }
+edited_of (Request beat) at state = record state { timeline = requested_of state.peers state.timeline beat at state.quantum }
+edited_of (Quantum quantum) at state = record state { quantum = quantum_set_of quantum }
+edited_of Play at state = record state { start = played_of state.start true at }
+edited_of Stop at state = record state { start = played_of state.start false at }
+edited_of Look at state = state
 
 -- The pair of number and row that was read, as it is captured: the state is shown with the last of these own commits, unless so many were
 -- taken by then.
@@ -38,5 +39,5 @@ abbrev pub audio_taken : State → ℕ
 audio_taken state = state.audio
 
 -- what an act commits that edits a capture's shown state at a moment
-unfoldable pub commit_of_act : ℤ → Act → ℤ → Capture → Commit
-commit_of_act quantum act at capture = commit_between capture.state capture.shown (edited_of quantum act at capture.shown) at
+unfoldable pub commit_of_act : Act → ℤ → Capture → Commit
+commit_of_act act at capture = commit_between capture.state capture.shown (edited_of act at capture.shown) at

@@ -32,13 +32,11 @@ use Rattle.link_live.specs.Network.{ArePostedBefore, HasGrown, locals_of, posts_
 use Rattle.link_live.specs.Report.{ReportValue}
 use Rattle.link_live.specs.ScriptRun.{IsScriptRun}
 
--- how a run is set up: the node's config, how many events the journal takes and how many blocks are played at most, the quantum, and the
--- commands
+-- how a run is set up: the node's config, how many events the journal takes and how many blocks are played at most, and the commands
 pub record LiveSetup : Type 0 where
   pub config : ConfigValue
   pub events : ℕ
   pub blocks : ℕ
-  pub quantum : ℤ
   pub apps : List AppCommand
   pub block_commands : List BlockCommand
 
@@ -81,13 +79,13 @@ new_audio = record { seen = []; looks = []; made = [] }
 -- what was read, shown and played for each block
 pub record WerePlayed (setup : LiveSetup) (played : Bool) (audio audio_then : Option AudioContents) (report : ReportValue) : Type 0 where
   pub pass : AudioView
-  pub run : IsAudioRun setup.quantum setup.blocks setup.block_commands new_audio pass audio audio_then report.reads report.audio_commits report.plays (not played)
+  pub run : IsAudioRun setup.blocks setup.block_commands new_audio pass audio audio_then report.reads report.audio_commits report.plays (not played)
   pub published : ArePublished report.published report.reads
 
 -- what was captured and shown for each command
 pub record WereCaptured (setup : LiveSetup) (captured : Bool) (late : Option ℤ) (report : ReportValue) : Type 0 where
   pub pass : AppView
-  pub run : IsScriptRun setup.quantum late setup.apps pass report.captures report.app_commits captured
+  pub run : IsScriptRun late setup.apps pass report.captures report.app_commits captured
   pub published : ArePublished report.published report.captures
 
 -- each timeline that is sent is the first of greatest beat origin that its session has taken

@@ -18,12 +18,11 @@ use Rattle.link_live.specs.declared.run.LiveEnd.TheVariants as end
 use Rattle.link_live.specs.declared.run.LiveRun.{LiveRun}
 use Rattle.link_live.specs.declared.room.Room.{Room}
 
-abbrev pub setup_of : ConfigValue → ℕ → LiveScript → ℕ → ℤ → LiveSetup
-setup_of config most script blocks quantum = record {
+abbrev pub setup_of : ConfigValue → ℕ → LiveScript → ℕ → LiveSetup
+setup_of config most script blocks = record {
   config = config;
   events = most;
   blocks = blocks;
-  quantum = quantum;
   apps = script.apps.items;
   block_commands = script.blocks.items;
 }

@@ -1,7 +1,6 @@
 -- Only for proofs: what the three loops of a live run owe and promise, one record each, as threads that are joined have one clause.
 use Rattle.std.specs.Prelude.{◌≡◌, ◌≤◌, ◌<◌, ◌^◌, ◌+◌, ℕ, ℤ, not, Bool, true, None, List, [], length, map, All, Option}
 use Rattle.std.specs.Vec.{vec_capacity}
-use Rattle.lk_base.specs.Ranges.{IsQuantum}
 use Rattle.lk_base.specs.declared.endpoint.Endpoint.{Endpoint}
 use Rattle.lk_outside.specs.Audio.{AudioContents}
 use Rattle.lk_outside.specs.Port.{PortContents}
@@ -31,26 +30,24 @@ pub record HasRun (bound : Bool) (before after : HubView) (told told_then : Opti
 
 -- ---- the audio thread's
 
-pub record CanPlay (quantum : ℤ) (blocks : ℕ) (commands : List BlockCommand) (pass : AudioView) (report : AudioReport) : Type 0 where
-  pub range : IsQuantum quantum
+pub record CanPlay (blocks : ℕ) (commands : List BlockCommand) (pass : AudioView) (report : AudioReport) : Type 0 where
   pub each : All (λ command. IsCommand (block command)) commands
   pub numbers : length pass.made + length commands < 2 ^ 60
   pub empty : (report.reads.items ≡ []) × (report.commits.items ≡ []) × (report.plays.items ≡ [])
   pub room : (blocks ≤ vec_capacity report.reads) × (blocks ≤ vec_capacity report.plays)
   pub room_for_commits : length commands ≤ vec_capacity report.commits
 
-pub record HasPlayedBlocks (quantum : ℤ) (blocks : ℕ) (commands : List BlockCommand) (before after : AudioView) (told told_then : Option AudioContents) (faults faults_then : ℕ) (report : AudioReport) (ended : Bool) : Type 0 where
-  pub run : IsAudioRun quantum blocks commands before after told told_then report.reads.items report.commits.items (map (λ clicks. clicks.items) report.plays.items) (not ended)
+pub record HasPlayedBlocks (blocks : ℕ) (commands : List BlockCommand) (before after : AudioView) (told told_then : Option AudioContents) (faults faults_then : ℕ) (report : AudioReport) (ended : Bool) : Type 0 where
+  pub run : IsAudioRun blocks commands before after told told_then report.reads.items report.commits.items (map (λ clicks. clicks.items) report.plays.items) (not ended)
   pub cause : HasAudioCause faults faults_then ended
 
 -- ---- the application's
 
-pub record CanTake (quantum : ℤ) (commands : List AppCommand) (pass : AppView) (report : ScriptReport) : Type 0 where
-  pub range : IsQuantum quantum
+pub record CanTake (commands : List AppCommand) (pass : AppView) (report : ScriptReport) : Type 0 where
   pub each : All (λ command. IsCommand (app command)) commands
   pub sole : (pass.sole ≡ true) × (pass.made ≡ 0) × (pass.own ≡ None) × (pass.pushed ≡ [])
   pub empty : (report.captures.items ≡ []) × (report.commits.items ≡ [])
   pub room : (length commands ≤ vec_capacity report.captures) × (length commands ≤ vec_capacity report.commits)
 
-abbrev pub HasTakenCommands : ℤ → Option ℤ → List AppCommand → AppView → ScriptReport → Bool → Type 0
-HasTakenCommands quantum late commands pass report all = IsScriptRun quantum late commands pass report.captures.items report.commits.items all
+abbrev pub HasTakenCommands : Option ℤ → List AppCommand → AppView → ScriptReport → Bool → Type 0
+HasTakenCommands late commands pass report all = IsScriptRun late commands pass report.captures.items report.commits.items all

@@ -29,23 +29,23 @@ abbrev pub IsShownWith : Capture → List Commit → Type 0
 IsShownWith capture made = capture.shown ≡ shown_with capture.state made
 
 -- the commit of an act at a moment on what is shown of a state
-unfoldable pub one_commit : ℤ → ℤ → State → List Commit → Act → Commit
-one_commit quantum start state made act =
-    commit_between state (shown_with state made) (edited_of quantum act start (shown_with state made)) start
+unfoldable pub one_commit : ℤ → State → List Commit → Act → Commit
+one_commit start state made act =
+    commit_between state (shown_with state made) (edited_of act start (shown_with state made)) start
 
 -- the commits of acts at a moment, each on top of those before it
-unfoldable pub commits_on : ℤ → ℤ → State → List Commit → List Act → List Commit
-commits_on quantum start state made [] = []
-commits_on quantum start state made (act ∷ acts) =
-    let commit = one_commit quantum start state made act in
-    commit ∷ commits_on quantum start state (made ++ commit ∷ []) acts
+unfoldable pub commits_on : ℤ → State → List Commit → List Act → List Commit
+commits_on start state made [] = []
+commits_on start state made (act ∷ acts) =
+    let commit = one_commit start state made act in
+    commit ∷ commits_on start state (made ++ commit ∷ []) acts
 
 -- the commits of a block's commands were made, and kept
-pub record HasCommitted (quantum start : ℤ) (number : ℕ) (commands : List BlockCommand) (state : State) (before after : AudioView) (commits commits_then : List Commit) : Type 0 where
+pub record HasCommitted (start : ℤ) (number : ℕ) (commands : List BlockCommand) (state : State) (before after : AudioView) (commits commits_then : List Commit) : Type 0 where
   pub seen : after.seen ≡ before.seen
   pub looks : after.looks ≡ before.looks
-  pub made_are : after.made ≡ before.made ++ commits_on quantum start state before.made (acts_in number commands)
-  pub commits_are : commits_then ≡ commits ++ commits_on quantum start state before.made (acts_in number commands)
+  pub made_are : after.made ≡ before.made ++ commits_on start state before.made (acts_in number commands)
+  pub commits_are : commits_then ≡ commits ++ commits_on start state before.made (acts_in number commands)
 
 -- ---- the blocks so far
 
@@ -54,7 +54,7 @@ abbrev pub commands_before : ℕ → List BlockCommand → List BlockCommand
 commands_before number commands = filter (λ command. nat_lt command.block number) commands
 
 -- each block so far was played, and the one of this number comes next
-pub record IsPlaying (quantum : ℤ) (commands : List BlockCommand) (number : ℕ) (first now : AudioView) (told told_now : Option AudioContents) (reads : List Capture) (commits : List Commit) (plays : List (List Click)) : Type 0 where
+pub record IsPlaying (commands : List BlockCommand) (number : ℕ) (first now : AudioView) (told told_now : Option AudioContents) (reads : List Capture) (commits : List Commit) (plays : List (List Click)) : Type 0 where
   pub played : List BlockRead
   pub next : number ≡ length played + 1
   pub each_block : All IsBlock (blocks_of played)
@@ -63,25 +63,25 @@ pub record IsPlaying (quantum : ℤ) (commands : List BlockCommand) (number : �
   pub looks : now.looks ≡ first.looks ++ looks_of played
   pub fresh : AreFresh first.seen played
   pub never_falls : NumbersNeverFall first.seen → NumbersNeverFall now.seen
-  pub reads_are : reads ≡ blocks_captures quantum commands first.made 1 played
-  pub plays_are : plays ≡ clicks_of_blocks quantum reads played
-  pub commits_are : commits ≡ blocks_commits quantum commands first.made 1 played
+  pub reads_are : reads ≡ blocks_captures commands first.made 1 played
+  pub plays_are : plays ≡ clicks_of_blocks reads played
+  pub commits_are : commits ≡ blocks_commits commands first.made 1 played
   pub made : now.made ≡ first.made ++ commits
   pub few : length commits ≤ length (commands_before number commands)
 
 -- a run of at most as many blocks, where that of this number may have been asked for
-abbrev pub IsEnded : ℤ → List BlockCommand → ℕ → AudioView → AudioView → Option AudioContents → Option AudioContents → List Capture → List Commit → List (List Click) → Bool → Type 0
-IsEnded quantum commands number first now told told_now reads commits plays failed =
-    (most : ℕ) → number ≤ most → IsAudioRun quantum most commands first now told told_now reads commits plays failed
+abbrev pub IsEnded : List BlockCommand → ℕ → AudioView → AudioView → Option AudioContents → Option AudioContents → List Capture → List Commit → List (List Click) → Bool → Type 0
+IsEnded commands number first now told told_now reads commits plays failed =
+    (most : ℕ) → number ≤ most → IsAudioRun most commands first now told told_now reads commits plays failed
 
 -- a block was played, or the run has ended
-abbrev pub AfterBlock : BlockEnd → ℤ → List BlockCommand → ℕ → AudioView → AudioView → Option AudioContents → Option AudioContents → List Capture → List Commit → List (List Click) → Type 0
-AfterBlock Played quantum commands number first now told told_now reads commits plays =
-    IsPlaying quantum commands (number + 1) first now told told_now reads commits plays
-AfterBlock Closed quantum commands number first now told told_now reads commits plays =
-    IsEnded quantum commands number first now told told_now reads commits plays false
-AfterBlock Failed quantum commands number first now told told_now reads commits plays =
-    IsEnded quantum commands number first now told told_now reads commits plays true
+abbrev pub AfterBlock : BlockEnd → List BlockCommand → ℕ → AudioView → AudioView → Option AudioContents → Option AudioContents → List Capture → List Commit → List (List Click) → Type 0
+AfterBlock Played commands number first now told told_now reads commits plays =
+    IsPlaying commands (number + 1) first now told told_now reads commits plays
+AfterBlock Closed commands number first now told told_now reads commits plays =
+    IsEnded commands number first now told told_now reads commits plays false
+AfterBlock Failed commands number first now told told_now reads commits plays =
+    IsEnded commands number first now told told_now reads commits plays true
 
 -- the count of faults rises where the device fails
 abbrev pub HasBlockCause : ℕ → ℕ → BlockEnd → Type 0

@@ -8,7 +8,7 @@ use Rattle.client_state.specs.declared.commit.Commit.{Commit}
 use Rattle.link_shared.specs.Passes.{AppView}
 use Rattle.link_shared.specs.declared.capture.Capture.{Capture}
 use Rattle.link_text.specs.declared.live_script.Act.{Act}
-use Rattle.link_text.specs.declared.live_script.Act.TheVariants.{Tempo, Force, Request, Play, Stop, Look}
+use Rattle.link_text.specs.declared.live_script.Act.TheVariants.{Tempo, Force, Request, Quantum, Play, Stop, Look}
 use Rattle.link_text.specs.declared.live_script.AppCommand.{AppCommand}
 use Rattle.link_live.specs.Clients.{capture_of, commit_of_act, apps_taken}
 
@@ -22,30 +22,31 @@ abbrev pub is_look : Act → Bool
 is_look (Tempo mpb) = false
 is_look (Force beat) = false
 is_look (Request beat) = false
+is_look (Quantum quantum) = false
 is_look Play = false
 is_look Stop = false
 is_look Look = true
 
 -- a look commits nothing, and any other act what it makes of the capture's shown state
-unfoldable pub commits_of_command : ℤ → List Commit → AppCommand → Taken → List Commit
-commits_of_command quantum made command taken =
-    if is_look command.act then [] else commit_of_act quantum command.act taken.at (capture_of apps_taken made taken.pair) ∷ []
+unfoldable pub commits_of_command : List Commit → AppCommand → Taken → List Commit
+commits_of_command made command taken =
+    if is_look command.act then [] else commit_of_act command.act taken.at (capture_of apps_taken made taken.pair) ∷ []
 
 -- the commits of commands, where these were made before
-unfoldable pub commands_commits : ℤ → List Commit → List AppCommand → List Taken → List Commit
-commands_commits quantum made [] taken = []
-commands_commits quantum made (command ∷ commands) [] = []
-commands_commits quantum made (command ∷ commands) (one ∷ taken) =
-    let commits = commits_of_command quantum made command one in
-    commits ++ commands_commits quantum (made ++ commits) commands taken
+unfoldable pub commands_commits : List Commit → List AppCommand → List Taken → List Commit
+commands_commits made [] taken = []
+commands_commits made (command ∷ commands) [] = []
+commands_commits made (command ∷ commands) (one ∷ taken) =
+    let commits = commits_of_command made command one in
+    commits ++ commands_commits (made ++ commits) commands taken
 
 -- and their captures, each shown with the last commit made before
-unfoldable pub commands_captures : ℤ → List Commit → List AppCommand → List Taken → List Capture
-commands_captures quantum made [] taken = []
-commands_captures quantum made (command ∷ commands) [] = []
-commands_captures quantum made (command ∷ commands) (one ∷ taken) =
+unfoldable pub commands_captures : List Commit → List AppCommand → List Taken → List Capture
+commands_captures made [] taken = []
+commands_captures made (command ∷ commands) [] = []
+commands_captures made (command ∷ commands) (one ∷ taken) =
     capture_of apps_taken made one.pair
-    ∷ commands_captures quantum (made ++ commits_of_command quantum made command one) commands taken
+    ∷ commands_captures (made ++ commits_of_command made command one) commands taken
 
 -- each command was taken at the moment that the pace answered for its own
 abbrev pub ArePaced : Option ℤ → List AppCommand → List Taken → Type 0
@@ -62,12 +63,12 @@ IsIn seen pair = (k : ℕ) × (get_elem? seen k ≡ some pair)
 
 -- From the only pass of a link, which has captured and committed nothing, and lists that were empty: the first of the commands were taken
 -- in order, and all of them unless memory was wanting. Its commits are all that were pushed.
-pub record IsScriptRun (quantum : ℤ) (late : Option ℤ) (commands : List AppCommand) (after : AppView) (captures : List Capture) (commits : List Commit) (all : Bool) : Type 0 where
+pub record IsScriptRun (late : Option ℤ) (commands : List AppCommand) (after : AppView) (captures : List Capture) (commits : List Commit) (all : Bool) : Type 0 where
   pub taken : List Taken
   pub all_taken : all ≡ true → length taken ≡ length commands
   pub paced : ArePaced late commands taken
-  pub captures_are : captures ≡ commands_captures quantum [] commands taken
-  pub commits_are : commits ≡ commands_commits quantum [] commands taken
+  pub captures_are : captures ≡ commands_captures [] commands taken
+  pub commits_are : commits ≡ commands_commits [] commands taken
   -- each capture was read, and none is older than one before it
   pub seen : All (IsIn after.seen) (pairs_of taken)
   pub never_falls : NumbersNeverFall (pairs_of taken)

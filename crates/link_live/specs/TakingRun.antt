@@ -14,12 +14,12 @@ abbrev pub IsCommandAt : List AppCommand → ℕ → AppCommand → Type 0
 IsCommandAt commands k command = get_elem? commands k ≡ some command
 
 -- so many of the commands were taken, the first of them, and the pass knows just what they committed
-pub record IsTaking (quantum : ℤ) (late : Option ℤ) (commands : List AppCommand) (count : ℕ) (now : AppView) (captures : List Capture) (commits : List Commit) : Type 0 where
+pub record IsTaking (late : Option ℤ) (commands : List AppCommand) (count : ℕ) (now : AppView) (captures : List Capture) (commits : List Commit) : Type 0 where
   pub taken : List Taken
   pub count_is : length taken ≡ count
   pub paced : ArePaced late commands taken
-  pub captures_are : captures ≡ commands_captures quantum [] commands taken
-  pub commits_are : commits ≡ commands_commits quantum [] commands taken
+  pub captures_are : captures ≡ commands_captures [] commands taken
+  pub commits_are : commits ≡ commands_commits [] commands taken
   pub seen : All (IsIn now.seen) (pairs_of taken)
   pub never_falls : NumbersNeverFall (pairs_of taken)
   pub pushed : now.pushed ≡ commits

@@ -4,7 +4,7 @@ ghost use Rattle.std.specs.Prelude.{◌≡◌, ◌≤◌, ◌<◌, ◌+◌, ◌^
 ghost use Rattle.client_state.specs.Commit.{IsTidyCommit};
 ghost use Rattle.client_state.specs.Shown.{shown_over};
 ghost use Rattle.client_state.specs.State.{IsTidyState};
-ghost use Rattle.lk_base.specs.Ranges.{IsMoment, IsQuantum};
+ghost use Rattle.lk_base.specs.Ranges.{IsMoment};
 ghost use Rattle.lk_outside.specs.Audio.{AudioContents};
 ghost use Rattle.link_shared.specs.Audio.{AudioView};
 ghost use Rattle.link_text.specs.LiveScript.{IsAct, IsCommand, block as block_command};
@@ -31,40 +31,30 @@ pub struct AudioReport {
 }
 
 /// Plays at most `blocks` blocks, as the device asks for them: for each it captures a state, plays the clicks of what is shown, with
-/// the accents of the quantum, in microbeats, and then makes the commits of the script's commands for that block, which count from 1. It
-/// ends where the device is closed or fails, and answers false where it has failed.
+/// the accents of its quantum, and then makes the commits of the script's commands for that block, which count from 1. It ends where
+/// the device is closed or fails, and answers false where it has failed.
 ///
 /// Waits: in the device. Memory: none.
-pub fn audio_loop<C: StateCell<9, Way = ()>, N: LinkName, A: Audio>(
+pub fn audio_loop<C: StateCell<11, Way = ()>, N: LinkName, A: Audio>(
     link: &Link<C, N>,
     pass: &mut AudioPass<C, N>,
     audio: &mut A,
     script: &LiveScript,
     blocks: u64,
-    quantum: i64,
     report: &mut AudioReport,
 ) -> bool
-    requires quantum { IsQuantum quantum }
     requires commands { All (λ command. IsCommand (block_command command)) script.now.blocks.items }
     requires numbers { length pass.old.made + length script.now.blocks.items < 2 ^ 60 }
     requires empty { (report.old.reads.items ≡ []) × (report.old.commits.items ≡ []) × (report.old.plays.items ≡ []) }
     requires room { (blocks ≤ vec_capacity report.old.reads) × (blocks ≤ vec_capacity report.old.plays) }
     requires room_for_commits { length script.now.blocks.items ≤ vec_capacity report.old.commits }
-    ensures run { IsAudioRun quantum blocks script.now.blocks.items pass.old pass.new (A.contents audio.old) (A.contents audio.new)
+    ensures run { IsAudioRun blocks script.now.blocks.items pass.old pass.new (A.contents audio.old) (A.contents audio.new)
         report.new.reads.items report.new.commits.items (map (λ clicks. clicks.items) report.new.plays.items) (not result) }
     ensures cause { HasAudioCause (A.faults audio.old) (A.faults audio.new) result }
 {
     let mut played = 0;
     while played < blocks {
-        match audio_block(
-            link,
-            pass,
-            audio,
-            &script.blocks,
-            played + 1,
-            quantum,
-            report,
-        ) {
+        match audio_block(link, pass, audio, &script.blocks, played + 1, report) {
             BlockEnd::Played => played += 1,
             BlockEnd::Closed => return true,
             BlockEnd::Failed => return false,
@@ -84,25 +74,23 @@ enum BlockEnd {
 }
 
 // The block of a number: one capture, its clicks, and its commits once it was played. Waits: in the device. Memory: none.
-fn audio_block<C: StateCell<9, Way = ()>, N: LinkName, A: Audio>(
+fn audio_block<C: StateCell<11, Way = ()>, N: LinkName, A: Audio>(
     link: &Link<C, N>,
     pass: &mut AudioPass<C, N>,
     audio: &mut A,
     commands: &[BlockCommand],
     number: u64,
-    quantum: i64,
     report: &mut AudioReport,
 ) -> BlockEnd
-    requires quantum { IsQuantum quantum }
     requires commands { All (λ command. IsCommand (block_command command)) commands.now }
     requires numbers { length pass.old.made + length (acts_in number commands.now) < 2 ^ 60 }
     requires room { (length report.old.reads.items < vec_capacity report.old.reads)
         × (length report.old.plays.items < vec_capacity report.old.plays) }
     requires room_for_commits { length report.old.commits.items + length (acts_in number commands.now) ≤ vec_capacity report.old.commits }
     ensures run { (first : AudioView) (told : Option AudioContents)
-        → IsPlaying quantum commands.now number first pass.old told (A.contents audio.old)
+        → IsPlaying commands.now number first pass.old told (A.contents audio.old)
         report.old.reads.items report.old.commits.items (map (λ clicks. clicks.items) report.old.plays.items)
-        → AfterBlock result quantum commands.now number first pass.new told (A.contents audio.new)
+        → AfterBlock result commands.now number first pass.new told (A.contents audio.new)
         report.new.reads.items report.new.commits.items (map (λ clicks. clicks.items) report.new.plays.items) }
     ensures cause { HasBlockCause (A.faults audio.old) (A.faults audio.new) result }
     ensures capacity { (vec_capacity report.new.reads ≡ vec_capacity report.old.reads)
@@ -116,7 +104,7 @@ fn audio_block<C: StateCell<9, Way = ()>, N: LinkName, A: Audio>(
     };
     let capture = link.capture_audio(&(), pass);
     report.reads.push_reserved(capture);
-    let clicks = capture.shown.clicks(block, quantum);
+    let clicks = capture.shown.clicks(block);
     match audio.play(&clicks) {
         Played::Done => {}
         Played::Failed => return BlockEnd::Failed,
@@ -129,67 +117,53 @@ fn audio_block<C: StateCell<9, Way = ()>, N: LinkName, A: Audio>(
         block.start,
         commands,
         number,
-        quantum,
         &mut report.commits,
     );
     BlockEnd::Played
 }
 
 // Makes the commits of the commands of a block at its start, each on top of those before it. Waits: no. Memory: none.
-fn commit_block<C: StateCell<9, Way = ()>, N: LinkName>(
+fn commit_block<C: StateCell<11, Way = ()>, N: LinkName>(
     link: &Link<C, N>,
     pass: &mut AudioPass<C, N>,
     capture: Capture,
     start: i64,
     commands: &[BlockCommand],
     number: u64,
-    quantum: i64,
     commits: &mut Vec<Commit>,
 )
-    requires quantum { IsQuantum quantum }
     requires moment { IsMoment start }
     requires commands { All (λ command. IsCommand (block_command command)) commands.now }
     requires numbers { length pass.old.made + length (acts_in number commands.now) < 2 ^ 60 }
     requires room { length commits.old.items + length (acts_in number commands.now) ≤ vec_capacity commits.old }
     requires shown { IsShownWith capture pass.old.made }
     requires tidy { IsTidyState capture.state × IsTidyState capture.shown }
-    ensures committed { HasCommitted quantum start number commands.now capture.state pass.old pass.new commits.old.items commits.new.items }
+    ensures committed { HasCommitted start number commands.now capture.state pass.old pass.new commits.old.items commits.new.items }
     ensures capacity { vec_capacity commits.new ≡ vec_capacity commits.old }
 {
     let mut capture = capture;
     for command in commands {
-        commit_one(
-            link,
-            pass,
-            &mut capture,
-            start,
-            *command,
-            number,
-            quantum,
-            commits,
-        );
+        commit_one(link, pass, &mut capture, start, *command, number, commits);
     }
 }
 
 // Makes the commit of a command, where it is one of this block, and shows it. Waits: no. Memory: none.
-fn commit_one<C: StateCell<9, Way = ()>, N: LinkName>(
+fn commit_one<C: StateCell<11, Way = ()>, N: LinkName>(
     link: &Link<C, N>,
     pass: &mut AudioPass<C, N>,
     capture: &mut Capture,
     start: i64,
     command: BlockCommand,
     number: u64,
-    quantum: i64,
     commits: &mut Vec<Commit>,
 )
-    requires quantum { IsQuantum quantum }
     requires moment { IsMoment start }
     requires act { IsAct command.act }
     requires numbers { length pass.old.made + length (acts_in number (command ∷ [])) < 2 ^ 60 }
     requires room { length commits.old.items + length (acts_in number (command ∷ [])) ≤ vec_capacity commits.old }
     requires shown { IsShownWith capture.old pass.old.made }
     requires tidy { IsTidyState capture.old.state × IsTidyState capture.old.shown }
-    ensures committed { HasCommitted quantum start number (command ∷ []) capture.old.state pass.old pass.new
+    ensures committed { HasCommitted start number (command ∷ []) capture.old.state pass.old pass.new
         commits.old.items commits.new.items }
     ensures shown { IsShownWith capture.new pass.new.made }
     ensures state { capture.new.state ≡ capture.old.state }
@@ -197,7 +171,7 @@ fn commit_one<C: StateCell<9, Way = ()>, N: LinkName>(
     ensures capacity { vec_capacity commits.new ≡ vec_capacity commits.old }
 {
     if command.block == number {
-        let commit = commit_of(command.act, start, quantum, capture);
+        let commit = commit_of(command.act, start, capture);
         let made = link.commit_audio(&(), pass, &commit);
         commits.push_reserved(commit);
         capture.shown = with_own(made, commit, &capture.state);

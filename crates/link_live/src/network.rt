@@ -55,7 +55,7 @@ struct Line {
 /// journal full, it isn't asked to receive. A turn that then takes no event is followed by a rest, as the next one would come at once.
 ///
 /// Waits: in the port, for a place's last user in the queue, by the way, and in a rest. Memory: none.
-pub fn network_loop<C: StateCell<9>, N: LinkName, P: Port, R: Wait>(
+pub fn network_loop<C: StateCell<11>, N: LinkName, P: Port, R: Wait>(
     rt: &R,
     hub: &mut Hub<C, N>,
     link: &Link<C, N>,
@@ -90,7 +90,7 @@ pub fn network_loop<C: StateCell<9>, N: LinkName, P: Port, R: Wait>(
 
 // One turn of the hub, with what is due or what the port answers, and what it sends. Answers whether it popped a quit.
 // Waits: in the port, for a place's last user in the queue, by the way, and in a rest. Memory: none.
-fn network_turn<C: StateCell<9>, N: LinkName, P: Port, R: Wait>(
+fn network_turn<C: StateCell<11>, N: LinkName, P: Port, R: Wait>(
     rt: &R,
     hub: &mut Hub<C, N>,
     link: &Link<C, N>,

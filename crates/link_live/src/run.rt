@@ -1,7 +1,6 @@
 //! A live run: three threads over one link, and its end.
 
 ghost use Rattle.std.specs.Prelude.{◌≡◌, ◌≤◌, ◌<◌, ◌^◌, ◌+◌, pos, [], None, Bool, true, false, length, map, not, All, vec_capacity};
-ghost use Rattle.lk_base.specs.Ranges.{IsQuantum};
 ghost use Rattle.lk_outside.specs.Faults.{Rose};
 ghost use Rattle.lk_outside.specs.Pace.{IsPaced};
 ghost use Rattle.link_node.specs.Config.{config_value, gate_value, IsConfig};
@@ -68,11 +67,10 @@ pub fn live_run<
 >(
     rt: &R,
     alloc: Global,
-    parts: Parts<Triple<9>>,
+    parts: Parts<Triple<11>>,
     config: &Config,
     script: &LiveScript,
     blocks: u64,
-    quantum: i64,
     room: Room,
     port: &mut P,
     audio: &mut A,
@@ -83,9 +81,8 @@ pub fn live_run<
     requires ledger { (parts.ledger ≡ N.name) × (parts.shares ≡ N.parts) × (N.whole ≡ N.parts) }
     requires config { (parts.config ≡ config_value config.now) × IsConfig parts.config }
     requires opening { IsPaced (T.late pace.old) (pos 0) parts.opened_at }
-    requires quantum { IsQuantum quantum }
     requires ready { IsReady script.now blocks room }
-    ensures ends { EndsLiveRun (setup_of parts.config parts.most script.now blocks quantum) (T.late pace.old)
+    ensures ends { EndsLiveRun (setup_of parts.config parts.most script.now blocks) (T.late pace.old)
         (P.contents port.old) (P.contents port.new) (P.bound port.new) (P.faults port.old) (P.faults port.new)
         (A.contents audio.old) (A.contents audio.new) (A.faults audio.old) (A.faults audio.new)
         (told_of parts.config parts.opened_at result) result.end }
@@ -107,7 +104,7 @@ pub fn live_run<
         mut hub,
         audio: mut audio_pass,
         app: mut app_pass,
-    } = Link::<Triple<9>, N>::make(parts);
+    } = Link::<Triple<11>, N>::make(parts);
     let bound = bind(port, config);
     let ends = run_loops(
         rt,
@@ -115,7 +112,6 @@ pub fn live_run<
         &link,
         script,
         blocks,
-        quantum,
         &mut hub,
         port,
         bound,

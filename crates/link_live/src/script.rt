@@ -1,7 +1,6 @@
 //! The loop of an application that takes its commands from a live script.
 
 ghost use Rattle.std.specs.Prelude.{◌≡◌, ◌≤◌, ◌<◌, ◌+◌, ℕ, List, [], None, if◌then◌else◌, true, length, All, vec_capacity, vec_len};
-ghost use Rattle.lk_base.specs.Ranges.{IsQuantum};
 ghost use Rattle.client_state.specs.Commit.{IsTidyCommit};
 ghost use Rattle.link_shared.specs.Passes.{HasCommitted};
 ghost use Rattle.link_text.specs.LiveScript.{IsCommand, app as app_command};
@@ -29,11 +28,11 @@ pub struct ScriptReport {
 }
 
 /// Takes the script's commands in order: for each it waits until the command's moment, captures, and commits what the command makes of the
-/// state that it is shown, with the phases of the quantum, in microbeats; a look commits nothing. Then it asks the network's loop to end.
+/// state that it is shown, with the phases of its quantum; a look commits nothing. Then it asks the network's loop to end.
 /// Where memory for a capture is wanting it takes no further command, and answers false.
 ///
 /// Waits: in the pace, for the desk, by the way, and for room in the queue. Memory: two notes for each capture.
-pub fn script_loop<C: StateCell<9>, N: LinkName, T: Pace, R: Wait>(
+pub fn script_loop<C: StateCell<11>, N: LinkName, T: Pace, R: Wait>(
     rt: &R,
     alloc: Global,
     link: &Link<C, N>,
@@ -41,35 +40,23 @@ pub fn script_loop<C: StateCell<9>, N: LinkName, T: Pace, R: Wait>(
     pass: &mut AppPass<C, N>,
     pace: &mut T,
     script: &LiveScript,
-    quantum: i64,
     report: &mut ScriptReport,
 ) -> bool
-    requires quantum { IsQuantum quantum }
     requires commands { All (λ command. IsCommand (app_command command)) script.now.apps.items }
     requires sole { (pass.old.sole ≡ true) × (pass.old.made ≡ 0) × (pass.old.own ≡ None) × (pass.old.pushed ≡ []) }
     requires empty { (report.old.captures.items ≡ []) × (report.old.commits.items ≡ []) }
     requires room { (length script.now.apps.items ≤ vec_capacity report.old.captures)
         × (length script.now.apps.items ≤ vec_capacity report.old.commits) }
-    ensures run { IsScriptRun quantum (T.late pace.old) script.now.apps.items pass.new
+    ensures run { IsScriptRun (T.late pace.old) script.now.apps.items pass.new
         report.new.captures.items report.new.commits.items result }
 {
-    let all = take_commands(
-        rt,
-        alloc,
-        link,
-        way,
-        pass,
-        pace,
-        &script.apps,
-        quantum,
-        report,
-    );
+    let all = take_commands(rt, alloc, link, way, pass, pace, &script.apps, report);
     ask_to_end(rt, link);
     all
 }
 
 // Takes the commands in order, and answers whether it took all. Waits and memory: as in `script_loop`.
-fn take_commands<C: StateCell<9>, N: LinkName, T: Pace, R: Wait>(
+fn take_commands<C: StateCell<11>, N: LinkName, T: Pace, R: Wait>(
     rt: &R,
     alloc: Global,
     link: &Link<C, N>,
@@ -77,20 +64,18 @@ fn take_commands<C: StateCell<9>, N: LinkName, T: Pace, R: Wait>(
     pass: &mut AppPass<C, N>,
     pace: &mut T,
     commands: &[AppCommand],
-    quantum: i64,
     report: &mut ScriptReport,
 ) -> bool
-    requires quantum { IsQuantum quantum }
     requires commands { All (λ command. IsCommand (app_command command)) commands.now }
     requires sole { (pass.old.sole ≡ true) × (pass.old.made ≡ 0) × (pass.old.own ≡ None) × (pass.old.pushed ≡ []) }
     requires empty { (report.old.captures.items ≡ []) × (report.old.commits.items ≡ []) }
     requires room { (length commands.now ≤ vec_capacity report.old.captures)
         × (length commands.now ≤ vec_capacity report.old.commits) }
-    ensures run { IsScriptRun quantum (T.late pace.old) commands.now pass.new
+    ensures run { IsScriptRun (T.late pace.old) commands.now pass.new
         report.new.captures.items report.new.commits.items result }
 {
     for command in commands {
-        if !take_command(rt, alloc, link, way, pass, pace, command, quantum, report) {
+        if !take_command(rt, alloc, link, way, pass, pace, command, report) {
             return false;
         }
     }
@@ -98,7 +83,7 @@ fn take_commands<C: StateCell<9>, N: LinkName, T: Pace, R: Wait>(
 }
 
 // Takes a command, unless memory for its capture is wanting. Waits and memory: as in `script_loop`.
-fn take_command<C: StateCell<9>, N: LinkName, T: Pace, R: Wait>(
+fn take_command<C: StateCell<11>, N: LinkName, T: Pace, R: Wait>(
     rt: &R,
     alloc: Global,
     link: &Link<C, N>,
@@ -106,16 +91,14 @@ fn take_command<C: StateCell<9>, N: LinkName, T: Pace, R: Wait>(
     pass: &mut AppPass<C, N>,
     pace: &mut T,
     command: &AppCommand,
-    quantum: i64,
     report: &mut ScriptReport,
 ) -> bool
-    requires quantum { IsQuantum quantum }
     requires command { IsCommand (app_command command.now) }
     requires room { (vec_len report.old.captures < vec_capacity report.old.captures)
         × (vec_len report.old.commits < vec_capacity report.old.commits) }
     ensures taken { (commands : List AnyCommand) (count : ℕ) → IsCommandAt commands count command.now
-        → IsTaking quantum (T.late pace.old) commands count pass.old report.old.captures.items report.old.commits.items
-        → IsTaking quantum (T.late pace.old) commands (if result then count + 1 else count) pass.new
+        → IsTaking (T.late pace.old) commands count pass.old report.old.captures.items report.old.commits.items
+        → IsTaking (T.late pace.old) commands (if result then count + 1 else count) pass.new
         report.new.captures.items report.new.commits.items }
     ensures late { T.late pace.new ≡ T.late pace.old }
     ensures captures_fit { (vec_capacity report.new.captures ≡ vec_capacity report.old.captures)
@@ -131,7 +114,7 @@ fn take_command<C: StateCell<9>, N: LinkName, T: Pace, R: Wait>(
     if looks(command.act) {
         return true;
     }
-    let commit = commit_of(command.act, at, quantum, &capture);
+    let commit = commit_of(command.act, at, &capture);
     hand_over(rt, link, pass, commit);
     report.commits.push_reserved(commit);
     true
@@ -146,7 +129,7 @@ fn looks(act: Act) -> bool
 
 // Hands a commit over, as soon as the queue has room. Answers its number.
 // Waits: for the desk, and for room in the queue, a rest at a time. Memory: none.
-fn hand_over<C: StateCell<9>, N: LinkName, R: Wait>(
+fn hand_over<C: StateCell<11>, N: LinkName, R: Wait>(
     rt: &R,
     link: &Link<C, N>,
     pass: &mut AppPass<C, N>,
@@ -166,7 +149,7 @@ fn hand_over<C: StateCell<9>, N: LinkName, R: Wait>(
 
 // Asks the network's loop to end, as soon as the queue has room.
 // Waits: for the desk, and for room in the queue, a rest at a time. Memory: none.
-fn ask_to_end<C: StateCell<9>, N: LinkName, R: Wait>(rt: &R, link: &Link<C, N>) {
+fn ask_to_end<C: StateCell<11>, N: LinkName, R: Wait>(rt: &R, link: &Link<C, N>) {
     for _ in rt.forever() {
         if link.quit(rt).is_ok() {
             return;

@@ -38,9 +38,9 @@ pub trait NetworkSide<R, L, P> {
 
 /// The audio thread's side.
 pub trait AudioSide<L, A> {
-    ghost starts: { Self → AnyScriptText → ℕ → ℤ → AnyAudio → Type 0 };
+    ghost starts: { Self → AnyScriptText → ℕ → AnyAudio → Type 0 };
 
-    ghost runs: { Self → Self → A → A → AnyScriptText → ℕ → ℤ → AnyAudio → Bool → Type 0 };
+    ghost runs: { Self → Self → A → A → AnyScriptText → ℕ → AnyAudio → Bool → Type 0 };
 
     /// Runs the audio thread's loop.
     fn play(
@@ -49,18 +49,17 @@ pub trait AudioSide<L, A> {
         audio: &mut A,
         script: &LiveScript,
         blocks: u64,
-        quantum: i64,
         report: &mut AudioReport,
     ) -> bool
-        requires { starts self.old script.now blocks quantum report.old }
-        ensures { runs self.old self.new audio.old audio.new script.now blocks quantum report.new result };
+        requires { starts self.old script.now blocks report.old }
+        ensures { runs self.old self.new audio.old audio.new script.now blocks report.new result };
 }
 
 /// The application's side.
 pub trait ScriptSide<R, L, T> {
-    ghost starts: { Self → AnyScriptText → ℤ → AnyScript → Type 0 };
+    ghost starts: { Self → AnyScriptText → AnyScript → Type 0 };
 
-    ghost runs: { Self → T → AnyScriptText → ℤ → AnyScript → Bool → Type 0 };
+    ghost runs: { Self → T → AnyScriptText → AnyScript → Bool → Type 0 };
 
     /// Runs the application's loop.
     fn take(
@@ -70,14 +69,13 @@ pub trait ScriptSide<R, L, T> {
         link: &L,
         pace: &mut T,
         script: &LiveScript,
-        quantum: i64,
         report: &mut ScriptReport,
     ) -> bool
-        requires { starts self.old script.now quantum report.old }
-        ensures { runs self.new pace.old script.now quantum report.new result };
+        requires { starts self.old script.now report.old }
+        ensures { runs self.new pace.old script.now report.new result };
 }
 
-impl<N: LinkName, P: Port, R: Wait> NetworkSide<R, Link<Triple<9>, N>, P> for Hub<Triple<9>, N> {
+impl<N: LinkName, P: Port, R: Wait> NetworkSide<R, Link<Triple<11>, N>, P> for Hub<Triple<11>, N> {
     ghost use Rattle.link_live.specs.Loops.{CanRun, HasRun};
 
     ghost starts = { λ hub port bound. CanRun bound hub (P.bound port) };
@@ -88,7 +86,7 @@ impl<N: LinkName, P: Port, R: Wait> NetworkSide<R, Link<Triple<9>, N>, P> for Hu
     fn run(
         &mut self,
         rt: &R,
-        link: &Link<Triple<9>, N>,
+        link: &Link<Triple<11>, N>,
         port: &mut P,
         bound: bool,
         sends: &mut Sends,
@@ -97,45 +95,44 @@ impl<N: LinkName, P: Port, R: Wait> NetworkSide<R, Link<Triple<9>, N>, P> for Hu
     }
 }
 
-impl<N: LinkName, A: Audio> AudioSide<Link<Triple<9>, N>, A> for AudioPass<Triple<9>, N> {
+impl<N: LinkName, A: Audio> AudioSide<Link<Triple<11>, N>, A> for AudioPass<Triple<11>, N> {
     ghost use Rattle.link_live.specs.Loops.{CanPlay, HasPlayedBlocks};
 
-    ghost starts = { λ pass script blocks quantum report. CanPlay quantum blocks script.blocks.items pass report };
+    ghost starts = { λ pass script blocks report. CanPlay blocks script.blocks.items pass report };
 
-    ghost runs = { λ pass pass_then audio audio_then script blocks quantum report ended. HasPlayedBlocks quantum blocks script.blocks.items pass pass_then
+    ghost runs = { λ pass pass_then audio audio_then script blocks report ended. HasPlayedBlocks blocks script.blocks.items pass pass_then
         (A.contents audio) (A.contents audio_then) (A.faults audio) (A.faults audio_then) report ended };
 
     fn play(
         &mut self,
-        link: &Link<Triple<9>, N>,
+        link: &Link<Triple<11>, N>,
         audio: &mut A,
         script: &LiveScript,
         blocks: u64,
-        quantum: i64,
         report: &mut AudioReport,
     ) -> bool {
-        audio_loop(link, self, audio, script, blocks, quantum, report)
+        audio_loop(link, self, audio, script, blocks, report)
     }
 }
 
-impl<N: LinkName, T: Pace, R: Wait> ScriptSide<R, Link<Triple<9>, N>, T> for AppPass<Triple<9>, N> {
+impl<N: LinkName, T: Pace, R: Wait> ScriptSide<R, Link<Triple<11>, N>, T>
+    for AppPass<Triple<11>, N> {
     ghost use Rattle.link_live.specs.Loops.{CanTake, HasTakenCommands};
 
-    ghost starts = { λ pass script quantum report. CanTake quantum script.apps.items pass report };
+    ghost starts = { λ pass script report. CanTake script.apps.items pass report };
 
-    ghost runs = { λ pass pace script quantum report all. HasTakenCommands quantum (T.late pace) script.apps.items pass report all };
+    ghost runs = { λ pass pace script report all. HasTakenCommands (T.late pace) script.apps.items pass report all };
 
     fn take(
         &mut self,
         rt: &R,
         alloc: Global,
-        link: &Link<Triple<9>, N>,
+        link: &Link<Triple<11>, N>,
         pace: &mut T,
         script: &LiveScript,
-        quantum: i64,
         report: &mut ScriptReport,
     ) -> bool {
-        script_loop(rt, alloc, link, &(), self, pace, script, quantum, report)
+        script_loop(rt, alloc, link, &(), self, pace, script, report)
     }
 }
 
@@ -167,7 +164,6 @@ pub fn run_loops<
     link: &L,
     script: &LiveScript,
     blocks: u64,
-    quantum: i64,
     hub: &mut H,
     port: &mut P,
     bound: bool,
@@ -180,11 +176,11 @@ pub fn run_loops<
     script_report: &mut ScriptReport,
 ) -> LoopEnds
     requires network { H.starts hub.old port.old bound }
-    requires audio { U.starts player.old script.now blocks quantum audio_report.old }
-    requires script { V.starts app.old script.now quantum script_report.old }
+    requires audio { U.starts player.old script.now blocks audio_report.old }
+    requires script { V.starts app.old script.now script_report.old }
     ensures network { H.runs hub.old hub.new port.old port.new bound result.net }
-    ensures audio { U.runs player.old player.new audio.old audio.new script.now blocks quantum audio_report.new result.played }
-    ensures script { V.runs app.new pace.old script.now quantum script_report.new result.captured }
+    ensures audio { U.runs player.old player.new audio.old audio.new script.now blocks audio_report.new result.played }
+    ensures script { V.runs app.new pace.old script.now script_report.new result.captured }
 {
     let (net, (played, captured)) = thread::join_mut(
         rt,
@@ -194,10 +190,10 @@ pub fn run_loops<
         { hub.run(rt, link, port, bound, sends) },
         &mut || -> (bool, bool)
             requires { IsSync R.row × IsSync L.row × IsSend A.row × IsSend T.row × IsSend U.row × IsSend V.row
-                × U.starts player.now script.now blocks quantum audio_report.now
-                × V.starts app.now script.now quantum script_report.now }
-            ensures { U.runs player.entry.now player.exit.now audio.entry.now audio.exit.now script.entry.now blocks quantum audio_report.exit.now result.0
-                × V.runs app.exit.now pace.entry.now script.entry.now quantum script_report.exit.now result.1 }
+                × U.starts player.now script.now blocks audio_report.now
+                × V.starts app.now script.now script_report.now }
+            ensures { U.runs player.entry.now player.exit.now audio.entry.now audio.exit.now script.entry.now blocks audio_report.exit.now result.0
+                × V.runs app.exit.now pace.entry.now script.entry.now script_report.exit.now result.1 }
         {
             run_clients(
                 rt,
@@ -205,7 +201,6 @@ pub fn run_loops<
                 link,
                 script,
                 blocks,
-                quantum,
                 player,
                 audio,
                 audio_report,
@@ -237,7 +232,6 @@ fn run_clients<
     link: &L,
     script: &LiveScript,
     blocks: u64,
-    quantum: i64,
     player: &mut U,
     audio: &mut A,
     audio_report: &mut AudioReport,
@@ -245,20 +239,20 @@ fn run_clients<
     pace: &mut T,
     script_report: &mut ScriptReport,
 ) -> (bool, bool)
-    requires audio { U.starts player.old script.now blocks quantum audio_report.old }
-    requires script { V.starts app.old script.now quantum script_report.old }
-    ensures audio { U.runs player.old player.new audio.old audio.new script.now blocks quantum audio_report.new result.0 }
-    ensures script { V.runs app.new pace.old script.now quantum script_report.new result.1 }
+    requires audio { U.starts player.old script.now blocks audio_report.old }
+    requires script { V.starts app.old script.now script_report.old }
+    ensures audio { U.runs player.old player.new audio.old audio.new script.now blocks audio_report.new result.0 }
+    ensures script { V.runs app.new pace.old script.now script_report.new result.1 }
 {
     thread::join_mut(
         rt,
         &mut || -> bool
-            requires { U.starts player.now script.now blocks quantum audio_report.now }
-            ensures { U.runs player.entry.now player.exit.now audio.entry.now audio.exit.now script.entry.now blocks quantum audio_report.exit.now result }
-        { player.play(link, audio, script, blocks, quantum, audio_report) },
+            requires { U.starts player.now script.now blocks audio_report.now }
+            ensures { U.runs player.entry.now player.exit.now audio.entry.now audio.exit.now script.entry.now blocks audio_report.exit.now result }
+        { player.play(link, audio, script, blocks, audio_report) },
         &mut || -> bool
-            requires { V.starts app.now script.now quantum script_report.now }
-            ensures { V.runs app.exit.now pace.entry.now script.entry.now quantum script_report.exit.now result }
-        { app.take(rt, alloc, link, pace, script, quantum, script_report) },
+            requires { V.starts app.now script.now script_report.now }
+            ensures { V.runs app.exit.now pace.entry.now script.entry.now script_report.exit.now result }
+        { app.take(rt, alloc, link, pace, script, script_report) },
     )
 }

@@ -1,7 +1,7 @@
 //! Runs of the audio thread's loop, over a device and a link in memory.
 //!
 //! The link opens at a second with 500,000 microseconds per beat from beat 0 there, and doesn't play. The blocks of the device are a second
-//! long and begin where the link opens, and the quantum is four beats. The link's network thread makes no turn, so no commit is taken.
+//! long and begin where the link opens, with a quantum of four beats. The link's network thread makes no turn, so no commit is taken.
 
 mod rows;
 mod told;
@@ -72,15 +72,15 @@ fn played_on(
     requires ready { IsReady script.now row.now.blocks room.old }
 {
     let parts = new_parts(alloc)?;
-    Ok(played_over::<Triple<9>, Brand>(parts, row, script, room, device))
+    Ok(played_over::<Triple<11>, Brand>(parts, row, script, room, device))
 }
 
-fn new_parts(alloc: Global) -> Result<Parts<Triple<9>>, AllocError> {
+fn new_parts(alloc: Global) -> Result<Parts<Triple<11>>, AllocError> {
     let config = config_of(&[0]);
-    Parts::<Triple<9>>::new(alloc, &(), &config, 1_000_000, 1)
+    Parts::<Triple<11>>::new(alloc, &(), &config, 1_000_000, 1)
 }
 
-fn played_over<C: StateCell<9, Way = ()>, N: LinkName>(
+fn played_over<C: StateCell<11, Way = ()>, N: LinkName>(
     parts: Parts<C>,
     row: &Row,
     script: &LiveScript,
@@ -102,7 +102,7 @@ fn played_over<C: StateCell<9, Way = ()>, N: LinkName>(
     play(&link, &mut audio, row, script, room, device)
 }
 
-fn play<C: StateCell<9, Way = ()>, N: LinkName>(
+fn play<C: StateCell<11, Way = ()>, N: LinkName>(
     link: &Link<C, N>,
     pass: &mut AudioPass<C, N>,
     row: &Row,
@@ -120,13 +120,12 @@ fn play<C: StateCell<9, Way = ()>, N: LinkName>(
         device,
         script,
         u64::from(row.blocks),
-        4_000_000,
         &mut room.audio,
     )
 }
 
 // The commit made before, where there is one: it plays from half a second after the opening on.
-fn commit_before<C: StateCell<9, Way = ()>, N: LinkName>(
+fn commit_before<C: StateCell<11, Way = ()>, N: LinkName>(
     link: &Link<C, N>,
     pass: &mut AudioPass<C, N>,
     commits: bool,
@@ -143,6 +142,7 @@ fn commit_before<C: StateCell<9, Way = ()>, N: LinkName>(
         let commit = Commit {
             timeline: None,
             start: Some(start),
+            quantum: None,
             at: 1,
         };
         let _number = link.commit_audio(&(), pass, &commit);

@@ -1,7 +1,7 @@
 //! Live runs: three real threads over a port, a device and a pace in memory.
 //!
 //! The link opens at 0 with 500,000 microseconds per beat from beat 0 there, and doesn't play. Nothing comes to the port, so no moment is
-//! heard after the opening. The blocks of the device are 20,000 microseconds long and begin at the opening, and the quantum is four beats.
+//! heard after the opening. The blocks of the device are 20,000 microseconds long and begin at the opening, with a quantum of four beats.
 
 ghost use Rattle.std.specs.Prelude.{◌≡◌, ◌≤◌, pos, All, length};
 ghost use Rattle.lk_outside.specs.ListPace.{late_of};
@@ -54,7 +54,7 @@ const ROWS: &[Row] = &[
         device: NEVER,
         commands: "",
         told: "Well t1 c0 u0 e1 end, 0 reads, 0 captures, 0 and 0 commits\n\
-            state 1 500000 0 0 0 0 0 1 0 0 0 0\n",
+            state 1 500000 0 0 0 0 0 1 0 0 0 0 4141414141414141 4000000\n",
     },
     // Beat 2 is at 1,000,000, and so half a second of four beats a second before it is beat 0.
     Row {
@@ -64,8 +64,19 @@ const ROWS: &[Row] = &[
         device: NEVER,
         commands: "at 1000000 tempo 250000\n",
         told: "Well t1 c1 u0 e1 end, 2 reads, 1 captures, 1 and 0 commits\n\
-            state 2 250000 0 500000 0 0 0 1 0 0 1 0\n\
-            state 0 500000 0 0 0 0 0 1 0 0 0 0\n",
+            state 2 250000 0 500000 0 0 0 1 0 0 1 0 4141414141414141 4000000\n\
+            state 0 500000 0 0 0 0 0 1 0 0 0 0 4141414141414141 4000000\n",
+    },
+    // Bars of three beats, whether that was taken by then or not.
+    Row {
+        blocks: 2,
+        most: 300,
+        port: NEVER,
+        device: NEVER,
+        commands: "at 0 quantum 3000000\nat 1000000 tempo 250000\n",
+        told: "Well t1 c2 u0 e1 end, 2 reads, 2 captures, 2 and 0 commits\n\
+            state 3 250000 0 500000 0 0 0 1 0 0 2 0 4141414141414141 3000000\n\
+            state 0 500000 0 0 0 0 0 1 0 0 0 0 4141414141414141 3000000\n",
     },
     // Whether the commits were taken by then or not, the look is shown both.
     Row {
@@ -75,8 +86,8 @@ const ROWS: &[Row] = &[
         device: NEVER,
         commands: "at 1000000 tempo 250000\nat 2000000 play\nat 3000000 look\n",
         told: "Well t1 c2 u0 e1 end, 2 reads, 3 captures, 2 and 0 commits\n\
-            state 3 250000 0 500000 1 2000000 2000000 1 0 0 2 0\n\
-            state 0 250000 0 500000 1 2000000 2000000 1 0 0 0 0\n",
+            state 3 250000 0 500000 1 2000000 2000000 1 0 0 2 0 4141414141414141 4000000\n\
+            state 0 250000 0 500000 1 2000000 2000000 1 0 0 0 0 4141414141414141 4000000\n",
     },
     // The tick stands before the second commit, and for the third there is no room.
     Row {
@@ -86,8 +97,8 @@ const ROWS: &[Row] = &[
         device: NEVER,
         commands: "at 1000000 tempo 250000\nat 1000000 tempo 200000\nat 1000000 tempo 125000\n",
         told: "Events t1 c2 u0 e0, 1 reads, 3 captures, 3 and 0 commits\n\
-            state 3 200000 0 600000 0 0 0 1 0 0 2 0\n\
-            state 0 200000 0 600000 0 0 0 1 0 0 0 0\n",
+            state 3 200000 0 600000 0 0 0 1 0 0 2 0 4141414141414141 4000000\n\
+            state 0 200000 0 600000 0 0 0 1 0 0 0 0 4141414141414141 4000000\n",
     },
     Row {
         blocks: 1,
@@ -96,8 +107,8 @@ const ROWS: &[Row] = &[
         device: NEVER,
         commands: "at 1000000 tempo 250000\n",
         told: "Port t1 c1 u0 e1 end, 1 reads, 1 captures, 1 and 0 commits\n\
-            state 2 250000 0 500000 0 0 0 1 0 0 1 0\n\
-            state 0 500000 0 0 0 0 0 1 0 0 0 0\n",
+            state 2 250000 0 500000 0 0 0 1 0 0 1 0 4141414141414141 4000000\n\
+            state 0 500000 0 0 0 0 0 1 0 0 0 0 4141414141414141 4000000\n",
     },
     Row {
         blocks: 1,
@@ -106,8 +117,8 @@ const ROWS: &[Row] = &[
         device: NEVER,
         commands: "at 1000000 tempo 250000\n",
         told: "Port t1 c1 u0 e1 end, 1 reads, 1 captures, 1 and 0 commits\n\
-            state 2 250000 0 500000 0 0 0 1 0 0 1 0\n\
-            state 0 500000 0 0 0 0 0 1 0 0 0 0\n",
+            state 2 250000 0 500000 0 0 0 1 0 0 1 0 4141414141414141 4000000\n\
+            state 0 500000 0 0 0 0 0 1 0 0 0 0 4141414141414141 4000000\n",
     },
     Row {
         blocks: 1,
@@ -116,8 +127,8 @@ const ROWS: &[Row] = &[
         device: (NEXT, 1),
         commands: "at 1000000 tempo 250000\n",
         told: "Audio t1 c1 u0 e1 end, 0 reads, 1 captures, 1 and 0 commits\n\
-            state 2 250000 0 500000 0 0 0 1 0 0 1 0\n\
-            state 0 500000 0 0 0 0 0 1 0 0 0 0\n",
+            state 2 250000 0 500000 0 0 0 1 0 0 1 0 4141414141414141 4000000\n\
+            state 0 500000 0 0 0 0 0 1 0 0 0 0 4141414141414141 4000000\n",
     },
     // The last commit of the audio thread is always taken. It is made at the start of the block, which is beat 0.
     Row {
@@ -127,7 +138,7 @@ const ROWS: &[Row] = &[
         device: NEVER,
         commands: "block 1 tempo 250000\n",
         told: "Well t1 c0 u1 e1 end, 2 reads, 0 captures, 0 and 1 commits\n\
-            state 2 250000 0 0 0 0 0 1 0 0 0 1\n",
+            state 2 250000 0 0 0 0 0 1 0 0 0 1 4141414141414141 4000000\n",
     },
 ];
 
@@ -196,7 +207,7 @@ fn run_on<R: Threads + Wait + Sync + Abort>(
     let mut pace = ListPace::new(0);
     let now = pace.until(0);
     let most = row.most.clamp(1, 524_288);
-    let parts = Parts::<Triple<9>>::new(alloc, &(), &config, now, most);
+    let parts = Parts::<Triple<11>>::new(alloc, &(), &config, now, most);
     let parts = parts.expect(rt, "memory for a link");
     run_of::<Brand, R>(
         rt, alloc, parts, &config, script, row.blocks, room, port, device, &mut pace,
@@ -206,7 +217,7 @@ fn run_on<R: Threads + Wait + Sync + Abort>(
 fn run_of<N: LinkName + Send + Sync, R: Threads + Wait + Sync>(
     rt: &R,
     alloc: Global,
-    parts: Parts<Triple<9>>,
+    parts: Parts<Triple<11>>,
     config: &Config,
     script: &LiveScript,
     blocks: u16,
@@ -229,7 +240,6 @@ fn run_of<N: LinkName + Send + Sync, R: Threads + Wait + Sync>(
         config,
         script,
         u64::from(blocks),
-        4_000_000,
         room,
         port,
         device,
@@ -264,7 +274,7 @@ fn tell(run: &LiveRun) -> Text {
 
 fn put_state(text: &mut Text, number: u64, state: &State) {
     let mut line = LineBuf::new();
-    write_state_line(&mut line, number, state);
+    write_state_line(&mut line, 2, number, state);
     put(text, &line);
 }
 

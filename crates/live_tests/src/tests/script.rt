@@ -18,20 +18,20 @@ use triple_buffer::Triple;
 #[test]
 fn a_script_is_taken_in_order(rt: HostRuntime) -> Result<(), Fail> {
     for row in ROWS {
-        expect_row::<Triple<9>, HostRuntime>(&rt, rt.alloc(), &(), row);
-        expect_row::<SeqState<HostRuntime, 9>, HostRuntime>(&rt, rt.alloc(), &rt, row);
+        expect_row::<Triple<11>, HostRuntime>(&rt, rt.alloc(), &(), row);
+        expect_row::<SeqState<HostRuntime, 11>, HostRuntime>(&rt, rt.alloc(), &rt, row);
     }
     Ok(())
 }
 
-fn expect_row<C: StateCell<9>, R: Wait + Abort>(rt: &R, alloc: Global, way: &C::Way, row: &Row) {
+fn expect_row<C: StateCell<11>, R: Wait + Abort>(rt: &R, alloc: Global, way: &C::Way, row: &Row) {
     let Ok(told) = told_for::<C, R>(rt, alloc, way, row) else {
         panic!(rt; "no run: {}", row.commands);
     };
     assert_eq!(rt; told.as_slice(), row.told.as_bytes(), "{}", row.commands);
 }
 
-fn told_for<C: StateCell<9>, R: Wait + Abort>(
+fn told_for<C: StateCell<11>, R: Wait + Abort>(
     rt: &R,
     alloc: Global,
     way: &C::Way,

@@ -4,7 +4,7 @@ use Rattle.link_live.proofs.audio.audio_loop.Given as goal
 
 abbrev pub invariant-loop-played : goal.invariant-loop-played
 invariant-loop-played g l = record {
-  playing : IsPlaying l.fn.quantum l.fn.script.blocks.items (l.played + 1) l.fn.pass l.pass (g.A.Audio.contents l.fn.audio) (g.A.Audio.contents l.audio)
+  playing : IsPlaying l.fn.script.blocks.items (l.played + 1) l.fn.pass l.pass (g.A.Audio.contents l.fn.audio) (g.A.Audio.contents l.audio)
       l.report.reads.items l.report.commits.items (map (λ clicks. clicks.items) l.report.plays.items);
   faults : g.A.Audio.faults l.audio ≡ g.A.Audio.faults l.fn.audio;
   within : l.played ≤ l.blocks;

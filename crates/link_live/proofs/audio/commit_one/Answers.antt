@@ -13,8 +13,8 @@ push_reserved-requires g c =
 
 pub returns-then-command-number-clause-committed : goal.returns-then-command-number-clause-committed
 returns-then-command-number-clause-committed g c =
-    committed_one c.args.quantum c.args.start c.args.number c.args.command c.args.capture.now.state c.args.pass.now _ _ _ _ c.if-command-number.true
-    (c.commit_of-commit.ensures.value ∙ commit_is c.args.quantum _ c.args.start _ c.args.capture.now c.args.pass.now.made c.args.command.act (to_z-of_z w64 c.args.quantum (record { sfits = c.ranges.quantum.sfits }))
+    committed_one c.args.start c.args.number c.args.command c.args.capture.now.state c.args.pass.now _ _ _ _ c.if-command-number.true
+    (c.commit_of-commit.ensures.value ∙ commit_is c.args.start _ c.args.capture.now c.args.pass.now.made c.args.command.act
     (to_z-of_z w64 c.args.start (record { sfits = c.ranges.start.sfits })) c.requires.shown)
     c.commit_audio-made.ensures.made c.push_reserved.ensures.items
 
@@ -24,4 +24,4 @@ returns-then-command-number-clause-shown g c =
 
 pub returns-else-command-number-clause-committed : goal.returns-else-command-number-clause-committed
 returns-else-command-number-clause-committed g c =
-    committed_other c.args.quantum c.args.start c.args.number c.args.command c.args.capture.now.state c.args.pass.now c.args.commits.now.items c.if-command-number.false
+    committed_other c.args.start c.args.number c.args.command c.args.capture.now.state c.args.pass.now c.args.commits.now.items c.if-command-number.false

@@ -6,5 +6,5 @@ use Rattle.link_live.proofs.edit.commit_of.Goals as goal
 
 pub returns-clause-tidy : goal.returns-clause-tidy
 returns-clause-tidy c =
-    c.between.ensures.tidy c.edit.ensures.tidy c.edit.ensures.start
+    c.between.ensures.tidy c.edit.ensures.tidy c.edit.ensures.start c.edit.ensures.quantum
     (subst IsWithinLimit {x = c.args.at} (sym (to_z-of_z w64 c.args.at (record { sfits = c.ranges.at.sfits }))) (moment_within _ c.requires.moment))

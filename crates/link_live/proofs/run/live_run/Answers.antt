@@ -14,11 +14,11 @@ run_loops-ends-requires-clause-network g c κs within =
 
 pub run_loops-ends-requires-clause-audio : goal.run_loops-ends-requires-clause-audio
 run_loops-ends-requires-clause-audio g c κs within =
-    can_play _ _ _ _ _ _ (to_z-of_z w64 _ (record { sfits = c.ranges.quantum.sfits })) c.requires.quantum c.requires.ready c.make-link.ensures.audio
+    can_play _ _ _ _ c.requires.ready c.make-link.ensures.audio
 
 pub run_loops-ends-requires-clause-script : goal.run_loops-ends-requires-clause-script
 run_loops-ends-requires-clause-script g c κs within =
-    can_take _ _ _ _ _ _ (to_z-of_z w64 _ (record { sfits = c.ranges.quantum.sfits })) c.requires.quantum c.requires.ready c.make-link.ensures.app
+    can_take _ _ _ _ c.requires.ready c.make-link.ensures.app
 
 pub post-failed-requires : goal.post-failed-requires
 post-failed-requires g c = record {
@@ -33,7 +33,7 @@ returns g c = record {
   ends =
       subst
       (λ (e : LiveEnd).
-      EndsLiveRun (setup_of c.args.parts.config c.args.parts.most c.args.script.now c.args.blocks c.args.quantum) (g.T.Pace.late c.args.pace.now) (g.P.Port.contents c.args.port.now)
+      EndsLiveRun (setup_of c.args.parts.config c.args.parts.most c.args.script.now c.args.blocks) (g.T.Pace.late c.args.pace.now) (g.P.Port.contents c.args.port.now)
       (g.P.Port.contents c.post-failed.new.port) (g.P.Port.bound c.post-failed.new.port) (g.P.Port.faults c.args.port.now) (g.P.Port.faults c.post-failed.new.port)
       (g.A.Audio.contents c.args.audio.now) (g.A.Audio.contents c.run_loops-ends.new.audio) (g.A.Audio.faults c.args.audio.now) (g.A.Audio.faults c.run_loops-ends.new.audio)
       (told_of c.args.parts.config c.args.parts.opened_at
@@ -52,15 +52,15 @@ returns g c = record {
         best = c.best_timelines_are_told.ensures.best;
         shows = c.clients_follow_sessions.ensures.run;
       })
-      _ _ _ _ c.args.quantum _ _ _ _ _ _ _ _ _ _ _ _ _ _ _ _ _ _ _ _ _ _ _ _ _ _ _ _ c.run_loops-ends.new.script_report _ _ _ _ _
+      _ _ _ _ _ _ _ _ _ _ _ _ _ _ _ _ _ _ _ _ _ _ _ _ _ _ _ _ _ _ _ c.run_loops-ends.new.script_report _ _ _ _ _
       c.make-link.ensures.hub c.run_loops-ends.ensures.network (λ yes. c.bind-bound.ensures.gates yes ∙ ap locals_of (sym c.requires.config.0)) c.bind-bound.ensures.works c.bind-bound.ensures.fails
       c.bind-bound.ensures.contents c.make-link.ensures.audio c.hand_in.ensures (to_z-of_z w64 _ (moment_fits _ c.run_loops-ends.ensures.network.run.moment))
-      (to_z-of_z w64 _ (record { sfits = c.ranges.quantum.sfits })) c.requires.opening c.list.ensures c.post-failed.ensures.gates c.run_loops-ends.result.captured c.post-failed.result
+      c.requires.opening c.list.ensures c.post-failed.ensures.gates c.run_loops-ends.result.captured c.post-failed.result
       c.run_loops-ends.result.played c.last_turn-ended.result.full c.last_turn-ended.ensures.ended c.post-failed.ensures.posted c.post-failed.ensures.works c.post-failed.ensures.fails
       (λ failed. (c.post-failed.ensures.unbound failed).0) c.run_loops-ends.ensures.audio c.run_loops-ends.ensures.script);
   few = omega (
     arith,
-    plays_few _ _ _ _ _ _ _ _ _ _ _ c.run_loops-ends.ensures.audio.run,
+    plays_few _ _ _ _ _ _ _ _ _ _ c.run_loops-ends.ensures.audio.run,
     length-map c.run_loops-ends.new.audio_report.plays.items (λ clicks. clicks.items),
   );
   fitting = all_fit _ _ _ _ _ _ _ _ _ _ _ _ _ _ _ _ c.make-link.ensures.hub c.run_loops-ends.ensures.network c.hand_in.ensures c.last_turn-ended.ensures.ended.fits;

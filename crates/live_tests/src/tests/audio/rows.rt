@@ -139,6 +139,15 @@ pub const ROWS: &[Row] = &[
         commands: "block 2 stop\nblock 1 play\n",
         told: "500000- 500000p 500000- | p1000000 s1000000 @1000000 q2000000 s2000000 @2000000 | [] [2000000 2500000] [] | true 3+0 !0",
     },
+    // Beats 2 and 3 are in the second block, 4 and 5 in the third: of four beats 4 is the first, and of two and a half 5.
+    Row {
+        blocks: 3,
+        device: 3,
+        failing: NEVER,
+        commits: false,
+        commands: "block 1 play\nblock 2 quantum 2500000\n",
+        told: "500000- 500000p 500000p | p1000000 s1000000 @1000000 p1000000 s2000000 b2500000 @2000000 | [] [2000000 2500000] [3000000 3500000*] | true 3+0 !0",
+    },
     Row {
         blocks: 2,
         device: 2,

@@ -11,7 +11,7 @@ use lk_outside::ListAudio;
 /// Of each read, the microseconds per beat shown, and `p` where it plays, `-` where it doesn't.
 ///
 /// Of each commit, the timeline where there is one, as its tempo, its beat and its time; the start where there is one, as `p` with its time
-/// where it plays and `q` where it doesn't, and `s` its stamp; `@` when it was made.
+/// where it plays and `q` where it doesn't, and `s` its stamp; the quantum where there is one, behind `b`; `@` when it was made.
 ///
 /// Of each play, its clicks, a `*` behind an accent.
 ///
@@ -49,6 +49,10 @@ fn put_commit(text: &mut Text, commit: &Commit) {
     if let Some(start) = commit.start {
         put_number(text, if start.playing { b"p" } else { b"q" }, start.time);
         put_number(text, b" s", start.stamp);
+        put(text, b" ");
+    }
+    if let Some(quantum) = commit.quantum {
+        put_number(text, b"b", quantum);
         put(text, b" ");
     }
     put_number(text, b"@", commit.at);

@@ -138,6 +138,7 @@ pub fn commit_of(letter: u8, place: u16, opening: i64) -> Commit
     Commit {
         timeline: timeline_of(letter, opening),
         start: start_of(letter, opening, place),
+        quantum: None,
         at: i64::from(place),
     }
 }

@@ -44,7 +44,7 @@ pub fn told_over<R: Wait + Abort>(
     let bound = bind(&mut watch.port, given, &config);
     let mut twin = Twin::new(alloc, &config, opening_of(given))?;
     match cell {
-        Cell::Triple => told_by::<Triple<9>, R>(
+        Cell::Triple => told_by::<Triple<11>, R>(
             rt,
             alloc,
             &(),
@@ -54,14 +54,14 @@ pub fn told_over<R: Wait + Abort>(
             bound,
             &mut twin,
         ),
-        Cell::Seq => told_by::<SeqState<R, 9>, R>(
+        Cell::Seq => told_by::<SeqState<R, 11>, R>(
             rt, alloc, rt, given, &config, &mut watch, bound, &mut twin,
         ),
     }
 }
 
 // The link comes last, since nothing can fail behind it.
-fn told_by<C: StateCell<9>, R: Wait + Abort>(
+fn told_by<C: StateCell<11>, R: Wait + Abort>(
     rt: &R,
     alloc: Global,
     way: &C::Way,
@@ -79,7 +79,7 @@ fn told_by<C: StateCell<9>, R: Wait + Abort>(
     Ok(told_of::<C, Brand, R>(rt, way, parts, given, watch, bound, twin, &mut sends))
 }
 
-fn told_of<C: StateCell<9>, N: LinkName, R: Wait + Abort>(
+fn told_of<C: StateCell<11>, N: LinkName, R: Wait + Abort>(
     rt: &R,
     way: &C::Way,
     parts: Parts<C>,
@@ -124,7 +124,7 @@ fn told_in(
 }
 
 // Makes the commits of the queue, and asks the loop to end at the quit.
-fn fill<C: StateCell<9>, N: LinkName, R: Wait + Abort>(
+fn fill<C: StateCell<11>, N: LinkName, R: Wait + Abort>(
     rt: &R,
     way: &C::Way,
     link: &Link<C, N>,

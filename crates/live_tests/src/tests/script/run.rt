@@ -23,11 +23,12 @@ use std::sync::Wait;
 const NOTHING: Commit = Commit {
     timeline: None,
     start: None,
+    quantum: None,
     at: 0,
 };
 
 /// The run of a row over a link with such a cell, and what is told of it. The link comes last, since nothing can fail behind it.
-pub fn told_by<C: StateCell<9>, R: Wait + Abort>(
+pub fn told_by<C: StateCell<11>, R: Wait + Abort>(
     rt: &R,
     alloc: Global,
     way: &C::Way,
@@ -43,7 +44,7 @@ pub fn told_by<C: StateCell<9>, R: Wait + Abort>(
     Ok(told_of::<C, Brand, R>(rt, alloc, way, parts, row, script, &mut room))
 }
 
-fn told_of<C: StateCell<9>, N: LinkName, R: Wait + Abort>(
+fn told_of<C: StateCell<11>, N: LinkName, R: Wait + Abort>(
     rt: &R,
     alloc: Global,
     way: &C::Way,
@@ -73,7 +74,6 @@ fn told_of<C: StateCell<9>, N: LinkName, R: Wait + Abort>(
         &mut app,
         &mut pace,
         script,
-        row.quantum.clamp(0, 1_099_511_627_776),
         &mut room.script,
     );
     assert!(rt; all);
@@ -91,7 +91,7 @@ fn told_of<C: StateCell<9>, N: LinkName, R: Wait + Abort>(
 }
 
 // Makes turns until one tells a quit, which is the first one behind all commits. None finds the journal full.
-fn drain<C: StateCell<9>, N: LinkName, R: Wait + Abort>(
+fn drain<C: StateCell<11>, N: LinkName, R: Wait + Abort>(
     rt: &R,
     way: &C::Way,
     link: &Link<C, N>,
@@ -109,7 +109,7 @@ fn drain<C: StateCell<9>, N: LinkName, R: Wait + Abort>(
 }
 
 // Makes a turn, notes whether it finds the journal full, and answers whether it tells a quit.
-fn turn<C: StateCell<9>, N: LinkName, R: Wait>(
+fn turn<C: StateCell<11>, N: LinkName, R: Wait>(
     rt: &R,
     way: &C::Way,
     link: &Link<C, N>,
@@ -139,7 +139,7 @@ fn is_of(event: &Event, commit: &Commit) -> bool {
 }
 
 // A further commit has the number behind theirs.
-fn check_next<C: StateCell<9>, N: LinkName, R: Wait + Abort>(
+fn check_next<C: StateCell<11>, N: LinkName, R: Wait + Abort>(
     rt: &R,
     link: &Link<C, N>,
     app: &mut AppPass<C, N>,
@@ -155,7 +155,7 @@ fn tell(report: &ScriptReport, journal: &[Event]) -> Text {
     let mut text = Text::new();
     let mut line = LineBuf::new();
     for capture in &report.captures {
-        write_state_line(&mut line, capture.number, &capture.shown);
+        write_state_line(&mut line, 2, capture.number, &capture.shown);
         put(&mut text, &line);
     }
     for event in journal {
