@@ -139,7 +139,7 @@ load_text seed count run Stands gates app counts state has shows events_are = re
   text_is = ap₂ (λ (a b : List ℕ). a ++ b)
       (ap (λ (n : ℕ). load_line_of n counts.states counts.sends) (sym has.so_many)
       ∙ ap₂ (λ (states sends : ℕ). load_line_of (length has.events) states sends) has.states_are has.sends_are)
-      (ap₂ (λ (n : ℕ) (s : State). state_line_of n s) (omega (arith, has.states_are)) (shows (load_machine_after seed has.events) has.stands));
+      (ap₂ (λ (n : ℕ) (s : State). state_line_of 2 n s) (omega (arith, has.states_are)) (shows (load_machine_after seed has.events) has.stands));
 }
 
 -- the sink failed at the first line

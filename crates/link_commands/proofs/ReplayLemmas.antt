@@ -81,35 +81,35 @@ app_rises app (End now) = omega arith
 -- ---- one event
 
 -- its datagrams and its state are handed over
-pub event_over : (m : Machine) (states : ℕ) (e : EventValue) (sends : List SendingValue) (shown : List State) (before now after : Option (List ℕ)) (kept kept' kept'' : List ℕ)
+pub event_over : (version : ℕ) (m : Machine) (states : ℕ) (e : EventValue) (sends : List SendingValue) (shown : List State) (before now after : Option (List ℕ)) (kept kept' kept'' : List ℕ)
     → sends ≡ sends_of m e → shown ≡ published_in m e
-    → HandsOver (flat_map (sending_line_of (moment_of e)) sends) before kept now kept' → HandsOver (states_text_of states shown) now kept' after kept''
-    → HandsOver (event_text_of m states e) before kept after kept''
+    → HandsOver (flat_map (sending_line_of (moment_of e)) sends) before kept now kept' → HandsOver (states_text_of version states shown) now kept' after kept''
+    → HandsOver (event_text_of version m states e) before kept after kept''
 unfolding event_text_of
-event_over m states e sends shown before now after kept kept' kept'' sends_are shown_is one two =
+event_over version m states e sends shown before now after kept kept' kept'' sends_are shown_is one two =
     hands_both before now after kept kept' kept'' _ _
     (subst (λ (xs : List SendingValue). HandsOver (flat_map (sending_line_of (moment_of e)) xs) before kept now kept') sends_are one)
-    (subst (λ (xs : List State). HandsOver (states_text_of states xs) now kept' after kept'') shown_is two)
+    (subst (λ (xs : List State). HandsOver (states_text_of version states xs) now kept' after kept'') shown_is two)
 
 -- the sink failed at its datagrams
-pub event_part_first : (m : Machine) (states : ℕ) (e : EventValue) (sends : List SendingValue) (before after : Option (List ℕ)) (kept : List ℕ)
+pub event_part_first : (version : ℕ) (m : Machine) (states : ℕ) (e : EventValue) (sends : List SendingValue) (before after : Option (List ℕ)) (kept : List ℕ)
     → sends ≡ sends_of m e → HandsPart (flat_map (sending_line_of (moment_of e)) sends) before kept after
-    → HandsPart (event_text_of m states e) before kept after
+    → HandsPart (event_text_of version m states e) before kept after
 unfolding event_text_of
-event_part_first m states e sends before after kept sends_are part =
-    part_of_more before after kept _ (states_text_of states (published_in m e))
+event_part_first version m states e sends before after kept sends_are part =
+    part_of_more before after kept _ (states_text_of version states (published_in m e))
     (subst (λ (xs : List SendingValue). HandsPart (flat_map (sending_line_of (moment_of e)) xs) before kept after) sends_are part)
 
 -- the sink failed at its state
-pub event_part_last : (m : Machine) (states : ℕ) (e : EventValue) (sends : List SendingValue) (shown : List State) (before now after : Option (List ℕ)) (kept kept' : List ℕ)
+pub event_part_last : (version : ℕ) (m : Machine) (states : ℕ) (e : EventValue) (sends : List SendingValue) (shown : List State) (before now after : Option (List ℕ)) (kept kept' : List ℕ)
     → sends ≡ sends_of m e → shown ≡ published_in m e
-    → HandsOver (flat_map (sending_line_of (moment_of e)) sends) before kept now kept' → HandsPart (states_text_of states shown) now kept' after
-    → HandsPart (event_text_of m states e) before kept after
+    → HandsOver (flat_map (sending_line_of (moment_of e)) sends) before kept now kept' → HandsPart (states_text_of version states shown) now kept' after
+    → HandsPart (event_text_of version m states e) before kept after
 unfolding event_text_of
-event_part_last m states e sends shown before now after kept kept' sends_are shown_is one part =
+event_part_last version m states e sends shown before now after kept kept' sends_are shown_is one part =
     part_after before now after kept kept' _ _
     (subst (λ (xs : List SendingValue). HandsOver (flat_map (sending_line_of (moment_of e)) xs) before kept now kept') sends_are one)
-    (subst (λ (xs : List State). HandsPart (states_text_of states xs) now kept' after) shown_is part)
+    (subst (λ (xs : List State). HandsPart (states_text_of version states xs) now kept' after) shown_is part)
 
 -- what a step sends and shows, from what the calls told
 pub sent_in : (m : Machine) (e : EventValue) (list empty after : List SendingValue) → list ≡ after → empty ≡ [] → after ≡ empty ++ sends_of m e → list ≡ sends_of m e
@@ -122,7 +122,7 @@ shown_in m e change state changed is = ap (λ (c : Change). shown_by c state) ch
 -- ---- the events
 
 -- The events before the place are taken, and what follows from them is handed over. Those that are left lead on from the machine `mid`.
-pub record HasHanded (Stands : Machine → Type 0) (gates app audio : ℕ) (text : List ℕ) (at events states sends : ℕ) (start : Option (List ℕ)) (kept : List ℕ) (now : Option (List ℕ)) (kept' : List ℕ) (m : Machine) (es : List EventValue) : Type 0 where
+pub record HasHanded (version : ℕ) (Stands : Machine → Type 0) (gates app audio : ℕ) (text : List ℕ) (at events states sends : ℕ) (start : Option (List ℕ)) (kept : List ℕ) (now : Option (List ℕ)) (kept' : List ℕ) (m : Machine) (es : List EventValue) : Type 0 where
   pub mid : Machine
   pub rest : List EventValue
   pub on : GoesOn Stands gates app audio text at mid rest
@@ -131,11 +131,11 @@ pub record HasHanded (Stands : Machine → Type 0) (gates app audio : ℕ) (text
   pub sends_are : sends + length (sent_by mid rest) ≡ length (sent_by m es)
   pub done : List ℕ
   pub way : HandsOver done start kept now kept'
-  pub whole : done ++ events_text_of mid states rest ≡ events_text_of m 1 es
+  pub whole : done ++ events_text_of version mid states rest ≡ events_text_of version m 1 es
 
-pub handed_none : (Stands : Machine → Type 0) (gates app audio : ℕ) (text : List ℕ) (at : ℕ) (start : Option (List ℕ)) (kept : List ℕ) (m : Machine) (es : List EventValue)
-    → GoesOn Stands gates app audio text at m es → HasHanded Stands gates app audio text at 0 1 0 start kept start kept m es
-handed_none Stands gates app audio text at start kept m es on = record {
+pub handed_none : (version : ℕ) (Stands : Machine → Type 0) (gates app audio : ℕ) (text : List ℕ) (at : ℕ) (start : Option (List ℕ)) (kept : List ℕ) (m : Machine) (es : List EventValue)
+    → GoesOn Stands gates app audio text at m es → HasHanded version Stands gates app audio text at 0 1 0 start kept start kept m es
+handed_none version Stands gates app audio text at start kept m es on = record {
   mid = m;
   rest = es;
   on = on;
@@ -148,9 +148,9 @@ handed_none Stands gates app audio text at start kept m es on = record {
 }
 
 -- some events are said at the place
-pub says_some : (Stands : Machine → Type 0) (gates app audio : ℕ) (text : List ℕ) (at events states sends : ℕ) (start : Option (List ℕ)) (kept : List ℕ) (now : Option (List ℕ)) (kept' : List ℕ) (m : Machine) (es : List EventValue)
-    → HasHanded Stands gates app audio text at events states sends start kept now kept' m es → SaysSome text at
-says_some Stands gates app audio text at events states sends start kept now kept' m es has = (gates, audio, has.rest, has.on.says)
+pub says_some : (version : ℕ) (Stands : Machine → Type 0) (gates app audio : ℕ) (text : List ℕ) (at events states sends : ℕ) (start : Option (List ℕ)) (kept : List ℕ) (now : Option (List ℕ)) (kept' : List ℕ) (m : Machine) (es : List EventValue)
+    → HasHanded version Stands gates app audio text at events states sends start kept now kept' m es → SaysSome text at
+says_some version Stands gates app audio text at events states sends start kept now kept' m es has = (gates, audio, has.rest, has.on.says)
 
 -- what the laws say of the events that are left
 abbrev pub AreTakable : Type 0
@@ -169,32 +169,32 @@ IsNextEvent text at next e = (gates audio : ℕ) (es : List EventValue) → Says
 abbrev pub IsPastAll : List ℕ → ℕ → Type 0
 IsPastAll text at = (gates audio : ℕ) (es : List EventValue) → SaysFrom gates audio text at es → es ≡ []
 
-pub next_fits : (law : AreTakable) (Stands : Machine → Type 0) (gates app audio : ℕ) (text : List ℕ) (at next events states sends : ℕ) (start : Option (List ℕ)) (kept : List ℕ) (now : Option (List ℕ)) (kept' : List ℕ) (m : Machine) (es : List EventValue) (e : EventValue)
-    → HasHanded Stands gates app audio text at events states sends start kept now kept' m es → IsNextEvent text at next e
+pub next_fits : (law : AreTakable) (version : ℕ) (Stands : Machine → Type 0) (gates app audio : ℕ) (text : List ℕ) (at next events states sends : ℕ) (start : Option (List ℕ)) (kept : List ℕ) (now : Option (List ℕ)) (kept' : List ℕ) (m : Machine) (es : List EventValue) (e : EventValue)
+    → HasHanded version Stands gates app audio text at events states sends start kept now kept' m es → IsNextEvent text at next e
     → Fits gates app audio e
-next_fits law Stands gates app audio text at next events states sends start kept now kept' m es e has is =
+next_fits law version Stands gates app audio text at next events states sends start kept now kept' m es e has is =
     let found = is gates audio has.rest has.on.says in
     let all : AreFitting gates app audio (e ∷ found.0) = subst (AreFitting gates app audio) found.1 (law gates audio app at text has.rest has.on.says has.on.few_commits) in
     all.0
 
 -- there are no more events before the place than the text has bytes
-pub few_so_far : (few : AreFew) (Stands : Machine → Type 0) (gates app audio first : ℕ) (Stands' : Machine → Type 0) (gates' app' audio' : ℕ) (text : List ℕ) (at events states sends : ℕ) (start : Option (List ℕ)) (kept : List ℕ) (now : Option (List ℕ)) (kept' : List ℕ) (m : Machine) (es : List EventValue)
+pub few_so_far : (few : AreFew) (version : ℕ) (Stands : Machine → Type 0) (gates app audio first : ℕ) (Stands' : Machine → Type 0) (gates' app' audio' : ℕ) (text : List ℕ) (at events states sends : ℕ) (start : Option (List ℕ)) (kept : List ℕ) (now : Option (List ℕ)) (kept' : List ℕ) (m : Machine) (es : List EventValue)
     → GoesOn Stands gates app audio text first m es
-    → HasHanded Stands' gates' app' audio' text at events states sends start kept now kept' m es → events ≤ length text
-few_so_far few Stands gates app audio first Stands' gates' app' audio' text at events states sends start kept now kept' m es on has =
+    → HasHanded version Stands' gates' app' audio' text at events states sends start kept now kept' m es → events ≤ length text
+few_so_far few version Stands gates app audio first Stands' gates' app' audio' text at events states sends start kept now kept' m es on has =
     omega (arith, has.events_are, few gates audio first text es on.says)
 
 -- one event more
-pub handed_more : (Stands Stands' : Machine → Type 0) (gates app audio gates' app' audio' : ℕ) (text : List ℕ) (at next events states sends events' states' sends' : ℕ) (start : Option (List ℕ)) (kept : List ℕ) (now : Option (List ℕ)) (kept' : List ℕ) (after : Option (List ℕ)) (kept'' : List ℕ) (m : Machine) (es : List EventValue) (e : EventValue)
-    → HasHanded Stands gates app audio text at events states sends start kept now kept' m es → IsNextEvent text at next e
-    → ((m : Machine) → Stands m → Stands' (step_of m e)) → gates' ≡ gates → app' ≡ app_after app e → audio' ≡ audio_after audio e
+pub handed_more : (version version' : ℕ) (Stands Stands' : Machine → Type 0) (gates app audio gates' app' audio' : ℕ) (text : List ℕ) (at next events states sends events' states' sends' : ℕ) (start : Option (List ℕ)) (kept : List ℕ) (now : Option (List ℕ)) (kept' : List ℕ) (after : Option (List ℕ)) (kept'' : List ℕ) (m : Machine) (es : List EventValue) (e : EventValue)
+    → HasHanded version Stands gates app audio text at events states sends start kept now kept' m es → IsNextEvent text at next e
+    → version' ≡ version → ((m : Machine) → Stands m → Stands' (step_of m e)) → gates' ≡ gates → app' ≡ app_after app e → audio' ≡ audio_after audio e
     → events' ≡ events + 1
     → ((m : Machine) → Stands m → states' ≡ states + length (published_in m e))
     → ((m : Machine) → Stands m → sends' ≡ sends + length (sends_of m e))
-    → ((m : Machine) → Stands m → HandsOver (event_text_of m states e) now kept' after kept'')
-    → HasHanded Stands' gates' app' audio' text next events' states' sends' start kept after kept'' m es
+    → ((m : Machine) → Stands m → HandsOver (event_text_of version' m states e) now kept' after kept'')
+    → HasHanded version Stands' gates' app' audio' text next events' states' sends' start kept after kept'' m es
 unfolding events_text_of published_by sent_by
-handed_more Stands Stands' gates app audio gates' app' audio' text at next events states sends events' states' sends' start kept now kept' after kept'' m es e has is steps same_gates app_is audio_is events_are states_are sends_are over =
+handed_more version version' Stands Stands' gates app audio gates' app' audio' text at next events states sends events' states' sends' start kept now kept' after kept'' m es e has is same_version steps same_gates app_is audio_is events_are states_are sends_are over =
     let found = is gates audio has.rest has.on.says in
     let rest = found.0 in
     let len : length has.rest ≡ length (e ∷ rest) = ap length found.1 in
@@ -212,46 +212,48 @@ handed_more Stands Stands' gates app audio gates' app' audio' text at next event
       events_are = omega (arith, has.events_are, events_are, len);
       states_are = omega (arith, has.states_are, more_states, ap (λ (l : List EventValue). length (published_by has.mid l)) found.1, length-append (published_in has.mid e) (published_by (step_of has.mid e) rest));
       sends_are = omega (arith, has.sends_are, more_sends, ap (λ (l : List EventValue). length (sent_by has.mid l)) found.1, length-append (sends_of has.mid e) (sent_by (step_of has.mid e) rest));
-      done = has.done ++ event_text_of has.mid states e;
-      way = hands_both start now after kept kept' kept'' _ _ has.way (over has.mid has.on.stands);
-      whole = append_assoc has.done (event_text_of has.mid states e) (events_text_of (step_of has.mid e) states' rest)
-          ∙ ap (λ (n : ℕ). has.done ++ (event_text_of has.mid states e ++ events_text_of (step_of has.mid e) n rest)) more_states
-          ∙ ap (λ (l : List EventValue). has.done ++ events_text_of has.mid states l) (sym found.1)
+      done = has.done ++ event_text_of version has.mid states e;
+      way = hands_both start now after kept kept' kept'' _ _ has.way
+          (subst (λ (v : ℕ). HandsOver (event_text_of v has.mid states e) now kept' after kept'') same_version (over has.mid has.on.stands));
+      whole = append_assoc has.done (event_text_of version has.mid states e) (events_text_of version (step_of has.mid e) states' rest)
+          ∙ ap (λ (n : ℕ). has.done ++ (event_text_of version has.mid states e ++ events_text_of version (step_of has.mid e) n rest)) more_states
+          ∙ ap (λ (l : List EventValue). has.done ++ events_text_of version has.mid states l) (sym found.1)
           ∙ has.whole;
     }
 
 -- the sink failed at an event
-pub handed_part : (Stands : Machine → Type 0) (gates app audio : ℕ) (text : List ℕ) (at next events states sends : ℕ) (start : Option (List ℕ)) (kept : List ℕ) (now : Option (List ℕ)) (kept' : List ℕ) (after : Option (List ℕ)) (m : Machine) (es : List EventValue) (e : EventValue)
-    → HasHanded Stands gates app audio text at events states sends start kept now kept' m es → IsNextEvent text at next e
-    → ((m : Machine) → Stands m → HandsPart (event_text_of m states e) now kept' after)
-    → HandsPart (events_text_of m 1 es) start kept after
+pub handed_part : (version version' : ℕ) (Stands : Machine → Type 0) (gates app audio : ℕ) (text : List ℕ) (at next events states sends : ℕ) (start : Option (List ℕ)) (kept : List ℕ) (now : Option (List ℕ)) (kept' : List ℕ) (after : Option (List ℕ)) (m : Machine) (es : List EventValue) (e : EventValue)
+    → HasHanded version Stands gates app audio text at events states sends start kept now kept' m es → IsNextEvent text at next e
+    → version' ≡ version → ((m : Machine) → Stands m → HandsPart (event_text_of version' m states e) now kept' after)
+    → HandsPart (events_text_of version m 1 es) start kept after
 unfolding events_text_of
-handed_part Stands gates app audio text at next events states sends start kept now kept' after m es e has is part =
+handed_part version version' Stands gates app audio text at next events states sends start kept now kept' after m es e has is same_version part =
     let found = is gates audio has.rest has.on.says in
-    let behind : List ℕ = events_text_of (step_of has.mid e) (states + length (published_in has.mid e)) found.0 in
-    let here = part_after start now after kept kept' has.done (event_text_of has.mid states e) has.way (part has.mid has.on.stands) in
-    let more : HandsPart ((has.done ++ event_text_of has.mid states e) ++ behind) start kept after = part_of_more start after kept (has.done ++ event_text_of has.mid states e) behind here in
-    let whole : (has.done ++ event_text_of has.mid states e) ++ behind ≡ events_text_of m 1 es =
-    append_assoc has.done (event_text_of has.mid states e) behind
-    ∙ ap (λ (l : List EventValue). has.done ++ events_text_of has.mid states l) (sym found.1)
+    let behind : List ℕ = events_text_of version (step_of has.mid e) (states + length (published_in has.mid e)) found.0 in
+    let here = part_after start now after kept kept' has.done (event_text_of version has.mid states e) has.way
+    (subst (λ (v : ℕ). HandsPart (event_text_of v has.mid states e) now kept' after) same_version (part has.mid has.on.stands)) in
+    let more : HandsPart ((has.done ++ event_text_of version has.mid states e) ++ behind) start kept after = part_of_more start after kept (has.done ++ event_text_of version has.mid states e) behind here in
+    let whole : (has.done ++ event_text_of version has.mid states e) ++ behind ≡ events_text_of version m 1 es =
+    append_assoc has.done (event_text_of version has.mid states e) behind
+    ∙ ap (λ (l : List EventValue). has.done ++ events_text_of version has.mid states l) (sym found.1)
     ∙ has.whole in
     subst (λ (bytes : List ℕ). HandsPart bytes start kept after) whole more
 
 -- all events are taken
-pub handed_whole : (Stands : Machine → Type 0) (gates app audio : ℕ) (text : List ℕ) (at events states sends : ℕ) (start : Option (List ℕ)) (kept : List ℕ) (now : Option (List ℕ)) (kept' : List ℕ) (m : Machine) (es : List EventValue)
-    → HasHanded Stands gates app audio text at events states sends start kept now kept' m es → IsPastAll text at
-    → HandsOver (events_text_of m 1 es) start kept now kept'
+pub handed_whole : (version : ℕ) (Stands : Machine → Type 0) (gates app audio : ℕ) (text : List ℕ) (at events states sends : ℕ) (start : Option (List ℕ)) (kept : List ℕ) (now : Option (List ℕ)) (kept' : List ℕ) (m : Machine) (es : List EventValue)
+    → HasHanded version Stands gates app audio text at events states sends start kept now kept' m es → IsPastAll text at
+    → HandsOver (events_text_of version m 1 es) start kept now kept'
 unfolding events_text_of
-handed_whole Stands gates app audio text at events states sends start kept now kept' m es has past =
+handed_whole version Stands gates app audio text at events states sends start kept now kept' m es has past =
     let none : has.rest ≡ [] = past gates audio has.rest has.on.says in
-    let whole : has.done ≡ events_text_of m 1 es = sym (append-nil has.done) ∙ ap (λ (l : List EventValue). has.done ++ events_text_of has.mid states l) (sym none) ∙ has.whole in
+    let whole : has.done ≡ events_text_of version m 1 es = sym (append-nil has.done) ∙ ap (λ (l : List EventValue). has.done ++ events_text_of version has.mid states l) (sym none) ∙ has.whole in
     subst (λ (bytes : List ℕ). HandsOver bytes start kept now kept') whole has.way
 
-pub counted_whole : (Stands : Machine → Type 0) (gates app audio : ℕ) (text : List ℕ) (at events states sends : ℕ) (start : Option (List ℕ)) (kept : List ℕ) (now : Option (List ℕ)) (kept' : List ℕ) (m : Machine) (es : List EventValue)
-    → HasHanded Stands gates app audio text at events states sends start kept now kept' m es → IsPastAll text at
+pub counted_whole : (version : ℕ) (Stands : Machine → Type 0) (gates app audio : ℕ) (text : List ℕ) (at events states sends : ℕ) (start : Option (List ℕ)) (kept : List ℕ) (now : Option (List ℕ)) (kept' : List ℕ) (m : Machine) (es : List EventValue)
+    → HasHanded version Stands gates app audio text at events states sends start kept now kept' m es → IsPastAll text at
     → (events ≡ length es) × ((states ≡ 1 + length (published_by m es)) × (sends ≡ length (sent_by m es)))
 unfolding published_by sent_by
-counted_whole Stands gates app audio text at events states sends start kept now kept' m es has past =
+counted_whole version Stands gates app audio text at events states sends start kept now kept' m es has past =
     let none : has.rest ≡ [] = past gates audio has.rest has.on.says in (
       omega (arith, has.events_are, ap length none),
       (
@@ -261,10 +263,10 @@ counted_whole Stands gates app audio text at events states sends start kept now 
     )
 
 -- the lines that count grow fewer with each event
-pub less_left : (Stands : Machine → Type 0) (gates app audio : ℕ) (text : List ℕ) (at next events states sends : ℕ) (start : Option (List ℕ)) (kept : List ℕ) (now : Option (List ℕ)) (kept' : List ℕ) (m : Machine) (es : List EventValue) (e : EventValue)
-    → HasHanded Stands gates app audio text at events states sends start kept now kept' m es → IsNextEvent text at next e
+pub less_left : (version : ℕ) (Stands : Machine → Type 0) (gates app audio : ℕ) (text : List ℕ) (at next events states sends : ℕ) (start : Option (List ℕ)) (kept : List ℕ) (now : Option (List ℕ)) (kept' : List ℕ) (m : Machine) (es : List EventValue) (e : EventValue)
+    → HasHanded version Stands gates app audio text at events states sends start kept now kept' m es → IsNextEvent text at next e
     → left_at text next < left_at text at
-less_left Stands gates app audio text at next events states sends start kept now kept' m es e has is =
+less_left version Stands gates app audio text at next events states sends start kept now kept' m es e has is =
     let found = is gates audio has.rest has.on.says in
     let before = left_are gates audio text at has.rest has.on.says in
     let behind = left_are gates (audio_after audio e) text next found.0 found.2 in
@@ -273,11 +275,10 @@ less_left Stands gates app audio text at next events states sends start kept now
 -- ---- a whole replay
 
 -- the node of a script that was checked, opened at its moment
-pub opened_by : (Stands : Machine → Type 0) (gates app audio : ℕ) (text : List ℕ) (version : ℕ) (config : ConfigValue) (now at : ℤ) (first : ℕ)
+pub opened_by : (Stands : Machine → Type 0) (gates app audio version : ℕ) (text : List ℕ) (config : ConfigValue) (now at : ℤ) (first : ℕ)
     → IsChecked text version config now first → at ≡ now → Stands (opened config at) → gates ≡ length config.gates → app ≡ 0 → audio ≡ 0
-    → IsOpened Stands gates app audio text first
-opened_by Stands gates app audio text version config now at first checked same stands gates_are no_app no_audio = record {
-  version = version;
+    → IsOpened Stands gates app audio version text first
+opened_by Stands gates app audio version text config now at first checked same stands gates_are no_app no_audio = record {
   config = config;
   now = now;
   es = checked.es;
@@ -288,39 +289,39 @@ opened_by Stands gates app audio text version config now at first checked same s
 }
 
 -- the node that was opened goes on with the events of the script
-pub opened_goes_on : (few : AreFew) (Stands : Machine → Type 0) (gates app audio : ℕ) (text : List ℕ) (first : ℕ) (is : IsOpened Stands gates app audio text first)
+pub opened_goes_on : (few : AreFew) (Stands : Machine → Type 0) (gates app audio version : ℕ) (text : List ℕ) (first : ℕ) (is : IsOpened Stands gates app audio version text first)
     → length text ≤ 1_073_741_824 → GoesOn Stands gates app audio text first (opened is.config is.now) is.es
-opened_goes_on few Stands gates app audio text first is short = record {
+opened_goes_on few Stands gates app audio version text first is short = record {
   stands = is.stands;
   says = is.says;
   few_commits = omega (arith, is.no_commits, few gates audio first text is.es is.says);
 }
 
 -- the output of the script
-pub gives_output : (Stands : Machine → Type 0) (gates app audio : ℕ) (text : List ℕ) (first : ℕ) (is : IsOpened Stands gates app audio text first)
-    → GivesReplay text (replay_text_of is.version is.config is.now is.es)
-gives_output Stands gates app audio text first is = (is.version, is.config, is.now, is.es, is.script, refl)
+pub gives_output : (Stands : Machine → Type 0) (gates app audio version : ℕ) (text : List ℕ) (first : ℕ) (is : IsOpened Stands gates app audio version text first)
+    → GivesReplay text (replay_text_of version is.config is.now is.es)
+gives_output Stands gates app audio version text first is = (version, is.config, is.now, is.es, is.script, refl)
 
 -- the sink failed at the opening state
 pub replay_part_first : (version : ℕ) (config : ConfigValue) (now : ℤ) (es : List EventValue) (state : State) (before after : Option (List ℕ)) (kept : List ℕ)
-    → state ≡ (opened config now).published → HandsPart (state_line_of 0 state) before kept after
+    → state ≡ (opened config now).published → HandsPart (state_line_of version 0 state) before kept after
     → HandsPart (replay_text_of version config now es) before kept after
 unfolding replay_text_of
 replay_part_first version config now es state before after kept is part =
     part_of_more before after kept _ _
-    (part_of_more before after kept (state_line_of 0 (opened config now).published) (events_text_of (opened config now) 1 es)
-    (subst (λ (s : State). HandsPart (state_line_of 0 s) before kept after) is part))
+    (part_of_more before after kept (state_line_of version 0 (opened config now).published) (events_text_of version (opened config now) 1 es)
+    (subst (λ (s : State). HandsPart (state_line_of version 0 s) before kept after) is part))
 
 -- the sink failed at the events
 pub replay_part_events : (version : ℕ) (config : ConfigValue) (now : ℤ) (es : List EventValue) (state : State) (before told after : Option (List ℕ)) (kept kept' : List ℕ)
-    → state ≡ (opened config now).published → HandsOver (state_line_of 0 state) before kept told kept'
-    → HandsPart (events_text_of (opened config now) 1 es) told kept' after
+    → state ≡ (opened config now).published → HandsOver (state_line_of version 0 state) before kept told kept'
+    → HandsPart (events_text_of version (opened config now) 1 es) told kept' after
     → HandsPart (replay_text_of version config now es) before kept after
 unfolding replay_text_of
 replay_part_events version config now es state before told after kept kept' is one part =
     part_of_more before after kept _ _
-    (part_after before told after kept kept' (state_line_of 0 (opened config now).published) (events_text_of (opened config now) 1 es)
-    (subst (λ (s : State). HandsOver (state_line_of 0 s) before kept told kept') is one) part)
+    (part_after before told after kept kept' (state_line_of version 0 (opened config now).published) (events_text_of version (opened config now) 1 es)
+    (subst (λ (s : State). HandsOver (state_line_of version 0 s) before kept told kept') is one) part)
 
 -- how much there was
 abbrev pub AreCounted : ConfigValue → ℤ → List EventValue → ℕ → ℕ → ℕ → Type 0
@@ -335,35 +336,35 @@ done_line config now es events states sends counted =
     ∙ ap (λ (n : ℕ). done_line_of (length es) (length (published_of config now es)) n) counted.1.1
 
 -- the opening state and the events are handed over
-both_over : (config : ConfigValue) (now : ℤ) (es : List EventValue) (state : State) (before told after : Option (List ℕ)) (kept kept' kept'' : List ℕ)
+both_over : (version : ℕ) (config : ConfigValue) (now : ℤ) (es : List EventValue) (state : State) (before told after : Option (List ℕ)) (kept kept' kept'' : List ℕ)
     → state ≡ (opened config now).published
-    → HandsOver (state_line_of 0 state) before kept told kept'
-    → HandsOver (events_text_of (opened config now) 1 es) told kept' after kept''
-    → HandsOver (state_line_of 0 (opened config now).published ++ events_text_of (opened config now) 1 es) before kept after kept''
-both_over config now es state before told after kept kept' kept'' is one two =
+    → HandsOver (state_line_of version 0 state) before kept told kept'
+    → HandsOver (events_text_of version (opened config now) 1 es) told kept' after kept''
+    → HandsOver (state_line_of version 0 (opened config now).published ++ events_text_of version (opened config now) 1 es) before kept after kept''
+both_over version config now es state before told after kept kept' kept'' is one two =
     hands_both before told after kept kept' kept'' _ _
-    (subst (λ (s : State). HandsOver (state_line_of 0 s) before kept told kept') is one) two
+    (subst (λ (s : State). HandsOver (state_line_of version 0 s) before kept told kept') is one) two
 
 -- the sink failed at the last line
 pub replay_part_done : (version : ℕ) (config : ConfigValue) (now : ℤ) (es : List EventValue) (state : State) (events states sends : ℕ) (before told then_ after : Option (List ℕ)) (kept kept' kept'' : List ℕ)
     → state ≡ (opened config now).published → AreCounted config now es events states sends
-    → HandsOver (state_line_of 0 state) before kept told kept'
-    → HandsOver (events_text_of (opened config now) 1 es) told kept' then_ kept''
+    → HandsOver (state_line_of version 0 state) before kept told kept'
+    → HandsOver (events_text_of version (opened config now) 1 es) told kept' then_ kept''
     → HandsPart (done_line_of events states sends) then_ kept'' after
     → HandsPart (replay_text_of version config now es) before kept after
 unfolding replay_text_of
 replay_part_done version config now es state events states sends before told then_ after kept kept' kept'' is counted one two part =
-    part_after before then_ after kept kept'' _ _ (both_over config now es state before told then_ kept kept' kept'' is one two)
+    part_after before then_ after kept kept'' _ _ (both_over version config now es state before told then_ kept kept' kept'' is one two)
     (subst (λ (line : List ℕ). HandsPart line then_ kept'' after) (done_line config now es events states sends counted) part)
 
 -- all is handed over
 pub replay_over : (version : ℕ) (config : ConfigValue) (now : ℤ) (es : List EventValue) (state : State) (events states sends : ℕ) (before told then_ after : Option (List ℕ)) (kept kept' kept'' last : List ℕ)
     → state ≡ (opened config now).published → AreCounted config now es events states sends
-    → HandsOver (state_line_of 0 state) before kept told kept'
-    → HandsOver (events_text_of (opened config now) 1 es) told kept' then_ kept''
+    → HandsOver (state_line_of version 0 state) before kept told kept'
+    → HandsOver (events_text_of version (opened config now) 1 es) told kept' then_ kept''
     → HandsOver (done_line_of events states sends) then_ kept'' after last
     → HandsOver (replay_text_of version config now es) before kept after last
 unfolding replay_text_of
 replay_over version config now es state events states sends before told then_ after kept kept' kept'' last is counted one two three =
-    hands_both before then_ after kept kept'' last _ _ (both_over config now es state before told then_ kept kept' kept'' is one two)
+    hands_both before then_ after kept kept'' last _ _ (both_over version config now es state before told then_ kept kept' kept'' is one two)
     (subst (λ (line : List ℕ). HandsOver line then_ kept'' after last) (done_line config now es events states sends counted) three)

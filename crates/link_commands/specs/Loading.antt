@@ -32,4 +32,4 @@ NodeHasTaken seed run node counts = HasTaken seed run (StandsFor node) (gates_of
 
 -- how much there was, and a state by the number of the last one
 abbrev pub told_of : Counts → State → List ℕ
-told_of counts state = load_line_of counts.events counts.states counts.sends ++ state_line_of (counts.states - 1) state
+told_of counts state = load_line_of counts.events counts.states counts.sends ++ state_line_of 2 (counts.states - 1) state

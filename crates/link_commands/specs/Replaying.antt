@@ -15,9 +15,8 @@ pub record GoesOn (Stands : Machine → Type 0) (gates app audio : ℕ) (text : 
   pub says : SaysFrom gates audio text at es
   pub few_commits : app + length es < 2 ^ 60
 
--- the text is a script, and the node is the one of its head at the opening, before the first event
-pub record IsOpened (Stands : Machine → Type 0) (gates app audio : ℕ) (text : List ℕ) (first : ℕ) : Type 0 where
-  pub version : ℕ
+-- the text is a script of this version, and the node is the one of its head at the opening, before the first event
+pub record IsOpened (Stands : Machine → Type 0) (gates app audio version : ℕ) (text : List ℕ) (first : ℕ) : Type 0 where
   pub config : ConfigValue
   pub now : ℤ
   pub es : List EventValue
@@ -30,5 +29,5 @@ pub record IsOpened (Stands : Machine → Type 0) (gates app audio : ℕ) (text 
 abbrev pub NodeGoesOn : Node → List ℕ → ℕ → Machine → List EventValue → Type 0
 NodeGoesOn node text at m es = GoesOn (StandsFor node) (gates_of node) (app_of node) (audio_of node) text at m es
 
-abbrev pub IsNodeOpened : Node → List ℕ → ℕ → Type 0
-IsNodeOpened node text first = IsOpened (StandsFor node) (gates_of node) (app_of node) (audio_of node) text first
+abbrev pub IsNodeOpened : Node → ℕ → List ℕ → ℕ → Type 0
+IsNodeOpened node version text first = IsOpened (StandsFor node) (gates_of node) (app_of node) (audio_of node) version text first

@@ -139,7 +139,7 @@ fn write_load<K: Sink>(
     let mut line = LineBuf::new();
     write_load_line(&mut line, counts.events, counts.states, counts.sends);
     outlet.put_line(out, line.as_slice())?;
-    hand_state(counts.states - 1, state, &mut line, outlet, out)?;
+    hand_state(2, counts.states - 1, state, &mut line, outlet, out)?;
     outlet.flush(out)?;
     Ok(())
 }

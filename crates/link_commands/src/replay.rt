@@ -45,6 +45,8 @@ pub fn replay_main<S: Source, K: Sink>(
 /// A script that was checked, and the node that its head opens.
 #[derive(Drop)]
 struct Replay {
+    // The script's version, which says how much is told of a state.
+    version: u8,
     node: Node,
     // What follows from one event.
     sends: Sends,
@@ -59,7 +61,7 @@ impl TextCommand for Replay {
 
     ghost command = { λ params. replay_command };
 
-    ghost ready = { λ params replay text. IsNodeOpened replay.node text replay.first };
+    ghost ready = { λ params replay text. IsNodeOpened replay.node replay.version text replay.first };
 
     fn limit(_params: &()) -> usize {
         1_073_741_824
@@ -86,6 +88,7 @@ impl TextCommand for Replay {
             return Err(TextFault::Memory);
         };
         Ok(Replay {
+            version: head.version,
             node,
             sends,
             first: head.first,
@@ -102,7 +105,7 @@ impl TextCommand for Replay {
         // A law, for the proof: a script has no more events than bytes.
         scripts_fit_nodes();
         let mut line = LineBuf::new();
-        hand_state(0, &self.node.state(), &mut line, outlet, out)?;
+        hand_state(self.version, 0, &self.node.state(), &mut line, outlet, out)?;
         let counts = self.hand_events(text, &mut line, outlet, out)?;
         hand_done(&counts, &mut line, outlet, out)?;
         Ok(())
@@ -136,10 +139,10 @@ impl Replay {
             → (counts.events ≡ length es) × ((counts.states ≡ 1 + length (published_by m es)) × (counts.sends ≡ length (sent_by m es)))) }
         ensures kept { OnOk result ((m : Machine) (es : List EventValue)
             → NodeGoesOn self.old.node text.now self.old.first m es
-            → HandsOver (events_text_of m 1 es) (K.written out.old) outlet.old.kept.items (K.written out.new) outlet.new.kept.items) }
+            → HandsOver (events_text_of self.old.version m 1 es) (K.written out.old) outlet.old.kept.items (K.written out.new) outlet.new.kept.items) }
         ensures part { OnErr result ((m : Machine) (es : List EventValue)
             → NodeGoesOn self.old.node text.now self.old.first m es
-            → HandsPart (events_text_of m 1 es) (K.written out.old) outlet.old.kept.items (K.written out.new)) }
+            → HandsPart (events_text_of self.old.version m 1 es) (K.written out.old) outlet.old.kept.items (K.written out.new)) }
         ensures quiet { OnOk result (K.faults out.new ≡ K.faults out.old) }
         ensures cause { OnErr result (Rose (K.faults out.old) (K.faults out.new)) }
     {
@@ -170,6 +173,7 @@ impl Replay {
         requires few_events { counts.old.events < 2 ^ 32 }
         requires few_states { counts.old.states < 2 ^ 32 }
         requires few_sends { counts.old.sends < 2 ^ 40 }
+        ensures version { self.new.version ≡ self.old.version }
         ensures stands { (m : Machine) → StandsFor self.old.node m → StandsFor self.new.node (step_of m (event_value event.now)) }
         ensures gates { gates_of self.new.node ≡ gates_of self.old.node }
         ensures app { app_of self.new.node ≡ app_after (app_of self.old.node) (event_value event.now) }
@@ -181,10 +185,10 @@ impl Replay {
             → counts.new.sends ≡ counts.old.sends + length (sends_of m (event_value event.now))) }
         ensures few { OnOk result ((counts.new.states ≤ counts.old.states + 1) × (counts.new.sends ≤ counts.old.sends + 129)) }
         ensures kept { OnOk result ((m : Machine) → StandsFor self.old.node m
-            → HandsOver (event_text_of m counts.old.states (event_value event.now))
+            → HandsOver (event_text_of self.old.version m counts.old.states (event_value event.now))
             (K.written out.old) outlet.old.kept.items (K.written out.new) outlet.new.kept.items) }
         ensures part { OnErr result ((m : Machine) → StandsFor self.old.node m
-            → HandsPart (event_text_of m counts.old.states (event_value event.now))
+            → HandsPart (event_text_of self.old.version m counts.old.states (event_value event.now))
             (K.written out.old) outlet.old.kept.items (K.written out.new)) }
         ensures quiet { OnOk result (K.faults out.new ≡ K.faults out.old) }
         ensures cause { OnErr result (Rose (K.faults out.old) (K.faults out.new)) }
@@ -193,7 +197,15 @@ impl Replay {
         let change = self.node.step(event, &mut self.sends);
         let sends = self.sends.list();
         hand_sends(event, sends, line, outlet, out)?;
-        let shown = hand_published(change, counts.states, &self.node.state(), line, outlet, out)?;
+        let shown = hand_published(
+            self.version,
+            change,
+            counts.states,
+            &self.node.state(),
+            line,
+            outlet,
+            out,
+        )?;
         counts.events += 1;
         counts.states += shown;
         counts.sends += sends.len() as u64;

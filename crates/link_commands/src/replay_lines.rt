@@ -15,27 +15,29 @@ use link_node::{Change, Event, Sending};
 use link_text::{LineBuf, write_done_line, write_sending, write_state_line};
 use lk_outside::Sink;
 
-/// Hands over the line of a state by its number.
+/// Hands over the line of a state by its number, as this version of replay scripts has it.
 pub fn hand_state<K: Sink>(
+    version: u8,
     number: u64,
     state: &State,
     line: &mut LineBuf,
     outlet: &mut Outlet,
     out: &mut K,
 ) -> Result<(), SinkFailed>
-    ensures kept { OnOk result (HandsOver (state_line_of number state.now)
+    ensures kept { OnOk result (HandsOver (state_line_of version number state.now)
         (K.written out.old) outlet.old.kept.items (K.written out.new) outlet.new.kept.items) }
-    ensures part { OnErr result (HandsPart (state_line_of number state.now)
+    ensures part { OnErr result (HandsPart (state_line_of version number state.now)
         (K.written out.old) outlet.old.kept.items (K.written out.new)) }
     ensures quiet { OnOk result (K.faults out.new ≡ K.faults out.old) }
     ensures cause { OnErr result (Rose (K.faults out.old) (K.faults out.new)) }
 {
-    write_state_line(line, number, state);
+    write_state_line(line, version, number, state);
     outlet.put_line(out, line.as_slice())
 }
 
 /// Hands over the line of a state by its number, if it was published, and says how many lines that is.
 pub fn hand_published<K: Sink>(
+    version: u8,
     change: Change,
     number: u64,
     state: &State,
@@ -45,9 +47,9 @@ pub fn hand_published<K: Sink>(
 ) -> Result<u64, SinkFailed>
     ensures count { IfOk result (λ count. count ≡ length (shown_by change state.now)) }
     ensures few { IfOk result (λ count. count ≤ 1) }
-    ensures kept { OnOk result (HandsOver (states_text_of number (shown_by change state.now))
+    ensures kept { OnOk result (HandsOver (states_text_of version number (shown_by change state.now))
         (K.written out.old) outlet.old.kept.items (K.written out.new) outlet.new.kept.items) }
-    ensures part { OnErr result (HandsPart (states_text_of number (shown_by change state.now))
+    ensures part { OnErr result (HandsPart (states_text_of version number (shown_by change state.now))
         (K.written out.old) outlet.old.kept.items (K.written out.new)) }
     ensures quiet { OnOk result (K.faults out.new ≡ K.faults out.old) }
     ensures cause { OnErr result (Rose (K.faults out.old) (K.faults out.new)) }
@@ -55,7 +57,7 @@ pub fn hand_published<K: Sink>(
     match change {
         Change::Same => Ok(0),
         Change::Published => {
-            hand_state(number, state, line, outlet, out)?;
+            hand_state(version, number, state, line, outlet, out)?;
             Ok(1)
         }
     }

@@ -45,10 +45,6 @@ not_failed result value fault is failed = cc
 pub moment_fits : (z : ℤ) → IsMoment z → FitsSigned w64 z
 moment_fits z range = grind (arith, ints)
 
--- a quantum is a number of 64 bits
-pub quantum_fits : (z : ℤ) → IsQuantum z → FitsSigned w64 z
-quantum_fits z range = grind (arith, ints)
-
 -- how a run ends whose report was written, or in part
 pub run_ended : (setup : LiveSetup) (recorded : Bool) (before after : Outside) (ended : LiveEnd) (wrote : Bool)
     → EndsLiveRun setup before.late before.port.told after.port.told after.port.gates before.port.faults after.port.faults before.audio.told after.audio.told before.audio.faults after.audio.faults after.report ended
@@ -68,22 +64,21 @@ run_ended setup recorded before after end.Memory true run whole part replays = i
 run_ended setup recorded before after end.Memory false run whole part replays = inr (record { run = run; written = inr (part refl); replayable = replays })
 
 -- a run of a script that was read, from what its parts say
-module _ (seed : ℕ) (options : LiveOptions) (script later : LiveScript) (config opened : ConfigValue) (now at quantum : ℤ) (most : ℕ)
+module _ (seed : ℕ) (options : LiveOptions) (script later : LiveScript) (config opened : ConfigValue) (now at : ℤ) (most : ℕ)
     (late late' late'' : Option ℤ) (port port' : PortSeen) (audio audio' : AudioSeen) (out out' : Stream) (before report : ReportValue)
     (run : LiveRun) (wrote : Bool) (how : Status) where
   same_setup : config ≡ config_from seed options script → later.apps ≡ script.apps → later.blocks ≡ script.blocks
-      → (opened ≡ config) × (at ≡ now) × (most ≡ options.events) → quantum ≡ options.quantum
-      → setup_of opened most later options.blocks quantum ≡ setup_from seed options script
-  same_setup config_is apps_are blocks_are (opened_is, at_is, most_is) quantum_is =
-      ap (λ (c : ConfigValue). setup_of c most later options.blocks quantum) (opened_is ∙ config_is)
-      ∙ ap (λ (n : ℕ). setup_of (config_from seed options script) n later options.blocks quantum) most_is
-      ∙ ap (λ (q : ℤ). setup_of (config_from seed options script) options.events later options.blocks q) quantum_is
-      ∙ ap (λ apps. record (setup_of (config_from seed options script) options.events later options.blocks options.quantum) { apps = apps.items }) apps_are
-      ∙ ap (λ blocks. record (setup_of (config_from seed options script) options.events later options.blocks options.quantum) { apps = script.apps.items; block_commands = blocks.items }) blocks_are
+      → (opened ≡ config) × (at ≡ now) × (most ≡ options.events)
+      → setup_of opened most later options.blocks ≡ setup_from seed options script
+  same_setup config_is apps_are blocks_are (opened_is, at_is, most_is) =
+      ap (λ (c : ConfigValue). setup_of c most later options.blocks) (opened_is ∙ config_is)
+      ∙ ap (λ (n : ℕ). setup_of (config_from seed options script) n later options.blocks) most_is
+      ∙ ap (λ apps. record (setup_of (config_from seed options script) options.events later options.blocks) { apps = apps.items }) apps_are
+      ∙ ap (λ blocks. record (setup_of (config_from seed options script) options.events later options.blocks) { apps = script.apps.items; block_commands = blocks.items }) blocks_are
 
   pub run_of_script : config ≡ config_from seed options script → later.apps ≡ script.apps → later.blocks ≡ script.blocks
-      → (opened ≡ config) × (at ≡ now) × (most ≡ options.events) → quantum ≡ options.quantum → late' ≡ late
-      → EndsLiveRun (setup_of opened most later options.blocks quantum) late' port.told port'.told port'.gates port.faults port'.faults audio.told audio'.told audio.faults audio'.faults (told_of opened at run) run.end
+      → (opened ≡ config) × (at ≡ now) × (most ≡ options.events) → late' ≡ late
+      → EndsLiveRun (setup_of opened most later options.blocks) late' port.told port'.told port'.gates port.faults port'.faults audio.told audio'.told audio.faults audio'.faults (told_of opened at run) run.end
       → report ≡ told_of config now run
       → (wrote ≡ true → WritesWhole out out' (live_text_of report options.«record»))
       → (wrote ≡ false → WritesPart out out' (live_text_of report options.«record»))
@@ -92,7 +87,7 @@ module _ (seed : ℕ) (options : LiveOptions) (script later : LiveScript) (confi
       → EndsRun (setup_from seed options script) options.«record»
       (record { port = port; audio = audio; late = late; out = out; report = before })
       (record { port = port'; audio = audio'; late = late''; out = out'; report = report }) how
-  run_of_script config_is apps_are blocks_are given quantum_is late_is ends report_is whole part replays how_is =
+  run_of_script config_is apps_are blocks_are given late_is ends report_is whole part replays how_is =
       subst (λ (s : Status). EndsRun (setup_from seed options script) options.«record»
       (record { port = port; audio = audio; late = late; out = out; report = before })
       (record { port = port'; audio = audio'; late = late''; out = out'; report = report }) s) (sym how_is)
@@ -100,10 +95,10 @@ module _ (seed : ℕ) (options : LiveOptions) (script later : LiveScript) (confi
       (record { port = port; audio = audio; late = late; out = out; report = before })
       (record { port = port'; audio = audio'; late = late''; out = out'; report = report }) run.end wrote
       (subst (λ (s : LiveSetup). EndsLiveRun s late port.told port'.told port'.gates port.faults port'.faults audio.told audio'.told audio.faults audio'.faults report run.end)
-      (same_setup config_is apps_are blocks_are given quantum_is)
-      (subst (λ (l : Option ℤ). EndsLiveRun (setup_of opened most later options.blocks quantum) l port.told port'.told port'.gates port.faults port'.faults audio.told audio'.told audio.faults audio'.faults report run.end)
+      (same_setup config_is apps_are blocks_are given)
+      (subst (λ (l : Option ℤ). EndsLiveRun (setup_of opened most later options.blocks) l port.told port'.told port'.gates port.faults port'.faults audio.told audio'.told audio.faults audio'.faults report run.end)
       late_is
-      (subst (λ (r : ReportValue). EndsLiveRun (setup_of opened most later options.blocks quantum) late' port.told port'.told port'.gates port.faults port'.faults audio.told audio'.told audio.faults audio'.faults r run.end)
+      (subst (λ (r : ReportValue). EndsLiveRun (setup_of opened most later options.blocks) late' port.told port'.told port'.gates port.faults port'.faults audio.told audio'.told audio.faults audio'.faults r run.end)
       (ap (λ (c : ConfigValue). told_of c at run) given.0 ∙ ap (λ (n : ℤ). told_of config n run) given.1 ∙ sym report_is)
       ends)))
       whole part replays)
@@ -148,7 +143,6 @@ set_up words seed input input' options script named is = record {
   events = refl;
   blocks = refl;
   quantum = refl;
-  opening_quantum = refl;
   group = refl;
 }
 

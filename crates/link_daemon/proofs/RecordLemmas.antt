@@ -1,12 +1,13 @@
 -- The record of a live run: what is written of it is a replay script of its node and its events.
 use Rattle.std.proofs.Common.{◌≡◌, ◌≤◌, ◌<◌, ◌+◌, ◌/◌, ◌%◌, ◌^◌, ◌==◌, ◌&&◌, nat_lt, ◌++◌, ◌∷◌, [], zero, suc, length, map, take, get_or, List, ℕ, ℤ, pos, negsuc, Bool, true, false, if◌then◌else◌, ap, refl, sym, subst, ◌∙◌, arith, append_assoc, codes}
-use Rattle.std.specs.Prelude.{All}
+use Rattle.std.specs.Prelude.{All, slice_index}
 use Rattle.std.specs.Fmt.{decimal, signed_decimal, digit_glyph, digits, digits_onto}
 use Rattle.std.specs.List.{flat_map, onto_first}
 use Rattle.std.proofs.lemmas.Bool.{and_parts, cond_both}
 use Rattle.std.proofs.lemmas.Bool.Decides.{nat_tests}
 use Rattle.std.proofs.lemmas.List.{map-append, take_all, take_more}
 use Rattle.std.proofs.lemmas.List.Elements.{All-append, All-cons, All-head, All-nil, All-push, All-same, All-tail}
+use Rattle.hex.specs.Hex.{encode_lower, encode_with, lower_digits}
 use Rattle.lk_base.specs.Ranges.{IsMoment, IsQuantum}
 use Rattle.client_state.specs.declared.state.State.{State}
 use Rattle.link_node.specs.Config.{ConfigValue, IsConfig}
@@ -47,80 +48,101 @@ is_head config now eight visible seed group opens gates moment = record {
 
 -- ---- words without a line feed
 
--- no byte is a line feed or below it
-abbrev AreAbove : List ℕ → Type 0
-AreAbove text = All (λ c. 10 < c) text
+abbrev IsNoFeed : ℕ → Type 0
+IsNoFeed c = (c == 10) ≡ false
 
-record AboveWord : Type 0 where
+abbrev HasNoFeed : List ℕ → Type 0
+HasNoFeed text = All IsNoFeed text
+
+record LineWord : Type 0 where
   word : List ℕ
-  above : AreAbove word
+  no_feed : HasNoFeed word
 
-abbrev words_in : List AboveWord → List (List ℕ)
+abbrev words_in : List LineWord → List (List ℕ)
 words_in words = map (λ w. w.word) words
 
-joined-above : (words : List AboveWord) → AreAbove (joined (words_in words))
-joined-above [] = All-nil (λ c. 10 < c)
-joined-above (w ∷ []) = w.above
-joined-above (w ∷ next ∷ words) =
-    All-append (λ c. 10 < c) w.word (32 ∷ joined (words_in (next ∷ words))) w.above
-    (All-cons (λ c. 10 < c) 32 (joined (words_in (next ∷ words))) (omega arith) (joined-above (next ∷ words)))
+joined-no_feed : (words : List LineWord) → HasNoFeed (joined (words_in words))
+joined-no_feed [] = All-nil IsNoFeed
+joined-no_feed (w ∷ []) = w.no_feed
+joined-no_feed (w ∷ next ∷ words) =
+    All-append IsNoFeed w.word (32 ∷ joined (words_in (next ∷ words))) w.no_feed
+    (All-cons IsNoFeed 32 (joined (words_in (next ∷ words))) refl (joined-no_feed (next ∷ words)))
 
-digits_onto-above : (k n : ℕ) (acc : List ℕ) → AreAbove acc → AreAbove (digits_onto k 10 false n acc)
-digits_onto-above zero n acc h = h
-digits_onto-above (suc k) n acc h =
+-- what is greater is none
+above-no_feed : (c : ℕ) → 10 < c → IsNoFeed c
+above-no_feed c above = grind (arith, nat_tests)
+
+digits_onto-no_feed : (k n : ℕ) (acc : List ℕ) → HasNoFeed acc → HasNoFeed (digits_onto k 10 false n acc)
+digits_onto-no_feed zero n acc h = h
+digits_onto-no_feed (suc k) n acc h =
     let glyph : 10 < digit_glyph false (n % 10) = grind (arith, nat_tests) in
-    let more = All-cons (λ c. 10 < c) (digit_glyph false (n % 10)) acc glyph h in
-    cond_both (n / 10 == 0) (digit_glyph false (n % 10) ∷ acc) (digits_onto k 10 false (n / 10) (digit_glyph false (n % 10) ∷ acc)) AreAbove
-    (λ _. more) (λ _. digits_onto-above k (n / 10) (digit_glyph false (n % 10) ∷ acc) more)
+    let more = All-cons IsNoFeed (digit_glyph false (n % 10)) acc (above-no_feed (digit_glyph false (n % 10)) glyph) h in
+    cond_both (n / 10 == 0) (digit_glyph false (n % 10) ∷ acc) (digits_onto k 10 false (n / 10) (digit_glyph false (n % 10) ∷ acc)) HasNoFeed
+    (λ _. more) (λ _. digits_onto-no_feed k (n / 10) (digit_glyph false (n % 10) ∷ acc) more)
 
-decimal-above : (n : ℕ) → AreAbove (decimal n)
+decimal-no_feed : (n : ℕ) → HasNoFeed (decimal n)
 unfolding digits
-decimal-above n = digits_onto-above 64 n [] (All-nil (λ c. 10 < c))
+decimal-no_feed n = digits_onto-no_feed 64 n [] (All-nil IsNoFeed)
 
-signed-above : (z : ℤ) → AreAbove (signed_decimal z)
-signed-above (pos n) = decimal-above n
-signed-above (negsuc n) = All-cons (λ c. 10 < c) 45 (decimal (suc n)) (omega arith) (decimal-above (suc n))
+signed-no_feed : (z : ℤ) → HasNoFeed (signed_decimal z)
+signed-no_feed (pos n) = decimal-no_feed n
+signed-no_feed (negsuc n) = All-cons IsNoFeed 45 (decimal (suc n)) refl (decimal-no_feed (suc n))
 
-truth-above : (b : Bool) → AreAbove (truth_text_of b)
+truth-no_feed : (b : Bool) → HasNoFeed (truth_text_of b)
 unfolding truth_text_of
-truth-above true = All-cons (λ c. 10 < c) 49 [] (omega arith) (All-nil (λ c. 10 < c))
-truth-above false = All-cons (λ c. 10 < c) 48 [] (omega arith) (All-nil (λ c. 10 < c))
+truth-no_feed true = All-cons IsNoFeed 49 [] refl (All-nil IsNoFeed)
+truth-no_feed false = All-cons IsNoFeed 48 [] refl (All-nil IsNoFeed)
 
 -- the test of a word that computes
 abbrev all_above : List ℕ → Bool
 all_above [] = true
 all_above (c ∷ text) = nat_lt 10 c && all_above text
 
-literal-above : (text : List ℕ) → all_above text ≡ true → AreAbove text
-literal-above [] h = All-nil (λ c. 10 < c)
-literal-above (c ∷ text) h =
+literal-no_feed : (text : List ℕ) → all_above text ≡ true → HasNoFeed text
+literal-no_feed [] h = All-nil IsNoFeed
+literal-no_feed (c ∷ text) h =
     let parts = and_parts (nat_lt 10 c) (all_above text) h in
     let first : 10 < c = grind (arith, nat_tests, parts.0) in
-    All-cons (λ c. 10 < c) c text first (literal-above text parts.1)
+    All-cons IsNoFeed c text (above-no_feed c first) (literal-no_feed text parts.1)
 
-abbrev literal_word : (text : List ℕ) → all_above text ≡ true → AboveWord
-literal_word text h = record { word = text; above = literal-above text h }
+-- a digit of a table, or 0 behind its end
+digit-no_feed : (table : List ℕ) (i : ℕ) → HasNoFeed table → IsNoFeed (slice_index table i)
+digit-no_feed [] i h = refl
+digit-no_feed (c ∷ table) zero h = All-head IsNoFeed c table h
+digit-no_feed (c ∷ table) (suc i) h = digit-no_feed table i (All-tail IsNoFeed c table h)
 
-abbrev number_word : ℕ → AboveWord
-number_word n = record { word = decimal n; above = decimal-above n }
+hex-no_feed : (bytes : List ℕ) → HasNoFeed (encode_lower bytes)
+unfolding encode_with
+hex-no_feed [] = All-nil IsNoFeed
+hex-no_feed (b ∷ bytes) =
+    let table : HasNoFeed lower_digits = literal-no_feed lower_digits refl in
+    All-cons IsNoFeed (slice_index lower_digits (b / 16)) (slice_index lower_digits (b % 16) ∷ encode_lower bytes) (digit-no_feed lower_digits (b / 16) table)
+    (All-cons IsNoFeed (slice_index lower_digits (b % 16)) (encode_lower bytes) (digit-no_feed lower_digits (b % 16) table) (hex-no_feed bytes))
 
-abbrev signed_word : ℤ → AboveWord
-signed_word z = record { word = signed_decimal z; above = signed-above z }
+abbrev literal_word : (text : List ℕ) → all_above text ≡ true → LineWord
+literal_word text h = record { word = text; no_feed = literal-no_feed text h }
 
-abbrev truth_word : Bool → AboveWord
-truth_word b = record { word = truth_text_of b; above = truth-above b }
+abbrev number_word : ℕ → LineWord
+number_word n = record { word = decimal n; no_feed = decimal-no_feed n }
+
+abbrev signed_word : ℤ → LineWord
+signed_word z = record { word = signed_decimal z; no_feed = signed-no_feed z }
+
+abbrev truth_word : Bool → LineWord
+truth_word b = record { word = truth_text_of b; no_feed = truth-no_feed b }
+
+abbrev hex_word : List ℕ → LineWord
+hex_word bytes = record { word = encode_lower bytes; no_feed = hex-no_feed bytes }
 
 -- ---- lines that are passed over
 
 -- a line and its line feed are a line of its own
-lines_of-ended : (line rest : List ℕ) → AreAbove line → lines_of (line ++ 10 ∷ rest) ≡ line ∷ lines_of rest
+lines_of-ended : (line rest : List ℕ) → HasNoFeed line → lines_of (line ++ 10 ∷ rest) ≡ line ∷ lines_of rest
 unfolding lines_of
 lines_of-ended [] rest h = refl
 lines_of-ended (c ∷ line) rest h =
-    let ih = lines_of-ended line rest (All-tail (λ c. 10 < c) c line h) in
-    let first : 10 < c = All-head (λ c. 10 < c) c line h in
-    let other : (c == 10) ≡ false = grind (arith, nat_tests) in
-    ap (λ (b : Bool). if b then [] ∷ lines_of (line ++ 10 ∷ rest) else onto_first c (lines_of (line ++ 10 ∷ rest))) other
+    let ih = lines_of-ended line rest (All-tail IsNoFeed c line h) in
+    ap (λ (b : Bool). if b then [] ∷ lines_of (line ++ 10 ∷ rest) else onto_first c (lines_of (line ++ 10 ∷ rest))) (All-head IsNoFeed c line h)
     ∙ ap (onto_first c) ih
 
 line_of-joined : (words : List (List ℕ)) → line_of words ≡ joined words ++ 10 ∷ []
@@ -131,16 +153,15 @@ line_of-joined (word ∷ next ∷ words) =
     ∙ sym (append_assoc word (32 ∷ joined (next ∷ words)) (10 ∷ []))
 
 -- words behind a `#` are passed over, and the lines that count are those of what follows
-hash_passed : (words : List AboveWord) (rest : List ℕ)
+hash_passed : (words : List LineWord) (rest : List ℕ)
     → counting_in (lines_of (35 ∷ 32 ∷ (line_of (words_in words) ++ rest))) ≡ counting_in (lines_of rest)
 hash_passed words rest =
     let line = joined (words_in words) in
     let spelled : line_of (words_in words) ++ rest ≡ line ++ 10 ∷ rest
     = ap (λ (xs : List ℕ). xs ++ rest) (line_of-joined (words_in words)) ∙ append_assoc line (10 ∷ []) rest in
-    let above : AreAbove (35 ∷ 32 ∷ line)
-    = All-cons (λ c. 10 < c) 35 (32 ∷ line) (omega arith) (All-cons (λ c. 10 < c) 32 line (omega arith) (joined-above words)) in
+    let no_feed : HasNoFeed (35 ∷ 32 ∷ line) = All-cons IsNoFeed 35 (32 ∷ line) refl (All-cons IsNoFeed 32 line refl (joined-no_feed words)) in
     ap (λ (xs : List ℕ). counting_in (lines_of (35 ∷ 32 ∷ xs))) spelled
-    ∙ ap counting_in (lines_of-ended (35 ∷ 32 ∷ line) rest above)
+    ∙ ap counting_in (lines_of-ended (35 ∷ 32 ∷ line) rest no_feed)
 
 -- the line of how much there was
 live_passed : (report : ReportValue) (rest : List ℕ) → counting_in (lines_of (live_line_of report ++ rest)) ≡ counting_in (lines_of rest)
@@ -153,16 +174,17 @@ live_passed report rest =
     ∷ number_word (length (flat_map (λ clicks. clicks) report.plays)) ∷ [])
     rest
 
--- the line of a state
+-- the line of a state with its session and quantum
 one_passed : (number : ℕ) (state : State) (rest : List ℕ)
-    → counting_in (lines_of ((codes "# " ++ state_line_of number state) ++ rest)) ≡ counting_in (lines_of rest)
+    → counting_in (lines_of ((codes "# " ++ state_line_of 2 number state) ++ rest)) ≡ counting_in (lines_of rest)
 unfolding state_line_of
 one_passed number state rest =
     hash_passed
     (literal_word (codes "state") refl ∷ number_word number
     ∷ signed_word state.timeline.mpb ∷ signed_word state.timeline.beat ∷ signed_word state.timeline.time
     ∷ truth_word state.start.playing ∷ signed_word state.start.time ∷ signed_word state.start.stamp
-    ∷ truth_word state.sync ∷ number_word state.peers ∷ signed_word state.moment ∷ number_word state.app ∷ number_word state.audio ∷ [])
+    ∷ truth_word state.sync ∷ number_word state.peers ∷ signed_word state.moment ∷ number_word state.app ∷ number_word state.audio
+    ∷ hex_word state.session.0 ∷ signed_word state.quantum ∷ [])
     rest
 
 -- that of the state published last
@@ -183,7 +205,7 @@ whole_record report script =
     = ap (λ (xs : List ℕ). counting_in (lines_of xs)) (append_assoc (live_line_of report) (last_state_text_of 0 report.published) text)
     ∙ live_passed report (last_state_text_of 0 report.published ++ text)
     ∙ state_passed report.published 0 text in
-    record { known = script.known; head = script.head; rest = script.rest; said = same ∙ script.said; events = script.events }
+    record { known = script.known; head = script.head; rest = script.rest; said = same ∙ script.said; events = script.events; plain = script.plain }
 
 -- ---- the events
 

@@ -88,30 +88,30 @@ where_err (Err failure) leads holds = leads holds
 -- ---- the state published last
 
 pub last_text : (n i : ℕ) (states : List State) (last : State) → slice_get states i ≡ Some last → i + 1 ≡ length states
-    → codes "# " ++ state_line_of (n + i) last ≡ last_state_text_of n states
+    → codes "# " ++ state_line_of 2 (n + i) last ≡ last_state_text_of n states
 last_text n i [] last e len = absurd (omega (arith, len))
 last_text n zero (state ∷ []) last e len =
     let number : n + 0 ≡ n = omega arith in
-    ap (λ (k : ℕ). codes "# " ++ state_line_of k last) number ∙ ap (λ (s : State). codes "# " ++ state_line_of n s) (sym (same_Some _ _ e))
+    ap (λ (k : ℕ). codes "# " ++ state_line_of 2 k last) number ∙ ap (λ (s : State). codes "# " ++ state_line_of 2 n s) (sym (same_Some _ _ e))
 last_text n (suc i) (state ∷ []) last e len = absurd (omega (arith, len))
 last_text n zero (state ∷ next ∷ states) last e len = absurd (omega (arith, len))
 last_text n (suc i) (state ∷ next ∷ states) last e len =
     let number : n + suc i ≡ n + 1 + i = omega arith in
-    ap (λ (k : ℕ). codes "# " ++ state_line_of k last) number ∙ last_text (n + 1) i (next ∷ states) last e (omega (arith, len))
+    ap (λ (k : ℕ). codes "# " ++ state_line_of 2 k last) number ∙ last_text (n + 1) i (next ∷ states) last e (omega (arith, len))
 
 -- the same where the last one is known as such
 last_text_at : (states : List State) (number : ℕ) (last : State) → Some last ≡ slice_get states (length states - 1) → number ≡ length states - 1
-    → codes "# " ++ state_line_of number last ≡ last_state_text_of 0 states
+    → codes "# " ++ state_line_of 2 number last ≡ last_state_text_of 0 states
 last_text_at states number last is at =
     let within : length states - 1 < length states = slice_get_within states (length states - 1) last (sym is) in
     let same : number ≡ 0 + number = omega arith in
-    ap (λ (k : ℕ). codes "# " ++ state_line_of k last) same
+    ap (λ (k : ℕ). codes "# " ++ state_line_of 2 k last) same
     ∙ last_text 0 number states last (ap (slice_get states) at ∙ sym is) (omega (arith, within, at))
 
 -- all of it is handed over
 pub last_over : (states : List State) (number : ℕ) (last : State) (before told after : Option (List ℕ)) (kept kept' kept'' : List ℕ)
     → Some last ≡ slice_get states (length states - 1) → number ≡ length states - 1
-    → HandsOver (codes "# ") before kept told kept' → HandsOver (state_line_of number last) told kept' after kept''
+    → HandsOver (codes "# ") before kept told kept' → HandsOver (state_line_of 2 number last) told kept' after kept''
     → HandsOver (last_state_text_of 0 states) before kept after kept''
 last_over states number last before told after kept kept' kept'' is at one two =
     subst (λ (text : List ℕ). HandsOver text before kept after kept'') (last_text_at states number last is at)
@@ -123,11 +123,11 @@ pub last_part_mark : (states : List State) (last : State) (before after : Option
     → HandsPart (last_state_text_of 0 states) before kept after
 last_part_mark states last before after kept is part =
     subst (λ (text : List ℕ). HandsPart text before kept after) (last_text_at states (length states - 1) last is refl)
-    (part_of_more before after kept (codes "# ") (state_line_of (length states - 1) last) part)
+    (part_of_more before after kept (codes "# ") (state_line_of 2 (length states - 1) last) part)
 
 pub last_part_state : (states : List State) (number : ℕ) (last : State) (before told after : Option (List ℕ)) (kept kept' : List ℕ)
     → Some last ≡ slice_get states (length states - 1) → number ≡ length states - 1
-    → HandsOver (codes "# ") before kept told kept' → HandsPart (state_line_of number last) told kept' after
+    → HandsOver (codes "# ") before kept told kept' → HandsPart (state_line_of 2 number last) told kept' after
     → HandsPart (last_state_text_of 0 states) before kept after
 last_part_state states number last before told after kept kept' is at one part =
     subst (λ (text : List ℕ). HandsPart text before kept after) (last_text_at states number last is at)

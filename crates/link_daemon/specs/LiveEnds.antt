@@ -38,8 +38,7 @@ pub record IsSetUp (words : List (String Global)) (seed : ℕ) (input input' : S
   pub seed_is : setup.config.seed ≡ seed
   pub events : setup.events ≡ options.events
   pub blocks : setup.blocks ≡ options.blocks
-  pub quantum : setup.quantum ≡ options.quantum
-  pub opening_quantum : setup.config.quantum ≡ options.quantum
+  pub quantum : setup.config.quantum ≡ options.quantum
   pub group : setup.config.group ≡ options.group
 
 -- the text of a report with its record is a replay script of version 2, of just the node and the events that it tells of

@@ -28,7 +28,7 @@ config_from seed options script = record {
 }
 
 abbrev pub setup_from : ℕ → LiveOptions → LiveScript → LiveSetup
-setup_from seed options script = setup_of (config_from seed options script) options.events script options.blocks options.quantum
+setup_from seed options script = setup_of (config_from seed options script) options.events script options.blocks
 
 -- the text of a script that was read to its end, and said this one
 pub record IsRead (input input' : Stream) (script : LiveScript) : Type 0 where

@@ -20,7 +20,7 @@ live_line_of report =
 -- the state published last by its number, where the first has this one, behind a `#`
 abbrev pub last_state_text_of : ℕ → List State → List ℕ
 last_state_text_of number [] = []
-last_state_text_of number (state ∷ []) = codes "# " ++ state_line_of number state
+last_state_text_of number (state ∷ []) = codes "# " ++ state_line_of 2 number state
 last_state_text_of number (state ∷ next ∷ states) = last_state_text_of (number + 1) (next ∷ states)
 
 -- and, where a record is asked for, the replay script of the node and its events

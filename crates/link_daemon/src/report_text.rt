@@ -124,7 +124,7 @@ fn hand_last_state<K: Sink>(
         return Ok(());
     };
     outlet.put_line(out, b"# ")?;
-    hand_state(published.len() as u64 - 1, state, line, outlet, out)
+    hand_state(2, published.len() as u64 - 1, state, line, outlet, out)
 }
 
 // Hands over the replay script of the node and its events.

@@ -24,7 +24,7 @@ pub struct LiveOptions {
     pub events: u64,
     /// How many blocks are played at most.
     pub blocks: u64,
-    /// The length in microbeats that accents and phases are counted in; 0 is none.
+    /// The length in microbeats that accents and phases are counted in at first; 0 is none.
     pub quantum: i64,
     /// The group of the messages that are heard and sent.
     pub group: u16,
@@ -117,7 +117,7 @@ pub fn live_command<'a>(alloc: Global) -> Result<Command<'a>, AllocError>
         alloc,
         "quantum",
         "4000000",
-        "the length in microbeats that accents and phases are counted in, from 0, which is none, to 1099511627776",
+        "the length in microbeats that accents and phases are counted in at first, from 0, which is none, to 1099511627776",
         value_parser!(u64).range(0..=1_099_511_627_776),
     );
     let group = option(

@@ -148,10 +148,96 @@ const ROWS: &[Row] = &[
             gate 127.0.0.1:20809\n\
             rx 1000100 0 127.0.0.1:20808 @\n\
             rx 1000100 0 127.0.0.1:20808 5f617364705f7601010500014142434445464748746d6c6e00000018000000000007a1200000000000000000000000000000000073657373000000084142434445464748737473740000001100000000000000000000000000000000006d657034000000067f0000015148\n",
-        output: "%tx 1000100 0 127.0.0.1:20808 5f617364705f7601020500015152535455565758746d6c6e00000018000000000007a1200000000000000000000000000000000073657373000000085152535455565758737473740000001100000000000000000000000000000000006d657034000000067f0000015149\n\
+        output: "state 0 500000 0 1000000 0 0 0 1 0 1000000 0 0 5152535455565758 4000000\n\
+            tx 1000100 0 127.0.0.1:20808 5f617364705f7601020500015152535455565758746d6c6e00000018000000000007a1200000000000000000000000000000000073657373000000085152535455565758737473740000001100000000000000000000000000000000006d657034000000067f0000015149\n\
             done 2 1 1\n",
         status: 0,
         line: 0,
+    },
+    // A commit of a quantum.
+    Row {
+        words: "replay",
+        input: "replay 2\n\
+            node QRSTUVWX 1 500000 1 0\n\
+            group 0\n\
+            quantum 4000000\n\
+            gate 127.0.0.1:20809\n\
+            app 0 0 q 3000000\n",
+        output: "state 0 500000 0 0 0 0 0 1 0 0 0 0 5152535455565758 4000000\n\
+            state 1 500000 0 0 0 0 0 1 0 0 1 0 5152535455565758 3000000\n\
+            done 1 2 0\n",
+        status: 0,
+        line: 0,
+    },
+    // Version 1 says none.
+    Row {
+        words: "replay",
+        input: "replay 1\n\
+            node QRSTUVWX 1 500000 1 0\n\
+            gate 127.0.0.1:20809\n\
+            app 0 0\n\
+            app 0 0 q 3000000\n",
+        output: "",
+        status: 8,
+        line: 5,
+    },
+    // No quantum beside a tempo, and one more of the audio thread.
+    Row {
+        words: "replay",
+        input: "replay 2\n\
+            node QRSTUVWX 1 500000 1 0\n\
+            group 0\n\
+            quantum 1099511627776\n\
+            gate 127.0.0.1:20809\n\
+            app 1000000 1000000 t 250000 0 500000 q 0\n\
+            audio 1000000 1 1000000 q 5\n\
+            audio 1000000 2 1000000\n",
+        output: "state 0 500000 0 0 0 0 0 1 0 0 0 0 5152535455565758 1099511627776\n\
+            state 1 250000 0 500000 0 0 0 1 0 1000000 1 0 5152535455565758 0\n\
+            state 2 250000 0 500000 0 0 0 1 0 1000000 1 1 5152535455565758 5\n\
+            state 3 250000 0 500000 0 0 0 1 0 1000000 1 2 5152535455565758 5\n\
+            done 3 4 0\n",
+        status: 0,
+        line: 0,
+    },
+    // A quantum beyond 2^40, below 0, and before a start.
+    Row {
+        words: "replay",
+        input: "replay 2\n\
+            node QRSTUVWX 1 500000 1 0\n\
+            group 0\n\
+            quantum 4000000\n\
+            gate 127.0.0.1:20809\n\
+            app 0 0 t 250000 0 0 s 1 0 1 q 0\n\
+            audio 0 1 0 s 1 0 1 q 1099511627776\n\
+            app 0 0 q 1099511627777\n",
+        output: "",
+        status: 8,
+        line: 8,
+    },
+    Row {
+        words: "replay",
+        input: "replay 2\n\
+            node QRSTUVWX 1 500000 1 0\n\
+            group 0\n\
+            quantum 4000000\n\
+            gate 127.0.0.1:20809\n\
+            app 0 0 q -1\n",
+        output: "",
+        status: 8,
+        line: 6,
+    },
+    Row {
+        words: "replay",
+        input: "replay 2\n\
+            node QRSTUVWX 1 500000 1 0\n\
+            group 0\n\
+            quantum 4000000\n\
+            gate 127.0.0.1:20809\n\
+            app 0 0 q 0 s 1 0 1\n",
+        output: "",
+        status: 8,
+        line: 6,
     },
     // The pong of a ping at 250 microseconds of ghost time: its session, that time, and the ping's payload.
     Row {
@@ -325,7 +411,7 @@ const ROWS: &[Row] = &[
     Row {
         words: "load 7 1000",
         input: "",
-        output: "load 1000 109 806\nstate 108 372100 -21618 296253 0 0 0 1 8 10985784 61 0\n",
+        output: "load 1000 109 806\nstate 108 372100 -21618 296253 0 0 0 1 8 10985784 61 0 4c4f41444e4f4445 4000000\n",
         status: 0,
         line: 0,
     },
@@ -383,6 +469,29 @@ const ROWS: &[Row] = &[
     Row {
         words: "live",
         input: "link 1\nsetup 500000 1\ngate 127.0.0.1:20808\nat 0 look\nat 0 tempo\n",
+        output: "",
+        status: 8,
+        line: 5,
+    },
+    // A quantum beyond 2^40, below 0, and none.
+    Row {
+        words: "live",
+        input: "link 1\nsetup 500000 1\ngate 127.0.0.1:20808\nat 0 quantum 0\nat 0 quantum 1099511627776\nblock 1 quantum 0\n\
+            block 1 quantum 1099511627776\nat 0 quantum 1099511627777\n",
+        output: "",
+        status: 8,
+        line: 8,
+    },
+    Row {
+        words: "live",
+        input: "link 1\nsetup 500000 1\ngate 127.0.0.1:20808\nblock 1 quantum -1\n",
+        output: "",
+        status: 8,
+        line: 4,
+    },
+    Row {
+        words: "live",
+        input: "link 1\nsetup 500000 1\ngate 127.0.0.1:20808\nblock 1 quantum 1\nblock 1 quantum\n",
         output: "",
         status: 8,
         line: 5,

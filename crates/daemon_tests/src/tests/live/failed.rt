@@ -555,6 +555,7 @@ const COMMIT: Commit = Commit {
         time: 500_000,
     }),
     start: None,
+    quantum: None,
     at: 1_000_000,
 };
 

@@ -240,17 +240,23 @@ fn below(random: &mut Lcg64Xsh32, n: u32) -> u32
 }
 
 /// What the application does, and whether a number stands behind it.
-const APP_ACTS: [(&str, bool); 6] = [
+const APP_ACTS: [(&str, bool); 7] = [
     ("force -", true),
     ("request ", true),
     ("play", false),
     ("stop", false),
     ("look", false),
     ("tempo ", true),
+    ("quantum ", true),
 ];
 
 /// What the audio thread does.
-const AUDIO_ACTS: [(&str, bool); 3] = [("play", false), ("stop", false), ("tempo ", true)];
+const AUDIO_ACTS: [(&str, bool); 4] = [
+    ("play", false),
+    ("stop", false),
+    ("tempo ", true),
+    ("quantum ", true),
+];
 
 // Twelve commands of the application and four of the audio thread.
 fn script_of(alloc: Global, random: &mut Lcg64Xsh32) -> Result<Vec<u8>, AllocError> {
@@ -275,7 +281,7 @@ fn put_command(
     random: &mut Lcg64Xsh32,
     acts: &[(&str, bool)],
 ) -> Result<(), AllocError>
-    requires { (0 < length acts.now) × (length acts.now ≤ 6) }
+    requires { (0 < length acts.now) × (length acts.now ≤ 7) }
 {
     let number = below(random, 2_000_000) + 100_000;
     let (act, has_number) = acts[below(random, acts.len() as u32) as usize];

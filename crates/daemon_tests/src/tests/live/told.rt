@@ -14,39 +14,72 @@ use std::sync::Wait;
 use std::test::Fail;
 use std::thread::Threads;
 
-const SCRIPT: &[u8] = b"link 1\nsetup 500000 1\ngate 127.0.0.1:20808\nat 1000000 tempo 250000\n";
+const TEMPO: &[u8] = b"link 1\nsetup 500000 1\ngate 127.0.0.1:20808\nat 1000000 tempo 250000\n";
+
+const QUANTUM_AND_TEMPO: &[u8] =
+    b"link 1\nsetup 500000 1\ngate 127.0.0.1:20808\nat 0 quantum 3000000\nat 1000000 tempo 250000\n";
 
 const LOOKING: &[u8] =
     b"link 1\nsetup 500000 1\ngate 127.0.0.1:20808\nat 1000000 tempo 250000\nat 1000000 play\nat 1000000 look\n";
-
-// The state that is published last. Beat 2 is at 1,000,000, and so half a second of four beats a second before it is beat 0.
-const SUMMARY: &[u8] = b"# live 3 2 2 1 1 0 2 0\n# state 1 250000 0 500000 0 0 0 1 0 0 1 0\n";
 
 // The first turn ticks, and the commit stands before that tick where it was handed over by then.
 const TICK_FIRST: &[u8] = b"tick 0\napp 0 1000000 t 250000 0 500000\nend 0\n";
 
 const COMMIT_FIRST: &[u8] = b"app 0 1000000 t 250000 0 500000\ntick 0\nend 0\n";
 
-/// Words, and the head of the record where they ask for it.
-const CASES: &[(&str, &str)] = &[
-    ("live", ""),
-    (
-        "live --record",
-        "replay 2\nnode -ke:4:.` 7 500000 1 0\ngroup 0\nquantum 4000000\ngate 127.0.0.1:20808\n",
-    ),
-    (
-        "live --group 65535 --record --quantum 0",
-        "replay 2\nnode -ke:4:.` 7 500000 1 0\ngroup 65535\nquantum 0\ngate 127.0.0.1:20808\n",
-    ),
+/// A run of two blocks, and what is told of it.
+struct Case {
+    words: &'static str,
+    script: &'static [u8],
+    /// How many commits the script makes.
+    commits: usize,
+    /// How much there was, and the state that is published last. Beat 2 is at 1,000,000, and so half a second of four beats a second before
+    /// it is beat 0.
+    summary: &'static [u8],
+    /// The head of the record, where the words ask for it.
+    head: &'static str,
+}
+
+const CASES: &[Case] = &[
+    Case {
+        words: "live",
+        script: TEMPO,
+        commits: 1,
+        summary: b"# live 3 2 2 1 1 0 2 0\n# state 1 250000 0 500000 0 0 0 1 0 0 1 0 2d6b653a343a2e60 4000000\n",
+        head: "",
+    },
+    Case {
+        words: "live --record",
+        script: TEMPO,
+        commits: 1,
+        summary: b"# live 3 2 2 1 1 0 2 0\n# state 1 250000 0 500000 0 0 0 1 0 0 1 0 2d6b653a343a2e60 4000000\n",
+        head: "replay 2\nnode -ke:4:.` 7 500000 1 0\ngroup 0\nquantum 4000000\ngate 127.0.0.1:20808\n",
+    },
+    Case {
+        words: "live --group 65535 --record --quantum 0",
+        script: TEMPO,
+        commits: 1,
+        summary: b"# live 3 2 2 1 1 0 2 0\n# state 1 250000 0 500000 0 0 0 1 0 0 1 0 2d6b653a343a2e60 0\n",
+        head: "replay 2\nnode -ke:4:.` 7 500000 1 0\ngroup 65535\nquantum 0\ngate 127.0.0.1:20808\n",
+    },
+    // The quantum of the words is the first one.
+    Case {
+        words: "live",
+        script: QUANTUM_AND_TEMPO,
+        commits: 2,
+        summary: b"# live 4 3 2 2 2 0 2 0\n# state 2 250000 0 500000 0 0 0 1 0 0 2 0 2d6b653a343a2e60 3000000\n",
+        head: "",
+    },
 ];
 
 #[test]
 fn a_run_tells_how_much_there_was_and_its_last_state(rt: HostRuntime) -> Result<(), Fail> {
-    for (words, head) in CASES {
-        let mut sides = sides_over(rt.alloc(), SCRIPT, 2)?;
+    for case in CASES {
+        let (words, commits) = (case.words, case.commits);
+        let mut sides = sides_over(rt.alloc(), case.script, 2)?;
         assert!(rt;
-            is_told_and_replayed(&rt, rt.alloc(), words, head, &mut sides)?,
-            "{words}"
+            is_told_and_replayed(&rt, rt.alloc(), case, &mut sides)?,
+            "{words}, {commits}"
         );
     }
     Ok(())
@@ -56,14 +89,13 @@ fn a_run_tells_how_much_there_was_and_its_last_state(rt: HostRuntime) -> Result<
 fn is_told_and_replayed<R: Threads + Wait + Sync>(
     rt: &R,
     alloc: Global,
-    words: &str,
-    head: &str,
+    case: &Case,
     sides: &mut Sides,
 ) -> Result<bool, AllocError> {
-    if !tells(rt, alloc, words, head, sides)? {
+    if !tells(rt, alloc, case, sides)? {
         return Ok(false);
     }
-    if head.is_empty() {
+    if case.head.is_empty() {
         return Ok(true);
     }
     is_replayed(rt, alloc, sides.out.bytes(), &sides.report, &[])
@@ -72,48 +104,43 @@ fn is_told_and_replayed<R: Threads + Wait + Sync>(
 fn tells<R: Threads + Wait + Sync>(
     rt: &R,
     alloc: Global,
-    words: &str,
-    head: &str,
+    case: &Case,
     sides: &mut Sides,
 ) -> Result<bool, AllocError> {
     let mut port = quiet_port(alloc, 0)?;
-    let status = sides.run(rt, alloc, words, &mut port, &mut ListPace::new(0))?;
-    Ok(status == Status::Done && is_told(sides, &port, head))
+    let status = sides.run(rt, alloc, case.words, &mut port, &mut ListPace::new(0))?;
+    Ok(status == Status::Done && is_told(sides, &port, case))
 }
 
 // Whether the text and the report are those of the script, and nothing was sent.
-fn is_told(sides: &Sides, port: &ListPort, head: &str) -> bool {
+fn is_told(sides: &Sides, port: &ListPort, case: &Case) -> bool {
     port.posts().is_empty()
-        && has_three_events(&sides.report)
-        && is_text_of(sides.out.bytes(), head, &sides.report.events)
+        && has_commits(&sides.report, case.commits)
+        && is_text_of(sides.out.bytes(), case, &sides.report.events)
 }
 
-// Whether there is a tick, a commit and an end, and of all else as much as the summary says.
-fn has_three_events(report: &Report) -> bool {
-    report.events.len() == 3
-        && has_one(&report.events, b't')
-        && has_one(&report.events, b'c')
-        && has_one(&report.events, b'e')
-        && report.published.len() == 2
+// Whether there is a tick, so many commits and an end, a state more than commits, and of all else as much as the summary says.
+fn has_commits(report: &Report, commits: usize) -> bool {
+    report.events.len() == commits.saturating_add(2)
+        && count_of(&report.events, b't') == 1
+        && count_of(&report.events, b'c') == commits
+        && count_of(&report.events, b'e') == 1
+        && report.published.len() == commits.saturating_add(1)
         && report.reads.len() == 2
-        && report.captures.len() == 1
-        && report.app_commits.len() == 1
+        && report.captures.len() == commits
+        && report.app_commits.len() == commits
         && report.audio_commits.is_empty()
         && report.plays.len() == 2
 }
 
-fn has_one(events: &[Event], letter: u8) -> bool {
-    count_of(events, letter) == 1
-}
-
-fn is_text_of(text: &[u8], head: &str, events: &[Event]) -> bool {
-    let Some(record) = text.strip_prefix(SUMMARY) else {
+fn is_text_of(text: &[u8], case: &Case, events: &[Event]) -> bool {
+    let Some(record) = text.strip_prefix(case.summary) else {
         return false;
     };
-    if head.is_empty() {
+    if case.head.is_empty() {
         return record.is_empty();
     }
-    record.strip_prefix(head.as_bytes()) == Some(events_told(events))
+    record.strip_prefix(case.head.as_bytes()) == Some(events_told(events))
 }
 
 fn events_told(events: &[Event]) -> &'static [u8] {

@@ -9,7 +9,7 @@ use Rattle.link_text.specs.declared.live_script.BlockCommand.{BlockCommand}
 use Rattle.link_live.specs.LiveRun.{told_of}
 use Rattle.link_live.specs.Report.{ReportValue, report_value}
 use Rattle.link_daemon.proofs.CourseLemmas.{has_published}
-use Rattle.link_daemon.proofs.LiveLemmas.{moment_fits, quantum_fits, replays, run_of_script, where_done, where_failed}
+use Rattle.link_daemon.proofs.LiveLemmas.{moment_fits, replays, run_of_script, where_done, where_failed}
 use Rattle.link_daemon.proofs.live.run_script.Goals as goal
 
 pub new-requires-2-clause-apps : goal.new-requires-2-clause-apps
@@ -39,9 +39,9 @@ returns g c =
     let given = c.in-Ok.ensures.given in
     record {
       ends = run_of_script c.args.seed c.args.options.now c.args.script c.config_of-config.new.script (config_value c.config_of-config.result) c.in-Ok.parts.config
-          c.until-now.result c.in-Ok.parts.opened_at _ c.in-Ok.parts.most _ _ _ _ _ _ _ _ _ _ _ c.live_run-run.result c.is_ok.result _
+          c.until-now.result c.in-Ok.parts.opened_at c.in-Ok.parts.most _ _ _ _ _ _ _ _ _ _ _ c.live_run-run.result c.is_ok.result _
           c.config_of-config.ensures.config c.config_of-config.ensures.apps c.config_of-config.ensures.blocks (given.0, given.1 ∙ stored, given.2)
-          (to_z-of_z w64 _ (quantum_fits _ c.requires.options.3)) c.until-now.ensures.late c.live_run-run.ensures.ends kept
+          c.until-now.ensures.late c.live_run-run.ensures.ends kept
           (λ yes. record {
             whole = where_done c.write_report-written.result c.write_report-written.ensures.whole (sym c.is_ok.ensures.value ∙ yes);
             quiet = where_done c.write_report-written.result c.write_report-written.ensures.quiet (sym c.is_ok.ensures.value ∙ yes);

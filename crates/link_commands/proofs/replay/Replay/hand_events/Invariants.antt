@@ -1,4 +1,5 @@
--- What follows from the events before the place is handed over, for each machine that the node stood for, and there was no more than that.
+-- What follows from the events before the place is handed over, for each machine that the node stood for, and there was no more than that;
+-- the version stays.
 use Rattle.std.proofs.Common.{◌≡◌, ◌≤◌, ◌+◌, ◌*◌, List}
 use Rattle.link_node.specs.Event.{EventValue}
 use Rattle.link_node.specs.Machine.{Machine}
@@ -9,9 +10,10 @@ use Rattle.link_commands.proofs.replay.Replay.hand_events.Given as goal
 
 abbrev pub invariant-loop-event : goal.invariant-loop-event
 invariant-loop-event g l = record {
+  version : l.self.version ≡ l.fn.self.version;
   handed : (m : Machine) (es : List EventValue)
       → NodeGoesOn l.fn.self.node l.text l.fn.self.first m es
-      → HasHanded (StandsFor l.self.node) (gates_of l.self.node) (app_of l.self.node) (audio_of l.self.node) l.text l.at l.counts.events l.counts.states l.counts.sends
+      → HasHanded l.fn.self.version (StandsFor l.self.node) (gates_of l.self.node) (app_of l.self.node) (audio_of l.self.node) l.text l.at l.counts.events l.counts.states l.counts.sends
       (g.K.Sink.written l.fn.out) l.fn.outlet.kept.items (g.K.Sink.written l.out) l.outlet.kept.items m es;
   few_states : l.counts.states ≤ l.counts.events + 1;
   few_sends : l.counts.sends ≤ 129 * l.counts.events;

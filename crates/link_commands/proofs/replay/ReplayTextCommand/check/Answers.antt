@@ -7,7 +7,7 @@ use Rattle.link_commands.proofs.replay.ReplayTextCommand.check.Goals as goal
 
 pub returns-clause-ready : goal.returns-clause-ready
 returns-clause-ready c =
-    opened_by _ _ _ _ c.args.text.now c.in-Ok.head.version (config_value c.in-Ok.head.config) c.in-Ok.head.now _ c.in-Ok.head.first
+    opened_by _ _ _ _ c.in-Ok.head.version c.args.text.now (config_value c.in-Ok.head.config) c.in-Ok.head.now _ c.in-Ok.head.first
     c.in-Ok.ensures.script
     (to_z-of_z w64 c.in-Ok.head.now (omega (arith, ints, c.in-Ok.ensures.script.script.head.moment.0, c.in-Ok.ensures.script.script.head.moment.1)))
     c.in-Ok-new.ensures.stands (c.in-Ok-new.ensures.gates ∙ sym (length-map c.in-Ok.head.config.gates.items gate_value)) c.in-Ok-new.ensures.app c.in-Ok-new.ensures.audio

@@ -7,9 +7,9 @@ use Rattle.link_commands.proofs.replay.ReplayTextCommand.hand.Goals as goal
 pub returns-in_err-hand_state-clause-part : goal.returns-in_err-hand_state-clause-part
 returns-in_err-hand_state-clause-part g c =
     on_failure c.from_residual.result (
-      replay_text_of c.requires.ready.version c.requires.ready.config c.requires.ready.now c.requires.ready.es,
-      gives_output _ _ _ _ _ _ c.requires.ready,
-      replay_part_first c.requires.ready.version c.requires.ready.config c.requires.ready.now c.requires.ready.es c.state.result _ _ _
+      replay_text_of c.args.self.now.version c.requires.ready.config c.requires.ready.now c.requires.ready.es,
+      gives_output _ _ _ _ _ _ _ c.requires.ready,
+      replay_part_first c.args.self.now.version c.requires.ready.config c.requires.ready.now c.requires.ready.es c.state.result _ _ _
           (c.state.ensures.value (opened c.requires.ready.config c.requires.ready.now) c.requires.ready.stands) c.in_err-hand_state.ensures.part,
     )
 
@@ -17,27 +17,27 @@ pub hand_events-requires-clause-says : goal.hand_events-requires-clause-says
 hand_events-requires-clause-says g c = (
   opened c.requires.ready.config c.requires.ready.now,
   c.requires.ready.es,
-  opened_goes_on c.scripts_fit_nodes.ensures.few _ _ _ _ c.args.text.now _ c.requires.ready c.requires.short,
+  opened_goes_on c.scripts_fit_nodes.ensures.few _ _ _ _ _ c.args.text.now _ c.requires.ready c.requires.short,
 )
 
 pub returns-in_err-counts-clause-part : goal.returns-in_err-counts-clause-part
 returns-in_err-counts-clause-part g c =
     on_failure c.from_residual-in_err-counts.result (
-      replay_text_of c.requires.ready.version c.requires.ready.config c.requires.ready.now c.requires.ready.es,
-      gives_output _ _ _ _ _ _ c.requires.ready,
-      replay_part_events c.requires.ready.version c.requires.ready.config c.requires.ready.now c.requires.ready.es c.state.result _ _ _ _ _
+      replay_text_of c.args.self.now.version c.requires.ready.config c.requires.ready.now c.requires.ready.es,
+      gives_output _ _ _ _ _ _ _ c.requires.ready,
+      replay_part_events c.args.self.now.version c.requires.ready.config c.requires.ready.now c.requires.ready.es c.state.result _ _ _ _ _
           (c.state.ensures.value (opened c.requires.ready.config c.requires.ready.now) c.requires.ready.stands) c.in_ok-hand_state.ensures.kept
           (c.in_err-counts.ensures.part (opened c.requires.ready.config c.requires.ready.now) c.requires.ready.es
-          (opened_goes_on c.scripts_fit_nodes.ensures.few _ _ _ _ c.args.text.now _ c.requires.ready c.requires.short)),
+          (opened_goes_on c.scripts_fit_nodes.ensures.few _ _ _ _ _ c.args.text.now _ c.requires.ready c.requires.short)),
     )
 
 pub returns-in_err-hand_done-clause-part : goal.returns-in_err-hand_done-clause-part
 returns-in_err-hand_done-clause-part g c =
-    let on = opened_goes_on c.scripts_fit_nodes.ensures.few _ _ _ _ c.args.text.now _ c.requires.ready c.requires.short in
+    let on = opened_goes_on c.scripts_fit_nodes.ensures.few _ _ _ _ _ c.args.text.now _ c.requires.ready c.requires.short in
     on_failure c.from_residual-in_err-hand_done.result (
-      replay_text_of c.requires.ready.version c.requires.ready.config c.requires.ready.now c.requires.ready.es,
-      gives_output _ _ _ _ _ _ c.requires.ready,
-      replay_part_done c.requires.ready.version c.requires.ready.config c.requires.ready.now c.requires.ready.es c.state.result _ _ _ _ _ _ _ _ _ _
+      replay_text_of c.args.self.now.version c.requires.ready.config c.requires.ready.now c.requires.ready.es,
+      gives_output _ _ _ _ _ _ _ c.requires.ready,
+      replay_part_done c.args.self.now.version c.requires.ready.config c.requires.ready.now c.requires.ready.es c.state.result _ _ _ _ _ _ _ _ _ _
           (c.state.ensures.value (opened c.requires.ready.config c.requires.ready.now) c.requires.ready.stands)
           (c.in_ok-counts.ensures.events (opened c.requires.ready.config c.requires.ready.now) c.requires.ready.es on)
           c.in_ok-hand_state.ensures.kept
@@ -47,10 +47,10 @@ returns-in_err-hand_done-clause-part g c =
 
 pub returns-clause-kept : goal.returns-clause-kept
 returns-clause-kept g c =
-    let on = opened_goes_on c.scripts_fit_nodes.ensures.few _ _ _ _ c.args.text.now _ c.requires.ready c.requires.short in (
-      replay_text_of c.requires.ready.version c.requires.ready.config c.requires.ready.now c.requires.ready.es,
-      gives_output _ _ _ _ _ _ c.requires.ready,
-      replay_over c.requires.ready.version c.requires.ready.config c.requires.ready.now c.requires.ready.es c.state.result _ _ _ _ _ _ _ _ _ _ _
+    let on = opened_goes_on c.scripts_fit_nodes.ensures.few _ _ _ _ _ c.args.text.now _ c.requires.ready c.requires.short in (
+      replay_text_of c.args.self.now.version c.requires.ready.config c.requires.ready.now c.requires.ready.es,
+      gives_output _ _ _ _ _ _ _ c.requires.ready,
+      replay_over c.args.self.now.version c.requires.ready.config c.requires.ready.now c.requires.ready.es c.state.result _ _ _ _ _ _ _ _ _ _ _
           (c.state.ensures.value (opened c.requires.ready.config c.requires.ready.now) c.requires.ready.stands)
           (c.in_ok-counts.ensures.events (opened c.requires.ready.config c.requires.ready.now) c.requires.ready.es on)
           c.in_ok-hand_state.ensures.kept
