@@ -651,5 +651,8 @@ for (words, name), rounds in counted.items():
     half = f"{middle[at]:.1f}" if middle[at] < SCALE else f"over {SCALE}"
     table.add(what, f"{best[at]:.1f} ns ({half})")
     note(f"{what}: {best[at] / best[words, 'store']:.1f} times the plain stores, {rounds} rounds")
+    beside = words, f"ordered_{name}"
+    if name in ("read", "publish") and counted.get(beside, 0) >= FEW:
+        table.add(f"{what}: over C++ of the same steps and order", f"{best[at] / best[beside]:.2f} times")
 table.show()
 PY

@@ -1,9 +1,9 @@
 #!/usr/bin/env bash
-# What the edits, conversions and rows of client_state cost: bench/client.sh [RUNS]. In a temporary folder it proves and builds a program
-# that calls each of them in 1,000 rounds of 10,000 calls, and runs it RUNS times (three where not given). State, timelines and times are
-# others at each call. They lie within 2^39 microseconds or microbeats of 0 (six days), and the quantum is a bar of 1 to 8 beats. The
-# results are folded into a number that is the same in each run. A figure is the least that a round took in all runs, less a loop that
-# only makes and folds the numbers given.
+# What the edits, conversions, clicks and rows of client_state cost: bench/client.sh [RUNS]. In a temporary folder it proves and builds a
+# program that calls each of them in 1,000 rounds of 10,000 calls, and runs it RUNS times (three where not given). State, timelines and
+# times are others at each call. They lie within 2^39 microseconds or microbeats of 0 (six days), and the quantum is a bar of 1 to 8 beats.
+# Every second state is playing. The results are folded into a number that is the same in each run. A figure is the least that a round took
+# in all runs, less a loop that only makes and folds the numbers given.
 # shellcheck source=bench/shared.sh
 . "$(dirname "${BASH_SOURCE[0]}")/shared.sh"
 prepare bench_client client_state ghost_xform timeline_math lk_base
@@ -18,7 +18,7 @@ ghost use Rattle.lk_base.specs.Timeline.{IsTidy};
 
 use client_state::{Commit, State, client_from_session, session_from_client};
 use ghost_xform::XForm;
-use lk_base::{ClientStart, Timeline};
+use lk_base::{Block, ClientStart, NodeId, Timeline};
 use std::io;
 use std::time::Instant;
 
@@ -37,6 +37,8 @@ enum Work {
     SetTempo,
     ForceBeat,
     RequestBeat,
+    SetQuantum,
+    Clicks,
     ThreeStates,
     Between,
     Row,
@@ -80,7 +82,8 @@ fn bar(k: u64) -> i64
 
 #[inline(never)]
 fn state(k: u64) -> State
-    ensures { IsTidy result.timeline }
+    ensures timeline { IsTidy result.timeline }
+    ensures quantum { IsQuantum result.quantum }
 {
     State {
         timeline: timeline(k, 1),
@@ -94,6 +97,8 @@ fn state(k: u64) -> State
         moment: place(k, 4),
         app: k,
         audio: k,
+        session: NodeId(bits(k, 12).to_be_bytes()),
+        quantum: bar(k),
     }
 }
 
@@ -103,13 +108,20 @@ fn folded(tl: &Timeline) -> i64 {
 }
 
 #[inline(always)]
-fn folded_state(state: &State) -> i64 {
-    folded(&state.timeline) ^ state.start.time ^ state.start.stamp ^ state.moment
+fn folded_id(id: NodeId) -> i64 {
+    u64::from_be_bytes(id.0).cast_signed()
 }
 
 #[inline(always)]
-fn folded_row(row: &[u64; 9]) -> i64 {
-    let word = row[0] ^ row[1] ^ row[2] ^ row[3] ^ row[4] ^ row[5] ^ row[6] ^ row[7] ^ row[8];
+fn folded_state(state: &State) -> i64 {
+    let start = state.start.time ^ state.start.stamp;
+    folded(&state.timeline) ^ start ^ state.moment ^ folded_id(state.session) ^ state.quantum
+}
+
+#[inline(always)]
+fn folded_row(row: &[u64; 11]) -> i64 {
+    let first = row[0] ^ row[1] ^ row[2] ^ row[3] ^ row[4] ^ row[5];
+    let word = first ^ row[6] ^ row[7] ^ row[8] ^ row[9] ^ row[10];
     word.cast_signed()
 }
 
@@ -123,12 +135,12 @@ fn folded_commit(commit: &Commit) -> i64 {
         Some(start) => start.time ^ start.stamp,
         None => 2,
     };
-    timeline ^ start ^ commit.at
+    timeline ^ start ^ commit.quantum.unwrap_or(4) ^ commit.at
 }
 
-// A row of words that are read as numbers within 2^60, most of them in range.
+// A row of words that are read as numbers within 2^60 and a quantum of at most 2^40, most of them in range.
 #[inline(always)]
-fn row(k: u64) -> [u64; 9] {
+fn row(k: u64) -> [u64; 11] {
     let word = bits(k, 5);
     [
         60_060 + word / (1 << 43),
@@ -140,6 +152,8 @@ fn row(k: u64) -> [u64; 9] {
         word / 256,
         k,
         k,
+        word,
+        word / (1 << 26),
     ]
 }
 
@@ -200,6 +214,28 @@ fn requested(k: u64) -> i64 {
     folded_state(&state)
 }
 
+#[inline(always)]
+fn quantum_set(k: u64) -> i64 {
+    let mut state = state(k);
+    state.set_quantum(place(k, 11));
+    folded_state(&state)
+}
+
+// The clicks of a block of 20 milliseconds.
+#[inline(always)]
+fn clicked(k: u64) -> i64 {
+    let block = Block {
+        start: place(k, 10),
+        length: 20_000,
+    };
+    let found = state(k).clicks(block);
+    let mut sum: i64 = 0;
+    for click in found.iter() {
+        sum = sum.wrapping_add(click.at);
+    }
+    sum
+}
+
 // The `k`-th call.
 #[inline(always)]
 fn result_of(work: Work, k: u64) -> i64 {
@@ -214,6 +250,8 @@ fn result_of(work: Work, k: u64) -> i64 {
         Work::SetTempo => tempo_set(k),
         Work::ForceBeat => forced(k),
         Work::RequestBeat => requested(k),
+        Work::SetQuantum => quantum_set(k),
+        Work::Clicks => clicked(k),
         Work::ThreeStates => compared(k, false),
         Work::Between => compared(k, true),
         Work::Row => folded_row(&state(k).row()),
@@ -258,6 +296,8 @@ fn main(rt: HostRuntime) -> io::Result<()> {
     tell(&rt, "set_tempo", Work::SetTempo)?;
     tell(&rt, "force_beat", Work::ForceBeat)?;
     tell(&rt, "request_beat", Work::RequestBeat)?;
+    tell(&rt, "set_quantum", Work::SetQuantum)?;
+    tell(&rt, "clicks", Work::Clicks)?;
     tell(&rt, "three_states", Work::ThreeStates)?;
     tell(&rt, "between", Work::Between)?;
     tell(&rt, "row", Work::Row)?;
@@ -272,18 +312,25 @@ from figures import Table, add_call, timed
 
 table = Table()
 told = timed(sys.argv[1], int(sys.argv[2]), 1000)
-ROWS = [  # the call, the loop without it, and the aim in nanoseconds
+ROWS = [  # the call, the loop without it, and the aim in nanoseconds, if there is one
     ("client_from_session", "two_timelines", 38),
     ("session_from_client", "two_timelines", 38),
     ("set_tempo", "one_state", 26),
     ("force_beat", "one_state", 80),
     ("request_beat", "one_state", 150),
+    ("set_quantum", "one_state", None),
+    ("clicks", "one_state", None),
     ("between", "three_states", 15),
     ("row", "one_state", 10),
     ("from_row", "one_row", 10),
 ]
-SHOWN = {"between": "Commit::between", "row": "State::row", "from_row": "State::from_row"}
+SHOWN = {
+    "clicks": "`State::clicks` of 20,000 microseconds, every second state playing",
+    "between": "`Commit::between`",
+    "row": "`State::row`",
+    "from_row": "`State::from_row`",
+}
 for name, base, aim in ROWS:
-    add_call(table, f"`{SHOWN.get(name, name)}`", told[name], told[base], aim)
+    add_call(table, SHOWN.get(name, f"`{name}`"), told[name], told[base], aim)
 table.show()
 PY

@@ -1,6 +1,6 @@
 #!/usr/bin/env bash
 # What the calls of a link cost, and its memory: bench/hub.sh [RUNS]. In a temporary folder it proves and builds a program that opens a link
-# over each of the two cells, `Triple<9>` and `SeqState`, and takes 300 rounds of 250 calls of each measure, all in one thread; and runs it
+# over each of the two cells, `Triple<11>` and `SeqState`, and takes 300 rounds of 250 calls of each measure, all in one thread; and runs it
 # RUNS times (three where not given). A figure is the least that a round took in all runs.
 # The moment of each turn is a microsecond after the last. It is given nothing; a tick, with nothing due; an alive of a known peer, which
 # tells nothing new and is answered by a response (less a loop that only makes the datagram); nothing, where the queue has an application's
@@ -190,13 +190,14 @@ fn edit(time: u32) -> Commit
     Commit {
         timeline: None,
         start: Some(start),
+        quantum: None,
         at: i64::from(time),
     }
 }
 
 // What is captured is written out whole.
 #[inline(never)]
-fn capture<C: StateCell<9>, N: LinkName, R: Wait>(
+fn capture<C: StateCell<11>, N: LinkName, R: Wait>(
     rt: &R,
     alloc: Global,
     way: &C::Way,
@@ -207,7 +208,7 @@ fn capture<C: StateCell<9>, N: LinkName, R: Wait>(
 }
 
 #[inline(never)]
-fn capture_audio<C: StateCell<9>, N: LinkName>(
+fn capture_audio<C: StateCell<11>, N: LinkName>(
     way: &C::Way,
     link: &Link<C, N>,
     pass: &mut AudioPass<C, N>,
@@ -218,7 +219,7 @@ fn capture_audio<C: StateCell<9>, N: LinkName>(
 /// A link whose node has one gate, with all that its threads have of it; the moment of the last turn, the time of the last commit and
 /// what was counted.
 #[derive(Drop)]
-struct Bench<C: StateCell<9>, N: LinkName> {
+struct Bench<C: StateCell<11>, N: LinkName> {
     link: Link<C, N>,
     hub: Hub<C, N>,
     audio: AudioPass<C, N>,
@@ -231,7 +232,7 @@ struct Bench<C: StateCell<9>, N: LinkName> {
     ghost gate: { length hub.config.gates ≡ 1 },
 }
 
-impl<C: StateCell<9>, N: LinkName> Bench<C, N> {
+impl<C: StateCell<11>, N: LinkName> Bench<C, N> {
     ghost use Rattle.link_shared.specs.Hub.{IsOnGate};
 
     #[inline(always)]
@@ -492,7 +493,7 @@ impl<C: StateCell<9>, N: LinkName> Bench<C, N> {
     }
 }
 
-fn time_link<C: StateCell<9>, N: LinkName, R: Wait + Clock + Print>(
+fn time_link<C: StateCell<11>, N: LinkName, R: Wait + Clock + Print>(
     rt: &R,
     alloc: Global,
     way: &C::Way,
@@ -524,7 +525,7 @@ fn time_link<C: StateCell<9>, N: LinkName, R: Wait + Clock + Print>(
     bench.tell_all(rt, alloc, way, cell)
 }
 
-fn time_cell<C: StateCell<9>, R: Wait + Clock + Print>(
+fn time_cell<C: StateCell<11>, R: Wait + Clock + Print>(
     rt: &R,
     alloc: Global,
     way: &C::Way,
@@ -538,8 +539,8 @@ fn main(rt: HostRuntime) -> io::Result<()> {
     let event = size_of::<Event>();
     let state = size_of::<State>();
     println!(rt; "sizes bytes 1 0 0 {event} {state}")?;
-    time_cell::<Triple<9>, HostRuntime>(&rt, rt.alloc(), &(), Cell::Triple)?;
-    time_cell::<SeqState<HostRuntime, 9>, HostRuntime>(&rt, rt.alloc(), &rt, Cell::Seq)
+    time_cell::<Triple<11>, HostRuntime>(&rt, rt.alloc(), &(), Cell::Triple)?;
+    time_cell::<SeqState<HostRuntime, 11>, HostRuntime>(&rt, rt.alloc(), &rt, Cell::Seq)
 }
 RT
 mkdir -p "$crate/proofs/time_cell"
@@ -567,7 +568,7 @@ from figures import Table, note, timed
 table = Table()
 program, runs = sys.argv[1], int(sys.argv[2])
 CALLS, ROUNDS = 250, 300
-CELLS = {"triple": "over `Triple<9>`", "seq": "over `SeqState`"}
+CELLS = {"triple": "over `Triple<11>`", "seq": "over `SeqState`"}
 NAMES = "events published sent full made laid folded".split()
 # What is printed, what is taken off, and of each call: events taken, states published, datagrams sent, commits made, captures laid over.
 SHOWN = {

@@ -284,7 +284,7 @@ mkdir -p "$crate/proofs/edited"
 cat >"$crate/proofs/edited/Answers.antt" <<'ANTT'
 use Rattle.std.proofs.Common.{ap, sym, subst, arith}
 use Rattle.std.proofs.lemmas.Int.{ints}
-use Rattle.lk_base.specs.Ranges.{IsWithinLimit}
+use Rattle.lk_base.specs.Ranges.{IsQuantum, IsWithinLimit}
 use Rattle.lk_base.specs.declared.start.ClientStart.{ClientStart}
 use Rattle.client_state.specs.declared.state.State.{State}
 use Rattle.bench_load.proofs.edited.Goals as goal
@@ -292,8 +292,10 @@ use Rattle.bench_load.proofs.edited.Goals as goal
 pub returns : goal.returns
 returns c =
     let start = ap (λ (state : State). state.start) c.set_tempo.ensures.value in
+    let quantum = ap (λ (state : State). state.quantum) c.set_tempo.ensures.value in
     let time = subst (λ (start : ClientStart). IsWithinLimit start.time) (sym start) c.requires.state.start in
-    c.between.ensures.tidy c.set_tempo.ensures.tidy time (omega (arith, ints))
+    let range = subst IsQuantum (sym quantum) c.requires.state.quantum in
+    c.between.ensures.tidy c.set_tempo.ensures.tidy time range (omega (arith, ints))
 ANTT
 standing='Rattle.link_node.specs.Standing.{gates_of, app_of}'
 invariant meet j l 'record { gates : gates_of l.node ≡ 1; app : app_of l.node ≡ app_of l.initial.node }' "$standing"

@@ -119,6 +119,7 @@ fn edit(number: u32, time: u32) -> Commit
             time: at,
             stamp: at,
         }),
+        quantum: None,
         at,
     }
 }

@@ -1,15 +1,16 @@
 #!/usr/bin/env python3
 """Runs two of the built program's `live` beside each other over the loopback interface: checks/live.py PROGRAM.
 
-Each lists the other as a destination; one changes the tempo, and the audio thread of the other starts to play. Looked at are, of each run,
-its status, its clicks, what else it tells on standard error, and what its summary counts; its record, whose head has the group and the
-quantum of the words, and which the program and the plain reading of checks/node.py replay to what the summary tells; and of both, that each
-has an id of its own, drawn from a seed of its own, that what one heard is what the other's replayed record sends, and that they end with
-one tempo, both playing, in the session that both told before one said goodbye.
+Each lists the other as a destination; one changes the tempo and its quantum, and the audio thread of the other starts to play. Looked at
+are, of each run, its status, its clicks, what else it tells on standard error, and what its summary counts; its record, whose head has the
+group and the quantum of the words, and which the program and the plain reading of checks/node.py replay to what the summary tells; and of
+both, that each has an id of its own, drawn from a seed of its own, that what one heard is what the other's replayed record sends, and that
+they end with one tempo, each with its own quantum, both playing, in the session that both told and showed before one said goodbye.
 Then three runs beside each other, two of one group and one of another: the two count each other as peers, and the third counts nobody,
 though all of them hear what the others broadcast.
 Further runs: one finds its gate's port taken, one has a destination that the system refuses, one has no `at` command, one counts its
-accents in four microbeats, and one has a command for a block past its last one.
+accents in four microbeats, one is given another quantum by its audio thread and by its application, which its states show and its accents
+and a forced beat follow, and one has a command for a block past its last one.
 The last line is 'N passed, N failed'.
 """
 import os
@@ -26,13 +27,13 @@ BLOCKS = 250
 END = BLOCKS * BLOCK
 # By then both are in one session: they tell of themselves four times a second, and a measurement is 51 pings.
 TEMPO_AT, PLAY_IN = END // 2, 7 * BLOCKS // 10
-NEW_TEMPO = 400_000
+NEW_TEMPO, NEW_QUANTUM = 400_000, 3_000_000
 # Of three runs, for as many blocks. The third one's group has the two bytes of the others' in another order.
 GROUPS, GROUP_BLOCKS = (258, 258, 513), 200
 TOLD = "jorazhil: "
 ROOM = "room for 262144 events"
 COUNTS = "events states reads captures app audio plays clicks".split()
-STATE = "number mpb beat time playing start stamp sync peers moment app audio".split()
+STATE = "number mpb beat time playing start stamp sync peers moment app audio session quantum".split()
 
 
 class Differs(Exception):
@@ -52,10 +53,10 @@ def want_lines(what, found, wanted):
 
 
 def numbers(line, head, names):
-    """The numbers of a line behind its first words, by name."""
+    """The numbers of a line behind its first words, by name. A session stays in hex."""
     words, front = line.split(" "), head.split(" ")
     want(f"the front of {line!r}, and how many words follow", (words[: len(front)], len(words) - len(front)), (front, len(names)))
-    return dict(zip(names, map(int, words[len(front) :])))
+    return {name: word if name == "session" else int(word) for name, word in zip(names, words[len(front) :])}
 
 
 def script(port, peers, commands):
@@ -103,11 +104,16 @@ class Run:
         found = numbers(self.lines[0], "# live", COUNTS)
         want("the summary", {name: found[name] for name in wanted}, wanted)
 
-    def expect_clicks(self):
-        """The lines on standard error are the clicks that the summary counts, each at a later moment, but for those of the program."""
+    def clicks(self):
+        """The moment of each click that was told, and its kind: all lines on standard error but those of the program."""
         words = [line.split(" ") for line in self.error.splitlines() if not line.startswith(TOLD)]
         want("lines that tell no click", [line for line in words if line[0] != "click" or line[2:] not in (["accent"], ["plain"])], [])
-        moments = [int(line[1]) for line in words]
+        return [(int(moment), kind) for _, moment, kind in words]
+
+    def expect_clicks(self):
+        """The clicks are those that the summary counts, each at a later moment."""
+        words = self.clicks()
+        moments = [moment for moment, _ in words]
         want("the moments of the clicks", moments, sorted(set(moments)))
         self.expect_counts(clicks=len(words))
         if not words:
@@ -161,12 +167,14 @@ class Run:
         return {said[0] for said in words}, {int(said[3]) for said in words if said[0] in ("alive", "response", "bye")}
 
     def session(self):
-        """The session of the last alive that went out before a goodbye was heard."""
+        """The session of the last alive that went out before a goodbye was heard, which the last state before that shows too."""
         heard = self.heard()
         kinds = [words[0] for words in self.spoken([digits for _, digits in heard])]
         until = min((now for (now, _), kind in zip(heard, kinds) if kind == "bye"), default=END * 10)
         told = self.spoken([sent[4] for sent in self.sent if int(sent[1]) < until])
-        return [words[7] for words in told if words[0] == "alive"][-1]
+        session = [words[7] for words in told if words[0] == "alive"][-1]
+        want("the session that is shown", [state["session"] for state in self.states if state["moment"] < until][-1], session)
+        return session
 
 
 def free_ports(count):
@@ -185,7 +193,7 @@ def two_runs(program):
     first, second = free_ports(2)
     last = f"at {END} look"
     runs = [
-        Run(program, first, [second], [f"at {TEMPO_AT} tempo {NEW_TEMPO}", last]),
+        Run(program, first, [second], [f"at {TEMPO_AT} tempo {NEW_TEMPO}", f"at {TEMPO_AT} quantum {NEW_QUANTUM}", last]),
         Run(program, second, [first], [f"block {PLAY_IN} play", last]),
     ]
     for run in runs:
@@ -222,6 +230,7 @@ def both_runs(one, other):
     want("the kinds that nobody heard", {"ping", "pong"} - (kinds[0] | kinds[1]), set())
     states = one.state(), other.state()
     want("the tempos at the end", [state["mpb"] for state in states], [NEW_TEMPO] * 2)
+    want("the quanta at the end", [state["quantum"] for state in states], [NEW_QUANTUM, 4_000_000])
     want("whether they play at the end", [state["playing"] for state in states], [1] * 2)
     want("the session that the second tells last", other.session(), one.session())
 
@@ -321,6 +330,44 @@ def short_quantum(program):
     run.expect_told(setup_told(run.port, "at most 25 blocks of 20 milliseconds (0.5 seconds)", bars))
 
 
+def accents(clicks, line, quantum):
+    """The kinds that clicks have by a timeline and a quantum."""
+    return ["accent" if (node.beat_at(line, moment) - line.beat) % quantum < 1_000_000 else "plain" for moment, _ in clicks]
+
+
+def is_changed_once(clicks, line, quanta):
+    """Whether the kinds of clicks go by the first quantum up to some click, and by the second behind it, with five of each."""
+    kinds = [kind for _, kind in clicks]
+    first, second = (accents(clicks, line, quantum) for quantum in quanta)
+    return any(kinds == first[:count] + second[count:] for count in range(5, len(kinds) - 4))
+
+
+def new_quanta(program):
+    """Another quantum is set by the audio thread in its 15th block, and by the application after a second. The first is in force from the
+    next block on, the second once the audio thread is shown it. The application then forces a beat, which is on the quantum that it set."""
+    at_1 = ["at 0 tempo 60060", "at 20000 play", "block 15 quantum 2000000", "at 1000000 quantum 5000000"]
+    run = short_run(program, [*at_1, "at 2200000 force 1000000"], 100, 3_000_000)
+    run.expect_head()
+    run.expect_counts(reads=100, plays=100, captures=4, app=4, audio=1)
+    run.expect_clicks()
+    run.expect_replayed()
+    run.expect_told(setup_told(run.port, "at most 100 blocks of 20 milliseconds (2 seconds)", "bars of 3 beats"))
+    shown = [state["quantum"] for state in run.states]
+    want("the quanta that are shown", [quantum for k, quantum in enumerate(shown) if shown[:k][-1:] != [quantum]], [3_000_000, 2_000_000, 5_000_000])
+    want("the sessions that are shown", {state["session"] for state in run.states}, {run.id_and_seed()[0].encode().hex()})
+    before = [state for state in run.states if state["app"] == 3][-1]
+    line, clicks = node.Timeline(before["mpb"], before["beat"], before["time"]), run.clicks()
+    early = [click for click in clicks if click[0] < 300_000]
+    want("the clicks up to the 15th block", [kind for _, kind in early], accents(early, line, 3_000_000))
+    late = clicks[len(early) :]
+    want(f"whether {late} go by 2 beats and then by 5", is_changed_once(late, line, (2_000_000, 5_000_000)), True)
+    forced = [words for words in (line.split(" ") for line in run.lines) if words[0] == "app"][-1]
+    want("the parts of the last commit", [word for word in forced if word in "tsq"], ["t"])
+    line = node.Timeline(*map(int, forced[4:7]))
+    off = (node.beat_at(line, int(forced[2])) - line.beat - 1_000_000 + 2_500_000) % 5_000_000 - 2_500_000
+    want(f"whether the forced beat is on the quantum, off which it is by {off}", -17 <= off <= 17, True)
+
+
 def late_block(program):
     """A command for a block past the last one never comes: no audio commit is counted, and nothing told (docs/BESIDE-LINK.md says so)."""
     run = short_run(program, ["at 0 look", "block 600 play"], 10)
@@ -332,7 +379,7 @@ def main(program):
     one, other = two_runs(program)
     three = three_runs(program)
     checks = [
-        ("the run that changes the tempo", each_run, one, 1, 0),
+        ("the run that changes the tempo and its quantum", each_run, one, 2, 0),
         ("the run that starts to play", each_run, other, 0, 1),
         ("the ids of both runs", two_ids, one, other),
         ("both runs", both_runs, one, other),
@@ -341,6 +388,7 @@ def main(program):
         ("a run with a destination that the system refuses", refused, program),
         ("a run without an at command", without_commands, program),
         ("a run with a quantum of four microbeats", short_quantum, program),
+        ("a run that is given other quanta", new_quanta, program),
         ("a run with a block command past its last block", late_block, program),
     ]
     failed = 0

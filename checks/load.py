@@ -78,12 +78,13 @@ SPELLINGS = [
     (["18446744073709551616", "5"], None),
     (["7", "5", "--help"], None),
 ]
-# What was worked out by hand.
+OPENING = "state 0 500000 0 1000000 0 0 0 1 0 1000000 0 0 4c4f41444e4f4445 4000000\n"
+# What was worked out by hand. In each the node is still in its first session, and no quantum but its first is ever set.
 WORKED = {
-    (0, 1): "load 1 1 1\nstate 0 500000 0 1000000 0 0 0 1 0 1000000 0 0\n",
-    (7, 1000): "load 1000 109 806\nstate 108 372100 -21618 296253 0 0 0 1 8 10985784 61 0\n",
-    (2**64 - 1, 5000): "load 5000 553 3992\nstate 552 389900 -6853 -5257281 0 0 0 1 6 51348760 320 0\n",
-    (123456789, 20_000): "load 20000 2245 15864\nstate 2244 397100 -37720 -27662380 0 0 0 1 8 200561943 1271 0\n",
+    (0, 1): "load 1 1 1\n" + OPENING,
+    (7, 1000): "load 1000 109 806\nstate 108 372100 -21618 296253 0 0 0 1 8 10985784 61 0 4c4f41444e4f4445 4000000\n",
+    (2**64 - 1, 5000): "load 5000 553 3992\nstate 552 389900 -6853 -5257281 0 0 0 1 6 51348760 320 0 4c4f41444e4f4445 4000000\n",
+    (123456789, 20_000): "load 20000 2245 15864\nstate 2244 397100 -37720 -27662380 0 0 0 1 8 200561943 1271 0 4c4f41444e4f4445 4000000\n",
 }
 
 
@@ -123,7 +124,7 @@ class Load:
             return "bye", ("rx", self.now, 0, endpoint, node.write_bye(0, sender))
         state = self.node.published
         new = edited(state, 300_000 + 100 * (c % 1000), self.now)
-        return "commit", ("app_commit", self.now, self.now, new if new != state.timeline else None, None)
+        return "commit", ("app_commit", self.now, self.now, new if new != state.timeline else None, None, None)
 
     def step(self):
         kind, event = self.event()
@@ -133,12 +134,12 @@ class Load:
         if state:
             self.states += 1
             # A state has its own moment, which is that of the event that published it.
-            self.shown = node.state_line(self.states - 1, self.node, state)
+            self.shown = node.state_line(2, self.states - 1, self.node, state)
 
     def text(self):
         return f"load {self.count} {self.states} {self.sends}\n" + self.shown
 
-    shown = "state 0 500000 0 1000000 0 0 0 1 0 1000000 0 0\n"
+    shown = OPENING
 
 
 def texts(seed, counts, kinds):

@@ -15,7 +15,7 @@ Start = namedtuple("Start", "playing at stamp")
 Config = namedtuple("Config", "id seed mpb sync now group quantum gates")
 Gate = namedtuple("Gate", "local peers")
 Row = namedtuple("Row", "session endpoint limit")
-State = namedtuple("State", "timeline start sync peers app audio")
+State = namedtuple("State", "timeline start sync peers app audio session quantum")
 STOPPED = Start(0, 0, 0)
 
 
@@ -170,11 +170,11 @@ class Node:
         self.timeline, self.start = Timeline(config.mpb, 0, 0), STOPPED
         self.client, self.client_start = Timeline(config.mpb, 0, config.now), STOPPED
         self.rows, self.others, self.waiting, self.measurement, self.remeasuring = {}, {}, [], None, None
-        self.broadcast, self.changed, self.peers, self.app, self.audio = None, False, 0, 0, 0
+        self.broadcast, self.changed, self.peers, self.app, self.audio, self.quantum = None, False, 0, 0, 0, config.quantum
         self.sends, self.published = [], self.state()
 
     def state(self):
-        return State(self.client, self.client_start, self.config.sync, self.peers, self.app, self.audio)
+        return State(self.client, self.client_start, self.config.sync, self.peers, self.app, self.audio, self.session, self.quantum)
 
     def to_ghost(self, host):
         return clip(host + self.offset)
@@ -193,6 +193,8 @@ class Node:
         state = self.state()
         if state == self.published:
             return self.sends, None
+        if state._replace(session=self.published.session) == self.published:
+            self.reached["another session alone shown"] += 1
         self.published = state
         return self.sends, state
 
@@ -327,29 +329,35 @@ class Node:
             del self.others[session]
             self.reached["other one not measured"] += 1
 
-    def commit(self, at, timeline, start):
+    def commit(self, at, timeline, start, quantum):
         if timeline is not None:
             session = session_from_client(self.timeline, timeline, at, self.offset)
             if session is None:
                 self.reached["origin spent"] += 1
+                self.reached["quantum lost to a spent origin"] += quantum is not None
                 return
             self.reached["timeline kept" if session == self.timeline else "timeline committed"] += 1
             self.client, self.timeline = timeline, session
             self.renew()
-        if start is not None and start.stamp > self.client_start.stamp:
+        if start is not None and start.stamp <= self.client_start.stamp:
+            self.reached["quantum beside a start that is too old"] += quantum is not None
+        elif start is not None:
             self.client_start = start
             stamp = self.to_ghost(start.stamp)
             if self.config.sync and stamp > self.start.stamp:
                 self.start = Start(start.playing, beat_at(self.timeline, self.to_ghost(start.at)), stamp)
                 self.reached["start committed"] += 1
+        if quantum is not None:
+            self.reached["quantum kept" if quantum == self.quantum else "quantum committed"] += 1
+            self.quantum = quantum
 
-    def app_commit(self, at, timeline, start):
+    def app_commit(self, *commit):
         self.app += 1
-        self.commit(at, timeline, start)
+        self.commit(*commit)
 
-    def audio_commit(self, number, at, timeline, start):
+    def audio_commit(self, number, *commit):
         self.audio = number
-        self.commit(at, timeline, start)
+        self.commit(*commit)
 
     def tick(self):
         self.rows = {key: row for key, row in self.rows.items() if row.limit > self.moment}
@@ -455,17 +463,20 @@ def endpoint_text(endpoint):
     return ".".join(map(str, endpoint[:4])) + f":{int.from_bytes(endpoint[4:], 'big')}"
 
 
-def commit_of(words):
-    at, rest, timeline, start = limited(words[0]), list(words[1:]), None, None
+def commit_of(version, words):
+    """Version 1 has no quantum in a commit."""
+    at, rest, timeline, start, quantum = limited(words[0]), list(words[1:]), None, None, None
     if rest[:1] == ["t"]:
         mpb, beat, time = rest[1:4]
         timeline, rest = Timeline(number(mpb, 60_060, 3_000_000), limited(beat), limited(time)), rest[4:]
     if rest[:1] == ["s"]:
         playing, time, stamp = rest[1:4]
         start, rest = Start(number(playing, 0, 1), limited(time), limited(stamp)), rest[4:]
+    if rest and version == 2:
+        quantum, rest = number_behind("q", rest, 2**40), []
     if rest:
         raise ValueError
-    return at, timeline, start
+    return at, timeline, start, quantum
 
 
 def hex_of(word):
@@ -526,15 +537,15 @@ class Script:
             now, gate, endpoint, datagram = words
             return "rx", moment(now), number(gate, 0, len(self.gates) - 1), endpoint_of(endpoint), hex_of(datagram)
         if word == "app" and len(words) > 1:
-            return "app_commit", moment(words[0]), *commit_of(words[1:])
+            return "app_commit", moment(words[0]), *commit_of(self.version, words[1:])
         if word == "audio" and len(words) > 2:
             now, self.number = moment(words[0]), number(words[1], self.number + 1, LIMIT - 1)
-            return "audio_commit", now, self.number, *commit_of(words[2:])
+            return "audio_commit", now, self.number, *commit_of(self.version, words[2:])
         raise ValueError
 
 
 def read_script(text):
-    """The config and the events of a text of bytes. A Fault has the first line at fault."""
+    """The version, the config and the events of a text of bytes. A Fault has the first line at fault."""
     lines = text.split(b"\n")
     if lines[-1] == b"":
         lines.pop()
@@ -547,26 +558,28 @@ def read_script(text):
                 raise Fault(k) from None
     if not script.gates:
         raise Fault(len(lines) + 1)
-    return script.config(), script.events
+    return script.version, script.config(), script.events
 
 
-def state_line(count, node, state):
-    start = state.start
-    words = (*state.timeline, *start, state.sync, state.peers, node.moment, state.app, state.audio)
+def state_line(version, count, node, state):
+    """Version 1 has neither the session nor the quantum."""
+    words = [*state.timeline, *state.start, state.sync, state.peers, node.moment, state.app, state.audio]
+    if version == 2:
+        words += [state.session.hex(), state.quantum]
     return f"state {count} " + " ".join(map(str, words)) + "\n"
 
 
-def output_of(config, events, reached):
+def output_of(version, config, events, reached):
     """What `replay` writes; what was reached is counted."""
     node = Node(config)
-    lines, states, sends = [state_line(0, node, node.published)], 1, 0
+    lines, states, sends = [state_line(version, 0, node, node.published)], 1, 0
     for event in events:
         sent, state = node.step(*event)
         for gate, endpoint, datagram in sent:
             lines.append(f"tx {event[1]} {gate} {endpoint_text(endpoint)} {datagram.hex()}\n")
         sends += len(sent)
         if state:
-            lines.append(state_line(states, node, state))
+            lines.append(state_line(version, states, node, state))
             states += 1
     reached.update(node.reached)
     return "".join(lines) + f"done {len(events)} {states} {sends}\n"

@@ -3,12 +3,13 @@
 
 The scripts are of both versions and drawn from the seed (1 where not given). Long and short stories of a node, in most of them of another
 group than 0: what comes next is drawn with the plain reading beside it, so that moments fall on limits and deadlines, pongs fit the
-measurement that runs and commits the timeline that counts; some messages are of other groups. Stories in which measurements end at an exact
-lead, tables are full, and an origin is spent. Scripts with one change: each word of every kind of line at the ends of its range, past them,
-misspelled, lost and doubled, and lines lost, doubled and exchanged. And stories with a changed word, line or byte. Exit status, standard
-output and, under status 8, the line that standard error names first are compared. The first script that differs is shortened and printed. A
-rule that no story reaches is a failure. Beside them stand the scripts that checks/worked.py has for `replay`, whose answers were worked out
-by hand; the plain reading has to give them too. The last line is 'N passed, N failed'.
+measurement that runs and commits the timeline that counts; some messages are of other groups, and in version 2 some commits have a quantum.
+Stories in which measurements end at an exact lead, a session is joined and nothing else changes, tables are full, and an origin is spent.
+Scripts with one change: each word of every kind of line at the ends of its range, past them, misspelled, lost and doubled, and lines lost,
+doubled and exchanged. Stories with a changed word, line or byte, and those of version 1 in which a commit has a quantum. Exit status,
+standard output and, under status 8, the line that standard error names first are compared. The first script that differs is shortened and
+printed. A rule that no story reaches is a failure. Beside them stand the scripts that checks/worked.py has for `replay`, whose answers were
+worked out by hand; the plain reading has to give them too. The last line is 'N passed, N failed'.
 """
 import random
 import re
@@ -25,7 +26,9 @@ HOUR = 3_600_000_000
 REACHED = (
     "ping answered, row ended by a bye, gate full, sessions full, timeline taken, start taken, pong passed over, failed by another session, failed by silence, "
     "measured anew, joined, stayed, current one not measured, other one not measured, other one forgotten, origin spent, timeline kept, timeline committed, "
-    "start committed, founded, told, told early, state of another group passed over, bye of another group passed over, group 0 passed over, "
+    "start committed, quantum committed, quantum kept, quantum beside a start that is too old, quantum lost to a spent origin, "
+    "another session alone shown, founded, told, told early, "
+    "state of another group passed over, bye of another group passed over, group 0 passed over, "
     "response in another group than 0, alive in another group than 0, bye in another group than 0"
 ).split(", ")
 
@@ -33,17 +36,17 @@ REACHED = (
 class Story:
     """A script in the making, and beside it the node that takes each of its events."""
 
-    def __init__(self, draw, gates=None, peers=None, now=None):
+    def __init__(self, draw, gates=None, peers=None, now=None, version=None):
         self.draw, self.script, self.lines = draw, node.Script(), []
         self.name = "".join(chr(draw.randrange(33, 127)) for _ in range(8))
         self.now = self.one(0, 1, 1_000_000, draw.randrange(10**12), LAST - draw.randrange(100 * 10**6)) if now is None else now
         seed = self.one(0, 1, 2**64 - 1, draw.randrange(2**64))
-        version = self.one(1, 2, 2, 2)
+        version = self.one(1, 2, 2, 2) if version is None else version
         self.put(f"replay {version}")
         self.put(f"node {self.name} {seed} {self.mpb()} {draw.randrange(2)} {self.now}")
         if version == 2:
             self.put(f"group {self.one(0, 1, 256, 258, 65_535, draw.randrange(65_536))}")
-            self.put(f"quantum {self.one(0, 1, 4_000_000, 2**40, draw.randrange(2**40))}")
+            self.put(f"quantum {self.quantum()}")
         for gate in range(self.one(1, 1, 1, 2, 3, 4) if gates is None else gates):
             self.put(f"gate {self.endpoint()}")
             for _ in range(self.one(0, 0, 1, 1, 2, 3, 32 if draw.random() < 0.2 else 1) if peers is None else peers):
@@ -80,6 +83,9 @@ class Story:
 
     def mpb(self):
         return self.one(60_060, 60_061, 500_000, 500_000, 500_001, 2_000_000, 2_999_999, 3_000_000, self.draw.randrange(60_060, 3_000_001))
+
+    def quantum(self):
+        return self.one(0, 1, 4_000_000, 3_000_000, 2**40, self.draw.randrange(2**40))
 
     def time(self, *near):
         held, drawn = self.node, (self.draw.randrange(-(2**44), 2**44), self.draw.randrange(-LIMIT, LIMIT))
@@ -219,6 +225,8 @@ class Story:
         if self.draw.random() < 0.5:
             stamp = self.time(held.client_start.stamp, held.client_start.stamp + 1, node.clip(held.start.stamp - held.offset))
             words += f" s {self.draw.randrange(2)} {self.time()} {stamp}"
+        if self.script.version == 2 and self.draw.random() < 0.5:
+            words += f" q {self.one(held.quantum, self.quantum(), self.quantum(), self.quantum())}"
         at = self.time(held.moment)
         if self.draw.random() < 0.6 or self.number == LIMIT - 1:
             self.event(f"app {self.later()} {at}{words}")
@@ -292,6 +300,26 @@ def answered(story):
         story.draw.choice(steps)(story)
         story.now = min(story.now, story.node.moment + 60_000)
     story.go(story.draw.randrange(3), (Story.pong, Story.tick, Story.commit))
+
+
+def moved(draw):
+    """A session of the same timeline and clock, and of as many peers, is joined."""
+    story = Story(draw, now=1_000_000 + draw.randrange(10**9))
+    story.noise, story.jitter, story.still = 0.02, 0, True
+    story.go(draw.randrange(3), (Story.tick, Story.ping))
+    line, count = story.node.timeline, draw.randrange(1, 4)
+    # Of the second session no id is less.
+    for session, senders in ((story.node.session, story.ids[:count]), (bytes(8), story.ids[4 : 4 + count])):
+        for sender in senders:
+            peer_of(story, session, sender, draw.randrange(len(story.script.gates)), line, start=None)
+    story.event(f"tick {story.now}")
+    for _ in range(120):
+        if story.node.measurement is None:
+            break
+        story.pong()
+    story.still = False
+    story.go(draw.randrange(6), ALL)
+    return story
 
 
 def silent(draw):
@@ -406,6 +434,41 @@ audio NOW 5 LIMITED
 audio NOW NUMBER LIMITED t MPB LIMITED LIMITED s BIT LIMITED LIMITED
 end NOW
 """
+# Commits of version 2 alone.
+WITH_QUANTUM = """\
+app NOW LIMITED t MPB LIMITED LIMITED s BIT LIMITED LIMITED q QUANTUM
+app NOW LIMITED t MPB LIMITED LIMITED q QUANTUM
+app NOW LIMITED s BIT LIMITED LIMITED q QUANTUM
+app NOW LIMITED q QUANTUM
+audio NOW 3 LIMITED s BIT LIMITED LIMITED q QUANTUM
+audio NOW 4 LIMITED t MPB LIMITED LIMITED s BIT LIMITED LIMITED q QUANTUM
+"""
+NUMBER_5 = "audio NOW 5 LIMITED\n"
+# Behind each head: in version 2 the commits with a quantum too.
+BODIES = [BEHIND, BEHIND.replace(NUMBER_5, WITH_QUANTUM + NUMBER_5)]
+# Commits of no version: parts in another order, twice, without their word, or with too few or too many.
+NO_COMMITS = """\
+app 5 5 q 5 s 1 0 0
+app 5 5 q 5 t 500000 0 0
+app 5 5 q 5 t 500000 0 0 s 1 0 0
+app 5 5 s 1 0 0 t 500000 0 0
+app 5 5 s 1 0 0 t 500000 0 0 q 5
+app 5 5 t 500000 0 0 q 5 s 1 0 0
+app 5 5 t 500000 0 0 t 500000 0 0 q 5
+app 5 5 s 1 0 0 s 1 0 0 q 5
+app 5 5 q 5 q 5
+app 5 5 q
+app 5 5 s 1 0 0 q
+app 5 5 q 5 5
+app 5 5 5
+app 5 q 5
+app q 5
+audio 5 9 5 q 5 s 1 0 0
+audio 5 9 5 t 500000 0 0 s 1 0 0 q 5 5
+audio 5 9 5 q
+audio 5 9 q 5
+audio 5 q 5
+"""
 
 
 def spelled(words):
@@ -416,16 +479,16 @@ def text_of(lines):
     return ("\n".join(lines) + "\n").encode()
 
 
-def edges(head):
+def edges(head, body):
     """A script of this head that has lines of all kinds, with one change; and what may stand at its ends, and how often."""
-    whole = [line.split(" ") for line in (head + BEHIND).splitlines()]
+    whole = [line.split(" ") for line in (head + body).splitlines()]
     lines, first = [" ".join(spelled(words)) for words in whole], len(head.splitlines())
     for at, words in enumerate(whole):
         yield from lines_changed(lines, at)
         for line in words_changed(words):
             yield text_of(lines[:at] + [line] + lines[at + 1 :])
     gates = ["gate 1.2.3.4:5", "to 1.2.3.4:5"]
-    others = ["replay 1", "replay 2", "group 1", "quantum 5", "app 5 t 500000 0 0 s 1 0 0", *gates]
+    others = ["replay 1", "replay 2", "group 1", "quantum 5", "app 5 t 500000 0 0 s 1 0 0", "app 5 5 q 5", "q 5", *gates]
     for more in ("", " ", "\r", "#", " #", "#\r", "end 5", "end 5 ", " end 5", *others):
         yield text_of(lines + [more])
         yield text_of([more] + lines)
@@ -433,6 +496,9 @@ def edges(head):
         yield text_of(lines[:first] + lines[first : first + 1] * count + lines[first + 3 :])
     for count in (31, 32, 33):
         yield text_of(lines[: first + 2] + lines[first + 2 : first + 3] * count + lines[first : first + 1])
+    for more in (*NO_COMMITS.splitlines(), *(" ".join(spelled(line.split(" "))) for line in WITH_QUANTUM.splitlines())):
+        yield text_of(lines + [more])
+        yield text_of(lines[:-2] + [more] + lines[-2:])
     yield text_of(lines)[:-1]
     yield text_of(lines) + b"\0"
 
@@ -454,6 +520,17 @@ def words_changed(words):
         wrong = ENDS[word] + MISSPELLED if word in ENDS else [word + "s", word[:-1], word.upper(), word + "\r"]
         for other in (*([one] for one in wrong), [], ["", *spelled([word])]):
             yield " ".join(spelled(words[:place]) + other + spelled(words[place + 1 :]))
+
+
+def plain(draw):
+    """Of version 1, with a quantum behind one of its commits, and with nothing else at fault."""
+    story = Story(draw, version=1)
+    story.go(draw.choice([0, 1, 5, 20]), ALL + [Story.commit] * 20)
+    story.commit()
+    lines = story.lines
+    at = draw.choice([k for k, line in enumerate(lines) if line.startswith(("app ", "audio "))])
+    lines[at] += f" q {story.quantum()}"
+    return story
 
 
 def broken(draw):
@@ -490,11 +567,11 @@ def scripts(draw):
             yield walk(draw, count).text()
     for _ in range(8):
         yield walk(draw, 1000).text()
-    for kind, count in ((measured, 150), (silent, 80), (crowded, 30), (sessions, 12), (spent, 30)):
+    for kind, count in ((measured, 150), (moved, 20), (silent, 80), (crowded, 30), (sessions, 12), (spent, 40), (plain, 40)):
         for _ in range(count):
             yield kind(draw).text()
-    for head in HEADS:
-        yield from edges(head)
+    for head, body in zip(HEADS, BODIES):
+        yield from edges(head, body)
     for _ in range(300):
         yield broken(draw)
 

@@ -3,8 +3,9 @@
 
 Each examples/NAME.script is told as examples/NAME.told has it, by the program's own run and by stored output; docs/session.svg is the
 picture of three-peers.script. Then scripts made here: events of one moment, a ping that carries a session, ids that aren't text, a record
-with its summary, moments that fall. Of pictures is looked at whether they are XML, and how many steps, marks and bands they have. Input
-that can't be told has to end with status 2 and one sentence on standard error. The last line is 'N passed, N failed'.
+with its summary, moments that fall, a session that is joined where nothing else changes, bars that change. Of pictures is looked at whether
+they are XML, and how many steps, marks and bands they have. Input that can't be told has to end with status 2 and one sentence on standard
+error. The last line is 'N passed, N failed'.
 """
 import os
 import re
@@ -45,6 +46,13 @@ def response(now, sender, session=OWN, line=SLOW, start=node.STOPPED, group=0):
 
 def bye(now, sender, group=0):
     return f"rx {now} 0 127.0.0.1:20808 {node.write_bye(group, sender).hex()}\n"
+
+
+def pong(now, session):
+    """Of a session whose ghost time is that of a node that opens at a second."""
+    times = ((b"__gt", now - 1_000_000), (b"__ht", now), (b"_pgt", now - 1_000_000))
+    parts = b"".join(node.entry(key, node.eight(time)) for key, time in times)
+    return f"rx {now} 0 127.0.0.1:20808 {(b'_link_v' + bytes([1, 2]) + node.entry(b'sess', session) + parts).hex()}\n"
 
 
 def ping(now, payload):
@@ -113,7 +121,53 @@ SCRIPTS = [
         "0:01.000  the node says goodbye to 127.0.0.1:20808\n"
         "0:01.000  the recording ends: 4 events, 3 states shown, 2 datagrams sent\n",
     ),
+    (
+        "a session of the same timeline, clock and number of peers, which is joined",
+        response(1_100_000, b"IJKLMNOP")
+        + response(1_200_000, b"ABCDEFGH", b"ABCDEFGH")
+        + "tick 1300000\n"
+        + pong(1_400_000, b"ABCDEFGH") * 51
+        + "tick 1700000\n",
+        "0:00.100  IJKLMNOP at 127.0.0.1:20808 comes: 1 peer\n"
+        "0:00.400  the session of ABCDEFGH is joined\n"
+        "0:00.700  the recording ends: 55 events, 3 states shown, 53 datagrams sent\n",
+    ),
 ]
+
+# In version 2, where the states tell their session: one that is joined at the moment of a datagram that brought nothing.
+JOINED_TEXT = (
+    head_of(0)
+    + response(1_100_000, b"ABCDEFGH", b"ABCDEFGH", FAST)
+    + "tick 1300000\n"
+    + pong(1_400_000, b"ABCDEFGH") * 50
+    + response(1_400_000, b"IJKLMNOP", b"IJKLMNOP")
+    + pong(1_400_000, b"ABCDEFGH")
+    + "end 1500000\n"
+)
+MEASURED = "(the session of ABCDEFGH was measured)\n"
+JOINED_TOLD = (
+    OPENS + f"0:00.400  1 peer is in the session now {MEASURED}"
+    "0:00.400  the session of ABCDEFGH is joined\n"
+    f"0:00.400  the tempo is now 150.00 beats per minute, 400000 microseconds per beat {MEASURED}"
+    f"0:00.400  the beat moves: beat -0.050000 is now at 0:00.060000, and this moment is beat 0.800, as before {MEASURED}"
+    "0:00.500  the node says goodbye to 127.0.0.1:20808\n"
+    "0:00.500  the recording ends: 55 events, 2 states shown, 53 datagrams sent\n"
+)
+# In version 2, bars that change: with a start, to none and to one beat, and once with nothing else but the count of commits.
+BARS_TEXT = (
+    head_of(0)
+    + "app 1200000 1200000 q 3000000\naudio 1300000 1 1300000 s 1 1300000 1300000 q 0\n"
+    + "app 1400000 1400000 q 1000000\napp 1500000 1500000 q 1000000\naudio 1550000 2 1550000 q 4\nend 1600000\n"
+)
+BARS_TOLD = (
+    OPENS + "0:00.200  the bars change from 4 beats to 3 beats (application)\n"
+    "0:00.300  the bars change from 3 beats to none (audio thread)\n"
+    "0:00.300  starts to play as of 0:00.300 (audio thread)\n"
+    "0:00.400  the bars change from none to 1 beat (application)\n"
+    "0:00.550  the bars change from 1 beat to 0.000004 beats (audio thread)\n"
+    "0:00.600  the node says goodbye to 127.0.0.1:20808\n"
+    "0:00.600  the recording ends: 6 events, 6 states shown, 1 datagram sent\n"
+)
 
 # In the group 258, with messages of other groups at the moments of those that are heard: none of them brought anything.
 GROUP_TEXT = (
@@ -139,13 +193,15 @@ GROUP_TOLD = (
     "0:00.500  the recording ends: 9 events, 4 states shown, 2 datagrams sent\n"
 )
 
-# Of the pictures of examples: tempo steps, peer steps, spans in which it plays, sessions, offsets told, and marks with those of the legend.
+# Of the pictures of examples: tempo steps, peer steps, bar steps, spans in which it plays, sessions, offsets told, and marks with those of
+# the legend.
 PICTURES = {
-    "one-alive": (0, 0, 0, 1, 0, 0),
-    "several-peers": (0, 0, 0, 1, 0, 0),
-    "two-peers": (1, 2, 1, 2, 1, 3 + 2),
-    "three-peers": (4, 6, 2, 3, 3, 4 + 5 + 4 + 4),
-    "two-groups": (0, 2, 0, 2, 1, 0),
+    "one-alive": (0, 0, 0, 0, 1, 0, 0),
+    "several-peers": (0, 0, 0, 0, 1, 0, 0),
+    "two-peers": (1, 2, 0, 1, 2, 1, 3 + 2),
+    "three-peers": (4, 6, 0, 2, 3, 3, 4 + 5 + 4 + 4),
+    "two-groups": (0, 2, 0, 0, 2, 1, 0),
+    "waltz": (1, 2, 3, 1, 2, 0, 6 + 2),
 }
 
 
@@ -182,6 +238,7 @@ def counted(text):
     """How much there is in a picture of a session."""
     by_class = parts_of(text)
     steps = [by_class[name][0].get("d").count("V") for name in ("tempo", "peers")]
+    steps.append(sum(part.get("d").count("V") for part in by_class.get("bars", [])))
     return (*steps, *(len(by_class.get(name, [])) for name in ("playing", "session", "offset", "mark")))
 
 
@@ -210,6 +267,10 @@ def made_here(program, folder):
             yield f"{name}, behind `{head[:8]}`", tell(run, text.encode()), (0, OPENS + lines, "")
             counted(read(folder, "made.svg"))
     yield "messages of other groups", tell(run, GROUP_TEXT.encode()), (0, GROUP_TOLD, "")
+    yield "a session that is joined beside a datagram", tell(run, JOINED_TEXT.encode()), (0, JOINED_TOLD, "")
+    yield "bars that change", tell(run, BARS_TEXT.encode()), (0, BARS_TOLD, "")
+    # Five marks, and two in the legend.
+    yield "their picture", counted(read(folder, "made.svg")), (0, 0, 4, 1, 1, 0, 5 + 2)
     # An id of signs that mean something in XML, a gate without a place, and starts that aren't shared.
     name = "<&\"'>abc"
     text = f"replay 1\nnode {name} 1 2999999 0 7\ngate 127.0.0.1:20809\ntick 8\nend 3600000007\n"
@@ -344,6 +405,18 @@ def refused(program, folder):
         words = [*stored(text), *run, two_peers if events is None else "-"]
         found = tell(words, (HEAD + (events or "")).encode())
         yield f"an output {name}", found, (2, "", f"session: {path}: {sentence}\n")
+    # States of another version, session or quantum than the recording's.
+    first, found = opening[:-1], '"state 0 500000 0 1000000 0 0 0 1 0 10000" and more'
+    for head, more, expected in [
+        (head_of(0), "", "a state with a session and a quantum, as version 2 has it"),
+        (HEAD, " 5152535455565758 4000000", "a state without a session, as version 1 has it"),
+        (head_of(0), " 5152535455565759 4000000", "the opening state of this recording's node"),
+        (head_of(0), " 5152535455565758 4000001", "the opening state of this recording's node"),
+        (head_of(0), " 5152535455565758", "a line that `replay` writes: `state`, `tx` or `done`"),
+        (head_of(0), " 51525354 4000000", "a line that `replay` writes: `state`, `tx` or `done`"),
+    ]:
+        words = [*stored(f"{first}{more}\ndone 0 1 0\n"), *run, "-"]
+        yield f"an opening state with {more!r}", tell(words, head.encode()), (2, "", f"session: {path}: line 1: expected {expected}, found {found}\n")
     decoded = write(folder, "decoded", "bye 4142434445464748 0 0\n")
     sentence = f"session: {decoded}: line 2: expected a line for each of the 12 datagrams of this recording, found 1\n"
     yield "decoded datagrams of something else", tell(["--output", two_output, "--decoded", decoded, two_peers]), (2, "", sentence)

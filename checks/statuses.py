@@ -48,7 +48,7 @@ Usage: jorazhil live [OPTIONS] < SCRIPT
 Options:
       --events <N>   how many events the journal takes, from 1 to 524288 [default: 262144]
       --blocks <N>   how many blocks of 20 milliseconds are played at most, from 0 to 524288 [default: 262144]
-      --quantum <N>  the length in microbeats that accents and phases are counted in, from 0, which is none, \
+      --quantum <N>  the length in microbeats that accents and phases are counted in at first, from 0, which is none, \
 to 1099511627776 [default: 4000000]
       --group <N>    the group of the nodes that hear each other, from 0, which all Link programs are in, to 65535 [default: 0]
       --record       also writes the run's replay script
@@ -77,8 +77,8 @@ TOO_MANY = b"jorazhil: the script has more than 4096 commands; nothing was run o
 TOO_LONG = b"jorazhil: the input is longer than 16777216 bytes; nothing was written\n"
 
 GATE_OR_COMMAND = b"`gate`, `to` or a command: `at` or `block`"
-ACT = b"`tempo`, `force`, `request`, `play`, `stop` or `look`"
-BLOCK_ACT = b"`tempo`, `play` or `stop`"
+ACT = b"`tempo`, `force`, `request`, `quantum`, `play`, `stop` or `look`"
+BLOCK_ACT = b"`tempo`, `quantum`, `play` or `stop`"
 MOMENT = b"a moment from 0 to 36028797018963968 microseconds"
 VERSION = b"`replay 1` or `replay 2`"
 NODE_LINE = b"`node` and a node's id, seed, tempo, sync and opening moment"
@@ -86,6 +86,13 @@ GROUP_LINE = b"`group` and a number from 0 to 65535, which stand before the gate
 GROUP = b"a number from 0 to 65535"
 QUANTUM_LINE = b"`quantum` and a number from 0 to 1099511627776, which stand before the gates in version 2"
 QUANTUM = b"a number from 0 to 1099511627776 microbeats (4000000 is four beats)"
+# What may stand behind a commit's moment, and behind its timeline, in each version.
+PARTS = b"`t` and a timeline, `s` and a start, or the end of the line"
+PARTS_2 = b"`t` and a timeline, `s` and a start, `q` and a quantum, or the end of the line"
+START = b"`s` and a start, or the end of the line"
+START_2 = b"`s` and a start, `q` and a quantum, or the end of the line"
+QUANTUM_PART = b"`q` and a quantum, or the end of the line"
+NO_QUANTUM = b"no quantum: only a script that begins with `replay 2` has one"
 GATE_LINE = b"`gate` and the endpoint of the node's first gate"
 GATE_TO_OR_EVENT = b"`gate`, `to` or an event: `rx`, `tick`, `app`, `audio` or `end`"
 EVENT = b"an event: `rx`, `tick`, `app`, `audio` or `end`"
@@ -203,11 +210,34 @@ TEXTS = [
     (["replay"], HEAD + GATE * 2 + b"rx 0 3 127.0.0.1:1 00\n", 8, at_fault(6, 6, b"the number of a gate from 0 to 2", b'"3"')),
     (["replay"], HEAD + GATE * 3 + b"rx 0 4 127.0.0.1:1 00\n", 8, at_fault(7, 6, b"the number of a gate from 0 to 3", b'"4"')),
     (["replay"], HEAD + b"tick 5\r\n", 8, at_fault(4, 7, MOMENT, b"a carriage return (lines end in line feeds alone)")),
+    # The parts of a commit, of which version 1 has no quantum.
+    (["replay"], HEAD + b"app 0 0 x\n", 8, at_fault(4, 9, PARTS, b'"x"')),
+    (["replay"], HEAD + b"app 0 0 t 500000 0 0 x\n", 8, at_fault(4, 22, START, b'"x"')),
+    (["replay"], HEAD + b"app 0 0 s 1 0 0 x\n", 8, at_fault(4, 17, LINE_END, b'"x"')),
+    (["replay"], HEAD + b"app 0 0 q 3000000\n", 8, at_fault(4, 9, NO_QUANTUM, b'"q"')),
+    (["replay"], HEAD + b"# twice\naudio 0 1 0\naudio 0 2 0 q 5\n", 8, at_fault(6, 13, NO_QUANTUM, b'"q"')),
+    (["replay"], HEAD + b"app 0 0 t 500000 0 0 q 5\n", 8, at_fault(4, 22, NO_QUANTUM, b'"q"')),
+    (["replay"], HEAD + b"app 0 0 s 1 0 0 q 5\n", 8, at_fault(4, 17, NO_QUANTUM, b'"q"')),
+    (["replay"], HEAD_2 + b"app 0 0 x\n", 8, at_fault(6, 9, PARTS_2, b'"x"')),
+    (["replay"], HEAD_2 + b"app 0 0 t 500000 0 0 x\n", 8, at_fault(6, 22, START_2, b'"x"')),
+    (["replay"], HEAD_2 + b"app 0 0 s 1 0 0 x\n", 8, at_fault(6, 17, QUANTUM_PART, b'"x"')),
+    (["replay"], HEAD_2 + b"app 0 0 q\n", 8, at_fault(6, 10, QUANTUM, LINE_END)),
+    (["replay"], HEAD_2 + b"app 0 0 q 5\napp 0 0 q 1099511627777\n", 8, at_fault(7, 11, QUANTUM, b'"1099511627777"')),
+    (["replay"], HEAD_2 + b"audio 0 1 0 q -1\n", 8, at_fault(6, 15, QUANTUM, b'"-1"')),
+    (["replay"], HEAD_2 + b"app 0 0 q 5 5\n", 8, at_fault(6, 13, LINE_END, b'"5"')),
+    (["replay"], HEAD_2 + b"app 0 0 q 5 s 1 0 0\n", 8, at_fault(6, 13, LINE_END, b'"s"')),
+    (["replay"], HEAD_2 + b"app 0 0 q 5\r\n", 8, at_fault(6, 12, QUANTUM, CARRIAGE_RETURN)),
     (["live"], b"", 8, at_fault(1, 1, b"`link 1`", TEXT_END)),
     (["live"], b"replay 1\n", 8, at_fault(1, 1, b"`link 1`", b'"replay"')),
     (["live"], b"link 1\nat x tempo\n", 8, at_fault(2, 1, b"`setup` and a tempo and a sync", b'"at"')),
     (["live"], LINK + b"# a comment\n\nlook\n", 8, at_fault(6, 1, GATE_OR_COMMAND, b'"look"')),
     (["live"], LINK + b"at 0 spring\n", 8, at_fault(4, 6, ACT, b'"spring"')),
+    (["live"], LINK + b"at 0\n", 8, at_fault(4, 5, ACT, LINE_END)),
+    (["live"], LINK + b"at 0 quantum\n", 8, at_fault(4, 13, QUANTUM, LINE_END)),
+    (["live"], LINK + b"at 0 quantum 0\nat 0 quantum 1099511627777\n", 8, at_fault(5, 14, QUANTUM, b'"1099511627777"')),
+    (["live"], LINK + b"at 0 quantum 5 5\n", 8, at_fault(4, 16, LINE_END, b'"5"')),
+    (["live"], LINK + b"block 1 quantum -1\n", 8, at_fault(4, 17, QUANTUM, b'"-1"')),
+    (["live"], LINK + b"block 1 quantum 5\nblock 1 request 5\n", 8, at_fault(5, 9, BLOCK_ACT, b'"request"')),
     (["live"], LINK + LOOK + b"block 1 look\n", 8, at_fault(5, 9, BLOCK_ACT, b'"look"')),
     (["live"], LINK + b"block 0 play\n", 8, at_fault(4, 7, b"the number of a block from 1 to 524288", b'"0"')),
     (["live"], LINK + LOOK * 4097, 10, TOO_MANY),

@@ -18,10 +18,13 @@ EVENTS = {
     "audio": (re.compile(f"audio {NUMBER} {NUMBER} .+"), "`audio`, a moment, a number and a commit"),
     "end": (re.compile(f"end {NUMBER}"), "`end` and a moment"),
 }
-STATE = re.compile("state" + f" {NUMBER}" * 12)
+ID = "[0-9a-f]{16}"
+# In version 2 a state has its session and its quantum too.
+STATE = "state" + f" {NUMBER}" * 12
+STATES = {1: re.compile(STATE), 2: re.compile(f"{STATE} ({ID}) {NUMBER}")}
+STATE_FORMS = {1: "a state without a session, as version 1 has it", 2: "a state with a session and a quantum, as version 2 has it"}
 SENT = re.compile(f"tx {NUMBER} ([0-3]) {ENDPOINT} ([0-9a-f]+)")
 DONE = re.compile("done" + f" {NUMBER}" * 3)
-ID = "[0-9a-f]{16}"
 DECODED = re.compile(
     f"(alive|response) {ID} [0-9]+ [0-9]+( -?[0-9]+){{3}} {ID} [01]( -?[0-9]+){{2}} [0-9.:-]+|bye {ID} [0-9]+ [0-9]+|ping [0-9a-f-]+"
     f"|pong {ID}( -?[0-9]+){{3}}|(other|fault) .+"
@@ -29,8 +32,9 @@ DECODED = re.compile(
 
 # The moment is the node's, the greatest so far. Of commits: how many applications' were taken, and the audio thread's last number.
 Event = namedtuple("Event", "line kind now moment apps audio gate endpoint digits")
-Script = namedtuple("Script", "name opened mpb sync group places events")
-State = namedtuple("State", "line number mpb beat time playing start stamp sync peers moment apps audio")
+Script = namedtuple("Script", "version name opened mpb sync group quantum places events")
+# The session is in hex, or None in version 1.
+State = namedtuple("State", "line number mpb beat time playing start stamp sync peers moment apps audio session quantum")
 Sent = namedtuple("Sent", "line now gate endpoint digits")
 # The lines in their order, each a State or a Sent.
 Output = namedtuple("Output", "states sent lines done")
@@ -45,13 +49,12 @@ def read_script(text):
     node = NODE.fullmatch(second or "")
     if not node:
         raise fault("", number, "`node` and a node's id, seed, tempo, sync and opening moment", quoted(second))
-    group, head = 0, 2
+    group, quantum, head = 0, 4_000_000, 2
     if version == 2:
-        group, head = read_number(*said[2], "group", 65_535), 4
-        read_number(*said[3], "quantum", 2**40)
+        group, quantum, head = read_number(*said[2], "group", 65_535), read_number(*said[3], "quantum", 2**40), 4
     opened, (gates, places) = int(node[5]), read_gates(said[head:])
     events = read_events(said[head + gates + len(places) : -1], opened, gates)
-    return Script(node[1], opened, int(node[3]), int(node[4]), group, places, events)
+    return Script(version, node[1], opened, int(node[3]), int(node[4]), group, quantum, places, events)
 
 
 def read_version(number, first):
@@ -117,8 +120,8 @@ def read_output(text, where, script):
     for number, line in enumerate(all_lines, 1):
         if done:
             raise fault(where, number, "nothing behind the line `done`", quoted(line))
-        if found := STATE.fullmatch(line):
-            states.append(State(number, *map(int, found.groups())))
+        if found := STATES[script.version].fullmatch(line):
+            states.append(read_state(number, found.groups(), script))
             lines.append(states[-1])
             if states[-1].number != len(states) - 1:
                 raise fault(where, number, f"state {len(states) - 1}", f"state {states[-1].number}")
@@ -132,6 +135,8 @@ def read_output(text, where, script):
                 raise fault(where, number, f"the output of this recording, which has {wanted[0]} events", f"that of {counts[0]}")
             if counts != wanted:
                 raise fault(where, number, f"`done {wanted[0]} {wanted[1]} {wanted[2]}` behind these lines", quoted(line))
+        elif STATES[3 - script.version].fullmatch(line):
+            raise fault(where, number, STATE_FORMS[script.version], quoted(line))
         else:
             raise fault(where, number, "a line that `replay` writes: `state`, `tx` or `done`", quoted(line))
         if number == 1:
@@ -141,9 +146,16 @@ def read_output(text, where, script):
     return Output(states, sent, lines, done)
 
 
+def read_state(number, words, script):
+    session, quantum = (words[12], int(words[13])) if script.version == 2 else (None, script.quantum)
+    return State(number, *map(int, words[:12]), session, quantum)
+
+
 def check_opening(where, line, states, script):
-    wanted = (script.mpb, script.sync, script.opened, 0, 0, 0)
-    if not states or (states[0].mpb, states[0].sync, states[0].moment, states[0].peers, states[0].apps, states[0].audio) != wanted:
+    session = script.name.encode().hex() if script.version == 2 else None
+    wanted = (script.mpb, script.sync, script.opened, 0, 0, 0, session, script.quantum)
+    found = [(one.mpb, one.sync, one.moment, one.peers, one.apps, one.audio, one.session, one.quantum) for one in states]
+    if found != [wanted]:
         raise fault(where, 1, "the opening state of this recording's node", quoted(line))
 
 

@@ -1,5 +1,6 @@
 #!/usr/bin/env python3
-"""Tells a recorded session as a person would: who came and went, which session was joined or founded, how tempo, beat and start changed.
+"""Tells a recorded session as a person would: who came and went, which session was joined or founded, and how tempo, beat, bars and start
+changed.
 
 A recording is a replay script (docs/FORMATS.md), by hand or of `jorazhil live --record`. What its node sent and showed isn't worked out
 here: the states and datagrams are those that `jorazhil replay` writes for it, and what a datagram says is what `jorazhil decode` tells,
@@ -9,9 +10,10 @@ those of beats have microseconds. In brackets behind a change stands whose it wa
 
 A line of the output is told of the event that it follows from. Where several events have one moment, the output doesn't always tell which
 of them it was: a state is then told of a datagram rather than of a tick, and of no peer where the datagrams of several could have brought
-it. A peer that is heard no more is told by the number of peers alone. Which session the node is in is told by the datagrams that it sends.
-A new one stands where its output tells when it began: at the pong or the departure behind which a state is shown; and where there is none
-at the datagram that tells it, with the words "by now".
+it. A peer that is heard no more is told by the number of peers alone. Which session the node is in, and how long its bars are, each state
+of a script of version 2 has. One of version 1 has bars of four beats, and the datagrams that the node sends tell its session. A new one
+stands there where the output tells when it began: at the pong or the departure behind which a state is shown; and where there is none at
+the datagram that tells it, with the words "by now".
 """
 import sys
 from collections import deque, namedtuple
@@ -28,8 +30,8 @@ Without the program: `--output` has what `replay` writes for the recording, and 
   session.py --output run.output --decoded run.decoded --svg run.svg run.script
 
 The picture has the tempo and the number of peers as stepped lines, the sessions, when it plays, when the beat moves, a mark for each change
-by whose it was, and, where pongs were sent, the ghost time that they tell, less the time since the opening. Where many things stand at one
-place, one of each kind is drawn.
+by whose it was; where bars change, their length as a stepped line; and, where pongs were sent, the ghost time that they tell, less the time
+since the opening. Where many things stand at one place, one of each kind is drawn.
 
 A program that isn't built yet is proved first, which takes its time; with JORAZHIL_TRY=1 in the environment it is run unproved
 (jorazhil --help).
@@ -61,9 +63,10 @@ def run_decode(program, digits):
 
 # What an event can lead to, in the order in which it would be written. The rule says which states can follow, or that one has to.
 Slot = namedtuple("Slot", "event key rule")
-# What was written: a state, a datagram, or the datagrams that go to all places. The keys are those of the slots that it can stand in.
-Item = namedtuple("Item", "line keys fell text first")
-FELL, FELL_BY_ONE, REQUIRED = "fell", "fell by one", "required"
+# What was written: a state, a datagram, or the datagrams that go to all places. The keys are those of the slots that it can stand in. Of a
+# state: by how much the peers fell, and whether it tells of a session that is joined.
+Item = namedtuple("Item", "line keys fell joins text first")
+FELL, FELL_BY_ONE, MEASURED, REQUIRED = "fell", "fell by one", "measured", "required"
 # Where more slots than these have one moment, nobody looks through them for the sender.
 MANY = 200
 
@@ -96,18 +99,24 @@ def slots_of(script, told):
             elif kind == "ping":
                 slots.append(Slot(index, ("pong", *here), None))
             elif kind == "pong":
-                slots += [Slot(index, ("ping", *here), None), Slot(index, state, None)]
+                slots += [Slot(index, ("ping", *here), None), Slot(index, state, MEASURED)]
     return slots
 
 
+def is_left(before, state):
+    """All others are gone from the session, so the node has founded one."""
+    return before.peers > 0 and state.peers == 0
+
+
 def items_of(script, output, told, where):
-    items, at, peers = [], 1, 0
+    items, at, before = [], 1, output.states[0]
     while at < len(output.lines):
         line = output.lines[at]
         if isinstance(line, State):
             key = ("state", line.moment, line.apps, line.audio)
-            items.append(Item(line.line, (key,), peers - line.peers, f"state {line.number}", line))
-            peers, at = line.peers, at + 1
+            joins = line.session != before.session and not is_left(before, line)
+            items.append(Item(line.line, (key,), before.peers - line.peers, joins, f"state {line.number}", line))
+            before, at = line, at + 1
             continue
         kind = told[said_in(line.digits)][0]
         text = f"tx {line.now} {line.gate} {line.endpoint}"
@@ -116,16 +125,17 @@ def items_of(script, output, told, where):
             found = [(sent.gate, sent.endpoint, sent.now, told[said_in(sent.digits)][0]) for sent in block if isinstance(sent, Sent)]
             if found != [(*place, line.now, kind) for place in script.places]:
                 raise fault(where, line.line, "the datagrams to all destinations of this recording", quoted(text))
-            items.append(Item(line.line, ((kind, line.now),), 0, text, line))
+            items.append(Item(line.line, ((kind, line.now),), 0, False, text, line))
             at += len(block)
         else:
-            items.append(Item(line.line, ((kind, line.now, line.gate, line.endpoint), (kind, line.now)), 0, text, line))
+            items.append(Item(line.line, ((kind, line.now, line.gate, line.endpoint), (kind, line.now)), 0, False, text, line))
             at += 1
     return items
 
 
 def is_place(slot, item):
-    if slot.key not in item.keys:
+    """Only a measurement brings a node into another session."""
+    if slot.key not in item.keys or item.joins and slot.rule != MEASURED:
         return False
     return item.fell > 0 if slot.rule == FELL else item.fell == 1 if slot.rule == FELL_BY_ONE else True
 
@@ -215,6 +225,11 @@ def id_words(digits):
     return signs.decode("ascii") if all(33 <= sign <= 126 for sign in signs) else f"0x{digits}"
 
 
+def bar_words(quantum):
+    """How long a bar is."""
+    return "none" if quantum == 0 else f"{decimals(quantum, 1_000_000)} beat" + ("" if quantum == 1_000_000 else "s")
+
+
 def peers_words(count):
     return "no peer" if count == 0 else f"{count} peer" + ("s" if count > 1 else "")
 
@@ -225,7 +240,7 @@ def peers_words(count):
 APPLICATION, AUDIO, PEER, SESSION = "application", "audio thread", "peer", "measured session"
 LEFT, UNCLEAR = "nobody else is left", "one of several datagrams"
 # What follows from one event is told in this order.
-OPENING, PEERS, JOINING, TEMPO, BEAT, START, ENDING = range(7)
+OPENING, PEERS, JOINING, TEMPO, BEAT, BARS, START, ENDING = range(8)
 
 Fact = namedtuple("Fact", "event order moment text")
 # A change for the picture: when, to what, whose it is, and how it is told.
@@ -241,13 +256,13 @@ class Story:
         self.script, self.told, self.facts = script, told, []
         self.placed = Placed(script, output, told, where)
         self.last = script.events[-1].moment if script.events else script.opened
-        self.tempo, self.peers, self.beats, self.starts, self.offsets = [], [], [], [], []
+        self.tempo, self.peers, self.beats, self.bars, self.starts, self.offsets = [], [], [], [], [], []
         self.states = [output.states[0]]
         self.sessions = [Change(script.opened, script.name, "", f"{script.name} opens in a session of its own")]
-        # The id and the session of the node, as its last datagram told them, and where that stands.
+        # For version 1: the id and the session of the node, as its last datagram told them, and where that stands.
         self.id = self.session = script.name.encode().hex()
         self.since = -1
-        # Which peers are told already, at which event a session was first heard of, and the states that may tell of another session.
+        # Which peers are told already; and for version 1 at which event a session was first heard of, and the states that may tell of one.
         self.heard, self.heard_at, self.shown = set(), {}, deque()
         self.opening(output.states[0])
         self.follow()
@@ -266,6 +281,7 @@ class Story:
         self.tell(-1, OPENING, f"{opens}: {tempo_words(state.mpb)}, {beat}, {self.playing_words(state)}, {shared}")
         self.tempo.append(Change(state.moment, state.mpb, "", ""))
         self.peers.append(Change(state.moment, state.peers, "", ""))
+        self.bars.append(Change(state.moment, state.quantum, "", ""))
 
     def ending(self, output):
         counts = (len(self.script.events), "event"), (len(output.states), "state"), (len(output.sent), "datagram")
@@ -341,7 +357,10 @@ class Story:
             self.tell(event, PEERS, f"{self.peer(event)} is heard, in the session of {id_words(words[7])}")
 
     def locate(self, place, own, session, event):
-        """A datagram tells the node's own id, its session or both. A session is founded of an id that nobody has told before."""
+        """A datagram tells the node's own id, its session or both. A session is founded of an id that nobody has told before. In version 2
+        the states have told it already."""
+        if self.script.version == 2:
+            return
         if own not in (None, self.id) or session not in (None, self.session) and not self.is_heard_of(session, place):
             self.id = self.session = own or session
             self.enter(place, event, self.id, True)
@@ -360,7 +379,7 @@ class Story:
 
     def enter(self, place, event, session, is_founded):
         """The session is another one since the datagram before: a state between them may tell when."""
-        name, now, between = id_words(session), "", self.between(place)
+        now, between = "", self.between(place)
         left, measured = [shown.event for shown in between if shown.left], [shown.event for shown in between if shown.measured == session]
         if is_founded and left:
             event = left[-1]
@@ -368,6 +387,10 @@ class Story:
             event = measured[0]
         else:
             now = " by now"
+        self.begin(event, session, is_founded, now)
+
+    def begin(self, event, session, is_founded, now=""):
+        name = id_words(session)
         text = f"a session of the new id {name} is founded{now}" if is_founded else f"the session of {name} is joined{now}"
         self.sessions.append(Change(self.tell(event, JOINING, text), name, "", text))
 
@@ -376,45 +399,51 @@ class Story:
     def show(self, event, is_sure, state):
         before = self.states[-1]
         self.states.append(state)
-        whose, words = self.whose(event, is_sure, before.peers > 0 and state.peers == 0)
-        self.note(event, is_sure, before, state)
+        left = is_left(before, state)
+        whose, words = self.whose(event, is_sure, left)
+        if self.script.version == 1:
+            self.note(event, is_sure, left)
         if state.peers != before.peers:
             text = self.peers_told(event, is_sure, before.peers, state.peers)
             self.peers.append(Change(self.tell(event, PEERS, text), state.peers, whose, text))
+        if state.session != before.session:
+            self.begin(event, state.session, left)
         if state.mpb != before.mpb:
             text = f"the tempo is now {tempo_words(state.mpb)}{words}"
             self.tempo.append(Change(self.tell(event, TEMPO, text), state.mpb, whose, text))
         if (state.beat, state.time) != (before.beat, before.time):
             text = self.beat_told(before, state) + words
             self.beats.append(Change(self.tell(event, BEAT, text), None, whose, text))
+        if state.quantum != before.quantum:
+            text = f"the bars change from {bar_words(before.quantum)} to {bar_words(state.quantum)}{words}"
+            self.bars.append(Change(self.tell(event, BARS, text), state.quantum, whose, text))
         if (state.playing, state.start) != (before.playing, before.start):
             text = self.start_told(before, state) + words
             self.starts.append(Change(self.tell(event, START, text), state.playing, whose, text))
 
-    def note(self, event, is_sure, before, state):
+    def note(self, event, is_sure, left):
         """What a state can tell of a session that is joined or founded."""
         while self.shown and 2 * self.shown[0].event + 1 <= self.since:
             self.shown.popleft()
         digits = self.script.events[event].digits
         words = self.told[digits] if digits is not None and is_sure else [""]
-        left = before.peers > 0 and state.peers == 0
         measured = words[1] if words[0] == "pong" else None
         if left or measured:
             self.shown.append(Shown(event, left, measured))
 
-    def whose(self, event, is_sure, is_left):
+    def whose(self, event, is_sure, left):
         """Whose the changes of a state are. Who is left by all peers goes on in a session of its own."""
         kind = self.script.events[event].kind
         if kind == "app":
             return APPLICATION, f" ({APPLICATION})"
         if kind == "audio":
             return AUDIO, f" ({AUDIO})"
-        words = self.told[self.script.events[event].digits] if kind == "rx" and is_sure and not is_left else [""]
+        words = self.told[self.script.events[event].digits] if kind == "rx" and is_sure and not left else [""]
         if words[0] in ("alive", "response"):
             return PEER, f" (peer {self.peer(event)})"
         if words[0] == "pong":
             return SESSION, f" (the session of {id_words(words[1])} was measured)"
-        return (LEFT, f" ({LEFT})") if is_left else (UNCLEAR, f" ({UNCLEAR})")
+        return (LEFT, f" ({LEFT})") if left else (UNCLEAR, f" ({UNCLEAR})")
 
     def peers_told(self, event, is_sure, before, peers):
         kind = self.script.events[event].kind
@@ -579,6 +608,16 @@ class Picture(Drawing):
         self.band(top, "beat moves")
         self.marks(self.story.beats, lambda _: top + 11)
 
+    def bars(self, top):
+        changes = self.story.bars
+        least, most = min(change.value for change in changes), max(change.value for change in changes)
+        step = round_step(most - least, 3)
+        lane = Lane(top, 54, least // step * step, -(-most // step) * step)
+        ticks = range(lane.least, lane.most + 1, step)
+        self.axis(lane, "length of a bar, in beats; 0 is none", [(value, decimals(value, 1_000_000)) for value in ticks])
+        self.steps(lane, changes, "bars", "#333")
+        self.marks(changes[1:], lambda change: lane.y(change.value))
+
     def offsets(self, top):
         values = [offset for _, offset in self.story.offsets]
         step = round_step(max(values) - min(values), 3)
@@ -594,7 +633,7 @@ class Picture(Drawing):
 
     def legend(self, y):
         story = self.story
-        used = {change.whose for change in [*story.tempo, *story.beats, *story.starts]} - {""}
+        used = {change.whose for change in [*story.tempo, *story.beats, *story.bars, *story.starts]} - {""}
         x = LEFT_X
         self.label(x, y + 4, "whose a change was:")
         x += 152
@@ -608,15 +647,16 @@ class Picture(Drawing):
 
     def text(self):
         story, title = self.story, f"A session as {self.story.script.name} is shown it, {clock(self.story.last - self.opened)} long"
-        bottom = 446 if story.offsets else 364
+        lanes = [draw for draw, is_drawn in ((self.bars, len(story.bars) > 1), (self.offsets, story.offsets)) if is_drawn]
+        bottom = 364 + 82 * len(lanes)
         self.below(62, bottom, "time since the opening, in minutes and seconds")
         self.tempo(66)
         self.peers(222)
         self.sessions(288)
         self.playing(314)
         self.beats(340)
-        if story.offsets:
-            self.offsets(390)
+        for k, draw in enumerate(lanes):
+            draw(390 + 82 * k)
         self.legend(bottom + 60)
         return self.whole(title, bottom + 80)
 
