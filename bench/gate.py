@@ -229,7 +229,7 @@ def joined(names, sums, slow, old, commit):
         before = before if at and is_same(at, name) else {}
         new, row = sums.get(name, {}), {}
         for kind in KINDS:
-            seconds = [new[kind] / slow] * bool(new.get(kind)) + [before[kind]] * bool(before.get(kind))
+            seconds = [one for one in (new.get(kind, 0.0) / slow, before.get(kind, 0.0)) if one]
             row[kind] = min(seconds) if seconds else None if has_kind(name, kind) else 0.0
         found[name] = row, commit if any(new.values()) else at if before else ""
     return found
