@@ -9,6 +9,7 @@ mod conversions;
 mod filter;
 mod ids;
 mod lines;
+mod midi;
 mod numbers;
 mod offsets;
 mod outside;

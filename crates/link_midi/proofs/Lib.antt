@@ -1,0 +1,7 @@
+pub mod PulseLemmas
+pub mod PulseTimeLemmas
+pub mod EventLemmas
+pub mod CountLemmas
+pub mod ProgressLemmas
+pub mod SendingLemmas
+pub mod PairLemmas

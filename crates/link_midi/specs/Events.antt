@@ -1,0 +1,82 @@
+-- The MIDI events of blocks, microsecond by microsecond. When a start is sent is a rule of this project: at the first sixteenth that the
+-- state wants to run at.
+use Rattle.std.specs.Prelude.{ℕ, zero, suc, ℤ, pos, ◌+ℤ◌, unsigned_abs, int_le, Bool, not, ◌&&◌, ◌||◌, if◌then◌else◌, List, [], ◌∷◌, ◌++◌}
+use Rattle.std.specs.Int.{int_div_euclid, int_rem_euclid}
+use Rattle.std.specs.Ordering.{int_eq}
+use Rattle.lk_base.specs.declared.block.Block.{Block}
+use Rattle.client_state.specs.declared.state.State.{State}
+use Rattle.link_midi.specs.Pulse.{pulse_of, pulses_at}
+use Rattle.link_midi.specs.declared.message.MidiMessage.{MidiMessage}
+use Rattle.link_midi.specs.declared.message.MidiMessage.TheVariants.{Clock, Start, Continue, Stop, Position}
+use Rattle.link_midi.specs.declared.message.MidiEvent.{MidiEvent}
+
+-- the state wants to run: it is playing, and the time is at or after its start
+unfoldable pub wants_at : State → ℤ → Bool
+wants_at state time = state.start.playing && int_le state.start.time time
+
+-- a message at a time
+abbrev pub event : ℤ → MidiMessage → MidiEvent
+event time message = record { at = time; message = message }
+
+-- a sixteenth begins with this pulse
+unfoldable pub is_sixteenth : ℤ → Bool
+is_sixteenth pulse = int_eq (int_rem_euclid pulse (pos 6)) (pos 0)
+
+-- the position of a pulse in sixteenths, which begins again after 16,384 of them
+unfoldable pub position_of : ℤ → ℕ
+position_of pulse = unsigned_abs (int_rem_euclid (int_div_euclid pulse (pos 6)) (pos 16_384))
+
+-- from the first sixteenth it starts, from another it continues there
+unfoldable pub opening_at : ℤ → ℕ → List MidiEvent
+opening_at time zero = event time Start ∷ []
+opening_at time (suc n) = event time (Position (suc n)) ∷ event time Continue ∷ []
+
+-- It runs and the state doesn't want to, so it stops; it doesn't run, the state wants to, and a sixteenth begins there, so it begins.
+abbrev pub stops_at : State → Bool → ℤ → Bool
+stops_at state running time = running && not (wants_at state time)
+
+abbrev pub begins_at : State → Bool → ℤ → Bool
+begins_at state running time =
+    not running && wants_at state time && pulses_at state.timeline time && is_sixteenth (pulse_of state.timeline time)
+
+-- what is sent at a time, where it runs before it or doesn't: a stop, what begins, a clock
+unfoldable pub events_at : State → Bool → ℤ → List MidiEvent
+events_at state running time =
+    (if stops_at state running time then event time Stop ∷ [] else [])
+    ++ (if begins_at state running time then opening_at time (position_of (pulse_of state.timeline time)) else [])
+    ++ (if pulses_at state.timeline time then event time Clock ∷ [] else [])
+
+-- whether it runs after a time
+unfoldable pub running_at : State → Bool → ℤ → Bool
+running_at state running time = (running && wants_at state time) || begins_at state running time
+
+-- the events of the n microseconds from a time on, in order, and whether it runs after them
+unfoldable pub events_from : State → Bool → ℤ → ℕ → List MidiEvent
+events_from state running time zero = []
+events_from state running time (suc n) = events_at state running time ++ events_from state (running_at state running time) (time +ℤ pos 1) n
+
+unfoldable pub running_from : State → Bool → ℤ → ℕ → Bool
+running_from state running time zero = running
+running_from state running time (suc n) = running_from state (running_at state running time) (time +ℤ pos 1) n
+
+-- so many microseconds from a time on
+abbrev pub span : ℤ → ℕ → Block
+span time n = record { start = time; length = pos n }
+
+-- those of a block
+abbrev pub events_of : State → Bool → Block → List MidiEvent
+events_of state running block = events_from state running block.start (unsigned_abs block.length)
+
+abbrev pub running_after : State → Bool → Block → Bool
+running_after state running block = running_from state running block.start (unsigned_abs block.length)
+
+-- a state and the block that is played by it
+pub record Part : Type 0 where
+  pub state : State
+  pub block : Block
+
+-- those of parts, one after another
+unfoldable pub all_events_of : Bool → List Part → List MidiEvent
+all_events_of running [] = []
+all_events_of running (part ∷ parts) =
+    events_of part.state running part.block ++ all_events_of (running_after part.state running part.block) parts
