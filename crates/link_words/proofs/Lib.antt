@@ -1,6 +1,6 @@
 mod CommandLemmas
 mod CommandWordLemmas
-mod LoadWordLemmas
+mod ValueWordLemmas
 mod OptionLemmas
 mod LiveWordLemmas
 pub mod NameLemmas

@@ -14,6 +14,7 @@ word_of name.Decode = codes "decode"
 word_of name.Load = codes "load"
 word_of name.Live = codes "live"
 word_of name.Filter = codes "filter"
+word_of name.Midi = codes "midi"
 
 -- the command of a word, if it is one
 unfoldable pub command_of : List ℕ → Option CommandName
@@ -23,6 +24,7 @@ command_of word =
     else if bytes_eq word (word_of name.Load) then Some name.Load
     else if bytes_eq word (word_of name.Live) then Some name.Live
     else if bytes_eq word (word_of name.Filter) then Some name.Filter
+    else if bytes_eq word (word_of name.Midi) then Some name.Midi
     else None
 
 -- the command that the first of the words names; none where there is no word, or another one

@@ -1,26 +1,22 @@
 -- The words of `load`: those that a simple command of clap takes, which has two values and no flag.
-use Rattle.std.specs.Prelude.{◌≡◌, ◌-◌, ◌^◌, ℕ, true, List, [], Some, map, codes}
+use Rattle.std.specs.Prelude.{◌≡◌, ◌-◌, ◌^◌, ℕ, List, [], map, codes}
 use Rattle.std.specs.String.{string_bytes}
 use Rattle.std.specs.declared.alloc.Global.{Global}
 use Rattle.std.specs.declared.string.String.{String}
-use Rattle.clap.specs.Words.{App, Rule, fault_of, new_rule, with_rule}
-use Rattle.clap.specs.declared.builder.action.ArgAction.TheVariants.{Set}
-use Rattle.clap.specs.declared.builder.value_parser.ValueParser.TheVariants as parser
+use Rattle.clap.specs.Words.{App, fault_of}
+use Rattle.clap.specs.declared.builder.command.Command.{Command}
 use Rattle.link_words.specs.CommandNames.{BeginsBy}
-use Rattle.link_words.specs.CommandWords.{Says, bare_app}
+use Rattle.link_words.specs.CommandWords.{Says}
+use Rattle.link_words.specs.ValueCommand.{IsValuesCommand}
+use Rattle.link_words.specs.ValueWords.{values_app}
 use Rattle.link_words.specs.declared.command_name.CommandName.TheVariants as name
 
--- a value that is needed, a whole number in this range
-abbrev pub number_rule : List ℕ → ℕ → ℕ → Rule
-number_rule id least most = record (new_rule id) { action = Some Set; required = true; parser = Some (parser.Unsigned least most) }
-
 abbrev pub load_app : App
-load_app =
-    with_rule
-    (with_rule
-    (bare_app (codes "load"))
-    (number_rule (codes "SEED") 0 (2 ^ 64 - 1)))
-    (number_rule (codes "COUNT") 1 524_288)
+load_app = values_app (codes "load") (codes "SEED") 0 (2 ^ 64 - 1) (codes "COUNT") 1 524_288
+
+-- the command that reads them
+abbrev pub IsLoadCommand : Command → Type 0
+IsLoadCommand = IsValuesCommand (codes "load") (codes "SEED") 0 (2 ^ 64 - 1) (codes "COUNT") 1 524_288
 
 -- the first of the words is `load`
 abbrev pub BeginsLoad : List (String Global) → Type 0

@@ -16,6 +16,8 @@ pub enum CommandName {
     Live,
     /// `filter`
     Filter,
+    /// `midi`
+    Midi,
 }
 
 impl CommandName {
@@ -29,6 +31,7 @@ impl CommandName {
             CommandName::Load => "load",
             CommandName::Live => "live",
             CommandName::Filter => "filter",
+            CommandName::Midi => "midi",
         }
     }
 }
@@ -46,6 +49,7 @@ pub fn command_named(words: &[String]) -> Option<CommandName>
         "load" => Some(CommandName::Load),
         "live" => Some(CommandName::Live),
         "filter" => Some(CommandName::Filter),
+        "midi" => Some(CommandName::Midi),
         _ => None,
     }
 }

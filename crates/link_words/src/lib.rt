@@ -1,7 +1,7 @@
 //! The words after the program's name: which command the first one names, and what the others say.
 //!
-//! In reading order: `command_line`, `command_name`; `command_words` (what the commands share whose words clap reads), `load_words`,
-//! `live_words`.
+//! In reading order: `command_line`, `command_name`; `command_words` (what the commands share whose words clap reads), `value_words`
+//! (those with two values), `load_words`, `midi_words`, `live_words`.
 #![tactic(auto)]
 
 mod command_line;
@@ -9,9 +9,12 @@ mod command_name;
 mod command_words;
 mod live_words;
 mod load_words;
+mod midi_words;
+mod value_words;
 
 pub use command_line::is_only;
 pub use command_name::{CommandName, command_named};
 pub use command_words::WordsFault;
 pub use live_words::{LiveOptions, live_command, live_matches, live_options};
 pub use load_words::{LoadNumbers, load_command, load_matches, load_numbers};
+pub use midi_words::{MidiNumbers, midi_command, midi_matches, midi_numbers};

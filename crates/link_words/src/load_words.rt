@@ -1,19 +1,17 @@
 //! The words of `load`.
 
-ghost use Rattle.std.specs.Prelude.{◌≡◌, ◌≤◌, ◌-◌, ◌^◌, ℕ, codes, map, IfOk, IsErrOf};
+ghost use Rattle.std.specs.Prelude.{◌≡◌, ◌≤◌, ◌-◌, ◌^◌, codes, map, IfOk, IsErrOf};
 ghost use Rattle.std.specs.String.{string_bytes};
-ghost use Rattle.clap.specs.Words.{FailsBy, HasMatchesOf, fault_of, rule_of};
-ghost use Rattle.clap.specs.declared.builder.value_parser.ValueParser.TheVariants.{Unsigned};
+ghost use Rattle.clap.specs.Words.{FailsBy, HasMatchesOf, fault_of};
 ghost use Rattle.link_words.specs.CommandWords.{HasNumber};
-ghost use Rattle.link_words.specs.LoadCommand.{IsLoadCommand, IsNumberArg};
-ghost use Rattle.link_words.specs.LoadWords.{BeginsLoad, IsLoad, NamesLoad, load_app, number_rule};
+ghost use Rattle.link_words.specs.LoadWords.{BeginsLoad, IsLoad, IsLoadCommand, NamesLoad, load_app};
 
 use crate::command_line::begins_with;
 use crate::command_name::CommandName;
 use crate::command_words::{WordsFault, number_in};
-use clap::builder::ValueParser;
+use crate::value_words::number;
 use clap::error::ErrorKind;
-use clap::{Arg, ArgAction, ArgMatches, Command, Error, value_parser};
+use clap::{ArgMatches, Command, Error, value_parser};
 use std::alloc::{AllocError, Global};
 
 /// Which load words ask for.
@@ -78,16 +76,4 @@ pub fn load_command<'a>(alloc: Global) -> Result<Command<'a>, AllocError>
         .disable_version_flag(true)
         .arg(seed)?
         .arg(count)
-}
-
-// A value that is needed, a whole number in the parser's range.
-fn number<'a>(alloc: Global, id: &'a str, help: &'a str, parser: ValueParser<'a>) -> Arg<'a>
-    ensures rule { (least most : ℕ) → parser.entry ≡ Unsigned least most → rule_of result ≡ number_rule id.entry.now least most }
-    ensures kept { (least most : ℕ) → parser.entry ≡ Unsigned least most → IsNumberArg result id.entry.now least most }
-{
-    Arg::new(alloc, id)
-        .required(true)
-        .action(ArgAction::Set)
-        .value_parser(parser)
-        .help(help)
 }
