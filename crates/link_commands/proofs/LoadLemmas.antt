@@ -15,7 +15,7 @@ use Rattle.link_commands.specs.declared.counts.Counts.{Counts}
 use Rattle.link_commands.specs.Loading.{HasTaken, told_of}
 use Rattle.link_commands.specs.Outlet.{HandsOver, HandsPart}
 use Rattle.link_commands.proofs.OutletLemmas.{hands_both, hands_whole, hands_whole_part, part_after, part_of_more}
-use Rattle.link_commands.proofs.ReplayLemmas.{app_rises}
+use Rattle.link_commands.proofs.ReplayingLemmas.{app_rises}
 
 -- ---- the events so far
 

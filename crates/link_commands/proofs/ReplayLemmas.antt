@@ -1,23 +1,23 @@
 -- The events of a script, one after the other.
-use Rattle.std.proofs.Common.{◌≡◌, ◌≤◌, ◌<◌, ◌+◌, ◌^◌, ◌++◌, [], ◌∷◌, length, take, drop, get_or, List, ℕ, ℤ, Option, refl, ap, sym, subst, ◌∙◌, arith, append_assoc, length-append}
+use Rattle.std.proofs.Common.{◌≡◌, ◌≤◌, ◌<◌, ◌+◌, ◌++◌, [], ◌∷◌, length, take, drop, get_or, List, ℕ, ℤ, Option, refl, ap, sym, subst, ◌∙◌, arith, append_assoc, length-append}
 use Rattle.std.specs.List.{flat_map}
 use Rattle.std.proofs.lemmas.List.Concat.{flat_map-append}
 use Rattle.std.proofs.lemmas.List.{take_more, take-append-drop, append-nil, take_all}
 use Rattle.client_state.specs.declared.state.State.{State}
 use Rattle.link_node.specs.Config.{ConfigValue}
 use Rattle.link_node.specs.Opening.{opened}
-use Rattle.link_node.specs.Event.{EventValue, Rx, Tick, App, Audio, End, SendingValue, Fits, moment_of, app_after, audio_after}
+use Rattle.link_node.specs.Event.{EventValue, SendingValue, Fits, moment_of, app_after, audio_after}
 use Rattle.link_node.specs.declared.event.Change.{Change}
 use Rattle.link_node.specs.Machine.{Machine}
-use Rattle.link_node.specs.Runs.{AreFitting, published_by, published_of, sent_by, sent_of, shown_by}
+use Rattle.link_node.specs.Runs.{published_by, published_of, sent_by, sent_of, shown_by}
 use Rattle.link_node.specs.Step.{step_of, sends_of, change_of}
-use Rattle.link_text.specs.Lines.{lines_of, counting_in}
-use Rattle.link_text.specs.ReplayScript.{AreEventLines, IsChecked, SaysFrom, SaysSome}
+use Rattle.link_text.specs.ReplayScript.{SaysSome}
 use Rattle.link_text.specs.ReplayText.{event_text_of, events_text_of, published_in, sending_line_of, states_text_of, state_line_of, done_line_of, replay_text_of}
 use Rattle.link_commands.specs.Outlet.{HandsOver, HandsPart}
 use Rattle.link_commands.specs.Replaying.{GoesOn, IsOpened}
 use Rattle.link_commands.specs.Statuses.{GivesReplay}
 use Rattle.link_commands.proofs.OutletLemmas.{hands_none, hands_both, part_after, part_of_more}
+use Rattle.link_commands.proofs.ReplayingLemmas.{AreTakable, AreFew, IsNextEvent, IsPastAll, left_at, goes_on_says, event_fits, goes_on_more, fewer_left}
 
 -- ---- a text for each element of a list
 
@@ -55,28 +55,6 @@ each_part f xs n x before kept now kept' after h is has part =
 pub each_whole : {A : Type 0} (f : A → List ℕ) (xs : List A) (n : ℕ) (before : Option (List ℕ)) (kept : List ℕ) (now : Option (List ℕ)) (kept' : List ℕ)
     → length xs ≤ n → HasHandedEach f xs n before kept now kept' → HandsOver (flat_map f xs) before kept now kept'
 each_whole f xs n before kept now kept' all has = rw (take_all n xs all) at has.way
-
--- ---- what the text says from a place on
-
-event_lines : (gates audio : ℕ) (lines : List (List ℕ)) (es : List EventValue) → AreEventLines gates audio lines es → length lines ≡ length es
-event_lines gates audio [] [] are = refl
-event_lines gates audio [] (e ∷ es) are = absurd are
-event_lines gates audio (line ∷ lines) [] are = absurd are
-event_lines gates audio (line ∷ lines) (e ∷ es) are = omega (arith, event_lines gates (audio_after audio e) lines es are.1)
-
--- how many lines count there
-abbrev pub left_at : List ℕ → ℕ → ℕ
-left_at text at = length (counting_in (lines_of (drop at text)))
-
-pub left_are : (gates audio : ℕ) (text : List ℕ) (at : ℕ) (es : List EventValue) → SaysFrom gates audio text at es → left_at text at ≡ length es
-left_are gates audio text at es says = event_lines gates audio (counting_in (lines_of (drop at text))) es says.lines
-
-pub app_rises : (app : ℕ) (e : EventValue) → app_after app e ≤ app + 1
-app_rises app (Rx gate from bytes now) = omega arith
-app_rises app (Tick now) = omega arith
-app_rises app (App commit now) = omega arith
-app_rises app (Audio number commit now) = omega arith
-app_rises app (End now) = omega arith
 
 -- ---- one event
 
@@ -150,32 +128,14 @@ handed_none version Stands gates app audio text at start kept m es on = record {
 -- some events are said at the place
 pub says_some : (version : ℕ) (Stands : Machine → Type 0) (gates app audio : ℕ) (text : List ℕ) (at events states sends : ℕ) (start : Option (List ℕ)) (kept : List ℕ) (now : Option (List ℕ)) (kept' : List ℕ) (m : Machine) (es : List EventValue)
     → HasHanded version Stands gates app audio text at events states sends start kept now kept' m es → SaysSome text at
-says_some version Stands gates app audio text at events states sends start kept now kept' m es has = (gates, audio, has.rest, has.on.says)
-
--- what the laws say of the events that are left
-abbrev pub AreTakable : Type 0
-AreTakable = (gates audio app at : ℕ) (text : List ℕ) (es : List EventValue) → SaysFrom gates audio text at es
-    → app + length es < 2 ^ 60 → AreFitting gates app audio es
-
-abbrev pub AreFew : Type 0
-AreFew = (gates audio at : ℕ) (text : List ℕ) (es : List EventValue) → SaysFrom gates audio text at es → length es ≤ length text
-
--- the event at the place is the first of those that the text says there, and after it the rest is said
-abbrev pub IsNextEvent : List ℕ → ℕ → ℕ → EventValue → Type 0
-IsNextEvent text at next e = (gates audio : ℕ) (es : List EventValue) → SaysFrom gates audio text at es
-    → (rest : List EventValue) × (es ≡ e ∷ rest) × SaysFrom gates (audio_after audio e) text next rest
-
--- no event is said there
-abbrev pub IsPastAll : List ℕ → ℕ → Type 0
-IsPastAll text at = (gates audio : ℕ) (es : List EventValue) → SaysFrom gates audio text at es → es ≡ []
+says_some version Stands gates app audio text at events states sends start kept now kept' m es has =
+    goes_on_says Stands gates app audio text at has.mid has.rest has.on
 
 pub next_fits : (law : AreTakable) (version : ℕ) (Stands : Machine → Type 0) (gates app audio : ℕ) (text : List ℕ) (at next events states sends : ℕ) (start : Option (List ℕ)) (kept : List ℕ) (now : Option (List ℕ)) (kept' : List ℕ) (m : Machine) (es : List EventValue) (e : EventValue)
     → HasHanded version Stands gates app audio text at events states sends start kept now kept' m es → IsNextEvent text at next e
     → Fits gates app audio e
 next_fits law version Stands gates app audio text at next events states sends start kept now kept' m es e has is =
-    let found = is gates audio has.rest has.on.says in
-    let all : AreFitting gates app audio (e ∷ found.0) = subst (AreFitting gates app audio) found.1 (law gates audio app at text has.rest has.on.says has.on.few_commits) in
-    all.0
+    event_fits law Stands gates app audio text at next has.mid has.rest e has.on is
 
 -- there are no more events before the place than the text has bytes
 pub few_so_far : (few : AreFew) (version : ℕ) (Stands : Machine → Type 0) (gates app audio first : ℕ) (Stands' : Machine → Type 0) (gates' app' audio' : ℕ) (text : List ℕ) (at events states sends : ℕ) (start : Option (List ℕ)) (kept : List ℕ) (now : Option (List ℕ)) (kept' : List ℕ) (m : Machine) (es : List EventValue)
@@ -198,17 +158,12 @@ handed_more version version' Stands Stands' gates app audio gates' app' audio' t
     let found = is gates audio has.rest has.on.says in
     let rest = found.0 in
     let len : length has.rest ≡ length (e ∷ rest) = ap length found.1 in
-    let says : SaysFrom gates' audio' text next rest = rw (same_gates, audio_is) found.2 in
     let more_states = states_are has.mid has.on.stands in
     let more_sends = sends_are has.mid has.on.stands in
     record {
       mid = step_of has.mid e;
       rest = rest;
-      on = record {
-        stands = steps has.mid has.on.stands;
-        says = says;
-        few_commits = omega (arith, has.on.few_commits, app_rises app e, app_is, len);
-      };
+      on = goes_on_more Stands Stands' gates app audio gates' app' audio' text at next has.mid has.rest rest e has.on found.1 found.2 steps same_gates app_is audio_is;
       events_are = omega (arith, has.events_are, events_are, len);
       states_are = omega (arith, has.states_are, more_states, ap (λ (l : List EventValue). length (published_by has.mid l)) found.1, length-append (published_in has.mid e) (published_by (step_of has.mid e) rest));
       sends_are = omega (arith, has.sends_are, more_sends, ap (λ (l : List EventValue). length (sent_by has.mid l)) found.1, length-append (sends_of has.mid e) (sent_by (step_of has.mid e) rest));
@@ -268,34 +223,9 @@ pub less_left : (version : ℕ) (Stands : Machine → Type 0) (gates app audio :
     → left_at text next < left_at text at
 less_left version Stands gates app audio text at next events states sends start kept now kept' m es e has is =
     let found = is gates audio has.rest has.on.says in
-    let before = left_are gates audio text at has.rest has.on.says in
-    let behind = left_are gates (audio_after audio e) text next found.0 found.2 in
-    omega (arith, before, behind, ap length found.1)
+    fewer_left gates audio gates (audio_after audio e) text at next has.rest found.0 e has.on.says found.2 found.1
 
 -- ---- a whole replay
-
--- the node of a script that was checked, opened at its moment
-pub opened_by : (Stands : Machine → Type 0) (gates app audio version : ℕ) (text : List ℕ) (config : ConfigValue) (now at : ℤ) (first : ℕ)
-    → IsChecked text version config now first → at ≡ now → Stands (opened config at) → gates ≡ length config.gates → app ≡ 0 → audio ≡ 0
-    → IsOpened Stands gates app audio version text first
-opened_by Stands gates app audio version text config now at first checked same stands gates_are no_app no_audio = record {
-  config = config;
-  now = now;
-  es = checked.es;
-  script = checked.script;
-  stands = subst (λ (z : ℤ). Stands (opened config z)) same stands;
-  says = rw (gates_are, no_audio) checked.from;
-  no_commits = no_app;
-}
-
--- the node that was opened goes on with the events of the script
-pub opened_goes_on : (few : AreFew) (Stands : Machine → Type 0) (gates app audio version : ℕ) (text : List ℕ) (first : ℕ) (is : IsOpened Stands gates app audio version text first)
-    → length text ≤ 1_073_741_824 → GoesOn Stands gates app audio text first (opened is.config is.now) is.es
-opened_goes_on few Stands gates app audio version text first is short = record {
-  stands = is.stands;
-  says = is.says;
-  few_commits = omega (arith, is.no_commits, few gates audio first text is.es is.says);
-}
 
 -- the output of the script
 pub gives_output : (Stands : Machine → Type 0) (gates app audio version : ℕ) (text : List ℕ) (first : ℕ) (is : IsOpened Stands gates app audio version text first)

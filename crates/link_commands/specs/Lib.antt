@@ -4,6 +4,7 @@ pub mod HexLines
 pub mod DecodeText
 pub mod PairLines
 pub mod FilterText
+pub mod MidiText
 pub mod Replaying
 pub mod Loading
 pub mod Statuses

@@ -31,3 +31,7 @@ NodeGoesOn node text at m es = GoesOn (StandsFor node) (gates_of node) (app_of n
 
 abbrev pub IsNodeOpened : Node → ℕ → List ℕ → ℕ → Type 0
 IsNodeOpened node version text first = IsOpened (StandsFor node) (gates_of node) (app_of node) (audio_of node) version text first
+
+-- and at this moment
+abbrev pub IsNodeOpenedAt : Node → ℕ → List ℕ → ℕ → ℤ → Type 0
+IsNodeOpenedAt node version text first now = (is : IsNodeOpened node version text first) × (is.now ≡ now)

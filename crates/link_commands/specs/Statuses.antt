@@ -14,9 +14,11 @@ use Rattle.link_text.specs.ReplayText.{replay_text_of}
 use Rattle.link_commands.specs.HexLines.{IsFirstBadLine}
 use Rattle.link_commands.specs.DecodeText.{IsDecodeText}
 use Rattle.link_commands.specs.FilterText.{IsFilterText}
+use Rattle.link_commands.specs.MidiText.{midi_text_of}
 use Rattle.link_commands.specs.PairLines.{IsFirstNoPair}
 use Rattle.link_words.specs.CommandNames.{Names}
 use Rattle.link_words.specs.LoadWords.{BeginsLoad, IsLoad, NamesLoad}
+use Rattle.link_words.specs.MidiWords.{BeginsMidi, IsMidi, NamesMidi}
 use Rattle.link_words.specs.declared.command_name.CommandName.{CommandName}
 use Rattle.link_words.specs.declared.command_name.CommandName.TheVariants as name
 use Rattle.link_commands.specs.declared.status.Grammar.{Grammar}
@@ -93,6 +95,21 @@ filter_command = record {
   FaultsAt = IsFirstNoPair;
 }
 
+-- the text is a script, and the output is what `midi` writes of so many blocks of this length
+abbrev pub GivesMidi : ℕ → ℕ → List ℕ → List ℕ → Type 0
+GivesMidi length blocks text output =
+    (version : ℕ) × (config : ConfigValue) × (now : ℤ) × (es : List EventValue)
+    × IsScriptOf text version config now es
+    × (output ≡ midi_text_of (record { config = config; now = now; events = es; length = length }) blocks)
+
+abbrev pub midi_command : ℕ → ℕ → Command
+midi_command length blocks = record {
+  limit = 1_073_741_824;
+  grammar = grammar.ReplayScript;
+  Gives = GivesMidi length blocks;
+  FaultsAt = replay_command.FaultsAt;
+}
+
 -- these bytes were read, to the end of the input and within the limit, and no read failed
 pub record WasRead (limit : ℕ) (before after : Stream) (bytes : List ℕ) : Type 0 where
   pub whole : ReadsWhole before.told bytes after.told
@@ -150,9 +167,9 @@ EndsInput command input input' out out' status.Memory =
     TakesWithin (command.limit + 65_536) input.told input'.told × (input'.faults ≡ input.faults) × (out' ≡ out)
 EndsInput command input input' out out' other = ⊥
 
--- the words aren't the command's one word, and no object was called
-pub record EndsUntaken (named : CommandName) (words : List (String Global)) (input input' out out' : Stream) (end : Status) : Type 0 where
-  pub other_words : Names named words → ⊥
+-- the words aren't those that the command takes, and no object was called
+pub record EndsUntaken (Taken : Type 0) (input input' out out' : Stream) (end : Status) : Type 0 where
+  pub other_words : Taken → ⊥
   pub words_at_fault : end ≡ status.Words
   pub unread : input' ≡ input
   pub unwritten : out' ≡ out
@@ -160,7 +177,7 @@ pub record EndsUntaken (named : CommandName) (words : List (String Global)) (inp
 -- what a command that takes no word but its name did with these words
 abbrev pub EndsBy : CommandName → Command → List (String Global) → Stream → Stream → Stream → Stream → Status → Type 0
 EndsBy named command words input input' out out' end =
-    (Names named words × EndsInput command input input' out out' end) ⊎ EndsUntaken named words input input' out out' end
+    (Names named words × EndsInput command input input' out out' end) ⊎ EndsUntaken (Names named words) input input' out out' end
 
 abbrev pub EndsReplay : List (String Global) → Stream → Stream → Stream → Stream → Status → Type 0
 EndsReplay = EndsBy name.Replay replay_command
@@ -170,6 +187,25 @@ EndsDecode = EndsBy name.Decode decode_command
 
 abbrev pub EndsFilter : List (String Global) → Stream → Stream → Stream → Stream → Status → Type 0
 EndsFilter = EndsBy name.Filter filter_command
+
+-- ---- a command over a text that takes words besides
+
+-- the words begin with the command's, there was no memory to read the others, and no object was called
+pub record EndsUnread (Begun : Type 0) (input input' out out' : Stream) (end : Status) : Type 0 where
+  pub begun : Begun
+  pub no_memory : end ≡ status.Memory
+  pub unread : input' ≡ input
+  pub unwritten : out' ≡ out
+
+-- what `midi` did with the blocks that the words ask for
+abbrev pub EndsBlocks : List (String Global) → Stream → Stream → Stream → Stream → Status → Type 0
+EndsBlocks words input input' out out' end =
+    (length : ℕ) × (blocks : ℕ) × NamesMidi words length blocks × EndsInput (midi_command length blocks) input input' out out' end
+
+abbrev pub EndsMidi : List (String Global) → Stream → Stream → Stream → Stream → Status → Type 0
+EndsMidi words input input' out out' end =
+    EndsBlocks words input input' out out' end
+    ⊎ (EndsUntaken (IsMidi words) input input' out out' end ⊎ EndsUnread (BeginsMidi words) input input' out out' end)
 
 -- ---- a command without input
 

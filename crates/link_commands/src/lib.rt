@@ -1,7 +1,7 @@
 //! How a call of the program may end, and its commands that need neither network nor clock.
 //!
 //! In reading order: `status`, `reason`, `text_fault`; `text_command` (a command that reads a whole text and writes another), `run_text`,
-//! `outlet`; `replay`, `replay_lines`, `counts`; `decode`, `hex_lines`; `filter`, `pair_lines`;
+//! `outlet`; `opened_script`; `replay`, `replay_lines`, `counts`; `decode`, `hex_lines`; `filter`, `pair_lines`; `midi`, `midi_lines`;
 //! `load`; last `laws`.
 #![tactic(auto)]
 
@@ -11,6 +11,9 @@ mod filter;
 mod hex_lines;
 mod laws;
 mod load;
+mod midi;
+mod midi_lines;
+mod opened_script;
 mod outlet;
 mod pair_lines;
 mod reason;
@@ -25,6 +28,7 @@ pub use decode::decode_main;
 pub use filter::filter_main;
 pub use laws::{one_filter_text, one_output};
 pub use load::load_main;
+pub use midi::midi_main;
 pub use outlet::{Outlet, SinkFailed};
 pub use reason::Reason;
 pub use replay::replay_main;

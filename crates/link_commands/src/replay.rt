@@ -4,15 +4,15 @@ ghost use Rattle.std.specs.Prelude.{◌≡◌};
 ghost use Rattle.link_commands.specs.Statuses.{EndsReplay, IfNothingWritten, replay_command, seen};
 
 use crate::counts::Counts;
+use crate::opened_script::open_script;
 use crate::outlet::{Outlet, SinkFailed};
-use crate::reason::Reason;
 use crate::replay_lines::{hand_done, hand_published, hand_sends, hand_state};
 use crate::run_text::read_and_answer;
 use crate::status::{Grammar, Status};
 use crate::text_command::TextCommand;
 use crate::text_fault::TextFault;
 use link_node::{Event, Node, Sends};
-use link_text::{LineBuf, check_replay, explain, next_event, scripts_fit_nodes};
+use link_text::{LineBuf, next_event, scripts_fit_nodes};
 use link_words::{CommandName, is_only};
 use lk_outside::{Sink, Source};
 use std::alloc::Global;
@@ -72,26 +72,12 @@ impl TextCommand for Replay {
     }
 
     fn check(alloc: Global, _params: &(), text: &[u8]) -> Result<Self, TextFault> {
-        let head = match check_replay(text) {
-            Ok(head) => head,
-            Err(bad) => {
-                return Err(TextFault::Line {
-                    line: bad.line,
-                    reason: Reason::Script(explain(text, bad.line)),
-                });
-            }
-        };
-        let Ok(node) = Node::new(alloc, &head.config, head.now) else {
-            return Err(TextFault::Memory);
-        };
-        let Ok(sends) = Sends::new(alloc) else {
-            return Err(TextFault::Memory);
-        };
+        let script = open_script(alloc, text)?;
         Ok(Replay {
-            version: head.version,
-            node,
-            sends,
-            first: head.first,
+            version: script.version,
+            node: script.node,
+            sends: script.sends,
+            first: script.first,
         })
     }
 

@@ -103,8 +103,8 @@ fn hand_sending<K: Sink>(
     outlet.put_line(out, line.as_slice())
 }
 
-// The moment of an event, in microseconds.
-fn moment(event: &Event) -> i64
+/// The moment of an event, in microseconds.
+pub(crate) fn moment(event: &Event) -> i64
     ensures { result ≡ moment_of (event_value event.now) }
 {
     match event {

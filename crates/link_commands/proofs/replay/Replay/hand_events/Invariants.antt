@@ -5,7 +5,8 @@ use Rattle.link_node.specs.Event.{EventValue}
 use Rattle.link_node.specs.Machine.{Machine}
 use Rattle.link_node.specs.Standing.{StandsFor, app_of, audio_of, gates_of}
 use Rattle.link_commands.specs.Replaying.{NodeGoesOn}
-use Rattle.link_commands.proofs.ReplayLemmas.{HasHanded, left_at}
+use Rattle.link_commands.proofs.ReplayLemmas.{HasHanded}
+use Rattle.link_commands.proofs.ReplayingLemmas.{left_at}
 use Rattle.link_commands.proofs.replay.Replay.hand_events.Given as goal
 
 abbrev pub invariant-loop-event : goal.invariant-loop-event

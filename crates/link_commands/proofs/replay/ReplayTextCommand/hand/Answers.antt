@@ -1,7 +1,8 @@
 use Rattle.link_node.specs.Opening.{opened}
 use Rattle.link_text.specs.ReplayText.{replay_text_of}
 use Rattle.link_commands.proofs.OutletLemmas.{on_failure}
-use Rattle.link_commands.proofs.ReplayLemmas.{opened_goes_on, gives_output, replay_part_first, replay_part_events, replay_part_done, replay_over}
+use Rattle.link_commands.proofs.ReplayLemmas.{gives_output, replay_part_first, replay_part_events, replay_part_done, replay_over}
+use Rattle.link_commands.proofs.ReplayingLemmas.{opened_goes_on}
 use Rattle.link_commands.proofs.replay.ReplayTextCommand.hand.Goals as goal
 
 pub returns-in_err-hand_state-clause-part : goal.returns-in_err-hand_state-clause-part

@@ -1,0 +1,10 @@
+-- The events so far are handed over.
+use Rattle.std.proofs.Common.{◌≡◌}
+use Rattle.link_commands.specs.MidiText.{midi_line_of}
+use Rattle.link_commands.proofs.ReplayLemmas.{HasHandedEach}
+use Rattle.link_commands.proofs.midi_lines.hand_midi_events.Given as goal
+
+abbrev pub invariant-loop-event : goal.invariant-loop-event
+invariant-loop-event g l =
+    HasHandedEach midi_line_of l.events l.event-index (g.K.Sink.written l.fn.out) l.fn.outlet.kept.items (g.K.Sink.written l.out) l.outlet.kept.items
+    × (g.K.Sink.faults l.out ≡ g.K.Sink.faults l.fn.out)
