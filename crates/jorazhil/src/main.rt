@@ -133,6 +133,7 @@ fn about_of(alloc: Global, words: &[String]) -> Result<About, Status> {
             blocks: options.blocks,
             events: options.events,
             quantum: options.quantum.unsigned_abs(),
+            group: options.group,
         }),
         Err(WordsFault::NotTaken) => Err(Status::Words),
         Err(WordsFault::Memory) => Err(Status::Memory),

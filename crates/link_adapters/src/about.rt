@@ -9,13 +9,14 @@ const BLOCK_LENGTH: u64 = 20_000;
 /// A million: the microseconds of a second, and the microbeats of a beat.
 const MILLION: u64 = 1_000_000;
 
-/// How a live run was set up: how many blocks of 20 milliseconds it plays at most, how many events find room, and the quantum that accents
-/// are counted in, in microbeats, which is 0 where there is none.
+/// How a live run was set up: how many blocks of 20 milliseconds it plays at most, how many events find room, the quantum that bars are
+/// counted in at first, in microbeats, which is 0 where there is none, and the group of the messages that are heard and sent.
 #[derive(Clone, Copy, Debug)]
 pub struct About {
     pub blocks: u64,
     pub events: u64,
     pub quantum: u64,
+    pub group: u16,
 }
 
 impl fmt::Display for About {
@@ -23,7 +24,8 @@ impl fmt::Display for About {
         let blocks = Blocks(self.blocks);
         let events = Counted(self.events, "event");
         let bars = Bars(self.quantum);
-        write!(f, "{blocks}, room for {events}, {bars}")
+        let group = Group(self.group);
+        write!(f, "{blocks}, room for {events}, {bars}{group}")
     }
 }
 
@@ -95,5 +97,19 @@ impl fmt::Display for Bars {
         } else {
             write!(f, "bars of {beats}")
         }
+    }
+}
+
+/// A group behind what was told before; of 0, the one that is usual, nothing is told.
+#[derive(Clone, Copy)]
+struct Group(u16);
+
+impl fmt::Display for Group {
+    fn fmt<W: fmt::Write>(&self, f: &mut fmt::Formatter<W>) -> fmt::Result {
+        let group = self.0;
+        if group == 0 {
+            return Ok(());
+        }
+        write!(f, ", group {group}")
     }
 }

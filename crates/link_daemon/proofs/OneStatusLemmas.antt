@@ -1,19 +1,23 @@
 -- The causes of two statuses never hold together.
-use Rattle.std.proofs.Common.{◌≡◌, ◌≢◌, inl, inr, ◌<◌, ◌-◌, ◌^◌, List, ℕ, Option, Some, None, IsSome, refl, ap, sym, subst, ◌∙◌}
+use Rattle.std.proofs.Common.{◌≡◌, ◌≢◌, inl, inr, ◌<◌, ◌-◌, ◌^◌, List, ℕ, Option, Some, None, IsSome, codes, refl, ap, sym, subst, ◌∙◌}
+use Rattle.std.specs.Str.Parse.{digits_value, without_leading_plus}
 use Rattle.std.specs.declared.alloc.Global.{Global}
 use Rattle.std.specs.declared.string.String.{String}
+use Rattle.clap.specs.Words.{App}
 use Rattle.lk_outside.specs.Faults.{Rose}
 use Rattle.lk_outside.specs.Transfer.{TakesOver}
 use Rattle.link_words.specs.CommandNames.{Names, named_by}
+use Rattle.link_words.specs.CommandWords.{Says}
 use Rattle.link_words.specs.declared.command_name.CommandName.{CommandName}
 use Rattle.link_words.specs.declared.command_name.CommandName.TheVariants as name
 use Rattle.link_daemon.specs.Ends.{EndsNamed}
 use Rattle.link_words.specs.LoadWords.{IsLoad}
+use Rattle.link_words.specs.MidiWords.{IsMidi, NamesMidi, midi_app}
 use Rattle.link_daemon.specs.Outside.{Outside}
 use Rattle.link_commands.specs.declared.status.Grammar.{Grammar}
 use Rattle.link_commands.specs.declared.status.Status.{Status}
 use Rattle.link_commands.specs.declared.status.Status.TheVariants as status
-use Rattle.link_commands.specs.Statuses.{Command, Stream, ReadsText, ReadsFault, EndsBy, EndsInput, EndsLoad, replay_command, decode_command, filter_command}
+use Rattle.link_commands.specs.Statuses.{Command, Stream, ReadsText, ReadsFault, EndsBy, EndsInput, EndsLoad, EndsMidi, replay_command, decode_command, filter_command, midi_command}
 use Rattle.link_daemon.specs.OneStatus.{CanFail, End, end_of, IsTold, HasOneStatus, HasOneFaultLine, HasOneLiveFaultLine}
 use Rattle.link_daemon.proofs.CourseLemmas.{CourseLaws}
 use Rattle.link_daemon.proofs.CauseLemmas.{First, here, later, IsOne, first_is_one, rose_and_quiet, one_read, more_and_whole}
@@ -34,6 +38,9 @@ decode_exclusive text output line fault whole = bad_and_decoded text output line
 
 pub filter_exclusive : AreExclusive filter_command
 filter_exclusive text output line fault whole = bad_and_filtered text output line fault whole
+
+pub midi_exclusive : (length blocks : ℕ) → AreExclusive (midi_command length blocks)
+midi_exclusive length blocks text output line fault (version, config, now, es, script, same) = fault.1 (version, config, now, es, script)
 
 -- one text is not both in a grammar and outside it
 fault_and_output : (command : Command) → AreExclusive command → (line : ℕ) (input input' : Stream) (output : List ℕ) → IsSome input.told
@@ -87,6 +94,13 @@ InputCauses command input input' out out' =
     (First (TakesOver command.limit input.told input'.told) (λ cause. end_of (status.TooLong command.limit))
     (ReadCauses command input input' out out'))
 
+one_input_end : (command : Command) → HasOneFaultLine command → (input input' out out' : Stream) → IsSome input.told
+    → IsOne (InputCauses command input input' out out')
+one_input_end command once input input' out out' tells =
+    first_is_one (Rose input.faults input'.faults) (λ cause. end_of status.Input) _ (λ p q. refl)
+    (first_is_one (TakesOver command.limit input.told input'.told) (λ cause. end_of (status.TooLong command.limit)) _ (λ p q. refl)
+    (one_read_end command once input input' out out' tells))
+
 abbrev CommandCauses : CommandName → Command → List (String Global) → Stream → Stream → Stream → Stream → End → Type 0
 CommandCauses named command words input input' out out' =
     First (Names named words → ⊥) (λ cause. end_of status.Words) (InputCauses command input input' out out')
@@ -94,10 +108,8 @@ CommandCauses named command words input input' out out' =
 one_command_end : (named : CommandName) (command : Command) → HasOneFaultLine command → (words : List (String Global))
     (input input' out out' : Stream) → IsSome input.told → IsOne (CommandCauses named command words input input' out out')
 one_command_end named command once words input input' out out' tells =
-    first_is_one (Names named words → ⊥) (λ cause. end_of status.Words) _ (λ p q. refl)
-    (first_is_one (Rose input.faults input'.faults) (λ cause. end_of status.Input) _ (λ p q. refl)
-    (first_is_one (TakesOver command.limit input.told input'.told) (λ cause. end_of (status.TooLong command.limit)) _ (λ p q. refl)
-    (one_read_end command once input input' out out' tells)))
+    first_is_one (Names named words → ⊥) (λ cause. end_of status.Words) (InputCauses command input input' out out') (λ p q. refl)
+    (one_input_end command once input input' out out' tells)
 
 module _ (command : Command) (exclusive : AreExclusive command) (input input' out out' : Stream)
     (tells : IsTold input) (counts : out.faults < 2 ^ 64 - 1) where
@@ -138,6 +150,54 @@ one_of named command exclusive once words input input' out out' one other tells 
     one_command_end named command once words input input' out out' tells.told (end_of one) (end_of other)
     (command_cause command exclusive input input' out out' tells counts named words one not_one ends)
     (command_cause command exclusive input input' out out' tells counts named words other not_other ends')
+
+-- ---- a command over a text that takes words besides
+
+-- words say one number by a name
+says_once : (app : App) (words : List (String Global)) (id : List ℕ) (number other : ℕ)
+    → Says app words id number → Says app words id other → number ≡ other
+says_once app words id number other (text, found, numeral, is) (text', found', numeral', is') =
+    let all : Some text ≡ Some text' = sym found ∙ found' in
+    let same : text ≡ text' = cc in
+    sym is ∙ ap (λ (digits : List ℕ). digits_value 10 (without_leading_plus digits)) same ∙ is'
+
+-- the causes of the command of the length and the number of blocks that the words say
+abbrev BlocksCauses : List (String Global) → Stream → Stream → Stream → Stream → End → Type 0
+BlocksCauses words input input' out out' end =
+    (length : ℕ) × (blocks : ℕ) × NamesMidi words length blocks × InputCauses (midi_command length blocks) input input' out out' end
+
+one_blocks_end : HasOneFaultLine replay_command → (words : List (String Global)) (input input' out out' : Stream) → IsSome input.told
+    → IsOne (BlocksCauses words input input' out out')
+one_blocks_end once words input input' out out' tells one other (length, blocks, named, causes) (length', blocks', named', causes') =
+    let same_length : length' ≡ length = says_once midi_app words (codes "LENGTH") length' length named'.length_is named.length_is in
+    let same_blocks : blocks' ≡ blocks = says_once midi_app words (codes "BLOCKS") blocks' blocks named'.blocks_is named.blocks_is in
+    one_input_end (midi_command length blocks) once input input' out out' tells one other causes
+    (subst (λ (n : ℕ). InputCauses (midi_command length n) input input' out out' other) same_blocks
+    (subst (λ (n : ℕ). InputCauses (midi_command n blocks') input input' out out' other) same_length causes'))
+
+abbrev MidiCauses : List (String Global) → Stream → Stream → Stream → Stream → End → Type 0
+MidiCauses words input input' out out' =
+    First (IsMidi words → ⊥) (λ cause. end_of status.Words) (BlocksCauses words input input' out out')
+
+midi_cause : (words : List (String Global)) (input input' out out' : Stream) (end : Status) → IsTold input → out.faults < 2 ^ 64 - 1
+    → end ≢ status.Memory → EndsMidi words input input' out out' end → MidiCauses words input input' out out' (end_of end)
+midi_cause words input input' out out' end tells counts some_memory (inl (length, blocks, named, ends)) =
+    later (λ untaken. untaken named.midi)
+    (length, blocks, named, input_cause (midi_command length blocks) (midi_exclusive length blocks) input input' out out' tells counts end some_memory ends)
+midi_cause words input input' out out' end tells counts some_memory (inr (inl untaken)) =
+    here untaken.other_words (ap end_of untaken.words_at_fault)
+midi_cause words input input' out out' end tells counts some_memory (inr (inr unread)) = absurd (some_memory unread.no_memory)
+
+-- one run of `midi`
+one_midi : HasOneFaultLine replay_command → (words : List (String Global)) (input input' out out' : Stream) (one other : Status)
+    → IsTold input → out.faults < 2 ^ 64 - 1 → one ≢ status.Memory → other ≢ status.Memory
+    → EndsMidi words input input' out out' one → EndsMidi words input input' out out' other
+    → end_of one ≡ end_of other
+one_midi once words input input' out out' one other tells counts not_one not_other ends ends' =
+    first_is_one (IsMidi words → ⊥) (λ cause. end_of status.Words) (BlocksCauses words input input' out out') (λ p q. refl)
+    (one_blocks_end once words input input' out out' tells.told) (end_of one) (end_of other)
+    (midi_cause words input input' out out' one tells counts not_one ends)
+    (midi_cause words input input' out out' other tells counts not_other ends')
 
 -- ---- a load
 
@@ -180,6 +240,8 @@ module _ (courses : CourseLaws) (law : IsFaultOnce) (live_law : HasOneLiveFaultL
   one_end (Some name.Filter) (ends, aside) (ends', aside') =
       one_of name.Filter filter_command filter_exclusive one_no_pair words input input' before.out after.out one other tells
       can.out_counts not_one not_other ends ends'
+  one_end (Some name.Midi) (ends, aside) (ends', aside') =
+      one_midi (one_script_fault law) words input input' before.out after.out one other tells can.out_counts not_one not_other ends ends'
   one_end (Some name.Load) (ends, unread, aside) (ends', unread', aside') =
       one_load words before.out after.out one other can.out_counts not_one not_other ends ends'
   one_end (Some name.Live) ends ends' = one_live courses live_law words seed input input' before after one other tells can not_one not_other ends ends'

@@ -11,18 +11,20 @@ use Rattle.link_live.specs.Journal.{has_ended}
 use Rattle.link_daemon.specs.LiveEnds.{EndsLive, ReadsLiveFault, ReadsTooMany}
 use Rattle.link_words.specs.LiveWords.{IsLive}
 use Rattle.link_words.specs.LoadWords.{IsLoad}
+use Rattle.link_words.specs.MidiWords.{IsMidi}
 use Rattle.link_daemon.specs.Outside.{Outside}
 use Rattle.link_commands.specs.declared.status.Status.{Status}
 use Rattle.link_commands.specs.declared.status.Status.TheVariants as status
-use Rattle.link_commands.specs.Statuses.{Command, Stream, EndsBy, EndsInput, EndsLoad, ReadsFault, replay_command, decode_command, filter_command}
+use Rattle.link_commands.specs.MidiText.{midi_text_of}
+use Rattle.link_commands.specs.Statuses.{Command, Stream, EndsBy, EndsInput, EndsLoad, EndsMidi, GivesMidi, GivesReplay, ReadsFault, replay_command, decode_command, filter_command, midi_command}
 use Rattle.link_words.specs.CommandNames.{Names}
 use Rattle.link_words.specs.declared.command_name.CommandName.{CommandName}
 use Rattle.link_words.specs.declared.command_name.CommandName.TheVariants as name
-use Rattle.link_daemon.specs.ValidInput.{IsValidFor, IsValidLive, CompletesLive, CompletesLoad, CompletesValid, CompleteValid}
+use Rattle.link_daemon.specs.ValidInput.{IsValidFor, IsValidLive, CompletesLive, CompletesLoad, CompletesMidi, CompletesValid, CompleteValid}
 use Rattle.link_daemon.proofs.CauseLemmas.{told_is_read}
 use Rattle.link_daemon.proofs.CourseLemmas.{CourseLaws, audio_met, events_met, port_met}
 use Rattle.link_daemon.proofs.StatusLemmas.{as_named}
-use Rattle.link_daemon.proofs.OneStatusLemmas.{AreExclusive, replay_exclusive, decode_exclusive, filter_exclusive}
+use Rattle.link_daemon.proofs.OneStatusLemmas.{AreExclusive, replay_exclusive, decode_exclusive, filter_exclusive, midi_exclusive}
 
 -- what is taken is no more than what was told
 taken_is_some : (xs bytes : List ℕ) (after : Option (List ℕ)) → Takes (Some xs) bytes after → length xs < length bytes → ⊥
@@ -83,6 +85,34 @@ completes_filter words seed input input' before after end named valid reads writ
     completes_by filter_command filter_exclusive input input' before.out after.out valid reads writes name.Filter words end named
     (as_named words name.Filter seed input input' before after end ([], named) ends).0
 
+-- ---- a script that is played in blocks
+
+-- a text for which `replay` gives an output is one for which `midi` gives one
+played : (span blocks : ℕ) (text output : List ℕ) → GivesReplay text output → (told : List ℕ) × GivesMidi span blocks text told
+played span blocks text output (version, config, now, es, script, same) = (
+  midi_text_of (record { config = config; now = now; events = es; length = span }) blocks,
+  (version, config, now, es, script, refl),
+)
+
+valid_played : (span blocks : ℕ) (input : Stream) → IsValidFor replay_command input → IsValidFor (midi_command span blocks) input
+valid_played span blocks input valid =
+    let gives = played span blocks valid.bytes valid.output valid.gives in
+    record { bytes = valid.bytes; output = gives.0; told = valid.told; within = valid.within; gives = gives.1 }
+
+midi_ends : (words : List (String Global)) (input input' out out' : Stream) (end : Status) → IsMidi words → IsValidFor replay_command input
+    → (Rose input.faults input'.faults → ⊥) → (Rose out.faults out'.faults → ⊥)
+    → EndsMidi words input input' out out' end → (end ≡ status.Done) ⊎ (end ≡ status.Memory)
+midi_ends words input input' out out' end midi valid reads writes (inl (span, blocks, named, ends)) =
+    completes_input (midi_command span blocks) (midi_exclusive span blocks) input input' out out'
+    (valid_played span blocks input valid) reads writes end ends
+midi_ends words input input' out out' end midi valid reads writes (inr (inl untaken)) = absurd (untaken.other_words midi)
+midi_ends words input input' out out' end midi valid reads writes (inr (inr unread)) = inr unread.no_memory
+
+completes_midi : CompletesMidi
+completes_midi words seed input input' before after end midi valid reads writes ends =
+    midi_ends words input input' before.out after.out end midi valid reads writes
+    (as_named words name.Midi seed input input' before after end midi.0 ends).0
+
 -- ---- a load
 
 load_ends : (words : List (String Global)) (out out' : Stream) (end : Status)
@@ -135,4 +165,4 @@ completes_live laws words seed input input' before after end live valid fits rea
     (as_named words name.Live seed input input' before after end live.0 ends)
 
 pub complete_valid : CourseLaws → CompleteValid
-complete_valid laws = (completes_replay, (completes_decode, (completes_filter, (completes_load, completes_live laws))))
+complete_valid laws = (completes_replay, (completes_decode, (completes_filter, (completes_midi, (completes_load, completes_live laws)))))

@@ -5,7 +5,7 @@ use Rattle.std.specs.declared.string.String.{String}
 use Rattle.link_words.specs.CommandNames.{named_by}
 use Rattle.link_words.specs.declared.command_name.CommandName.{CommandName}
 use Rattle.link_words.specs.declared.command_name.CommandName.TheVariants as name
-use Rattle.link_commands.specs.Statuses.{Stream, EndsDecode, EndsFilter, EndsLoad, EndsReplay}
+use Rattle.link_commands.specs.Statuses.{Stream, EndsDecode, EndsFilter, EndsLoad, EndsMidi, EndsReplay}
 use Rattle.link_commands.specs.declared.status.Status.{Status}
 use Rattle.link_commands.specs.declared.status.Status.TheVariants as status
 use Rattle.link_daemon.specs.LiveEnds.{EndsLive}
@@ -35,6 +35,8 @@ EndsNamed (Some name.Load) words seed input input' before after end =
 EndsNamed (Some name.Live) words seed input input' before after end = EndsLive words seed input input' before after end
 EndsNamed (Some name.Filter) words seed input input' before after end =
     EndsFilter words input input' before.out after.out end × IsAside before after
+EndsNamed (Some name.Midi) words seed input input' before after end =
+    EndsMidi words input input' before.out after.out end × IsAside before after
 EndsNamed None words seed input input' before after end = EndsUnnamed input input' before after end
 
 abbrev pub Ends : List (String Global) → ℕ → Stream → Stream → Outside → Outside → Status → Type 0

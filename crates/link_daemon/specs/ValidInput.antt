@@ -7,6 +7,7 @@ use Rattle.link_live.specs.Journal.{has_ended}
 use Rattle.link_text.specs.Lines.{lines_of}
 use Rattle.link_text.specs.LiveScript.{IsSomeLiveScript, commands_told}
 use Rattle.link_words.specs.LoadWords.{IsLoad}
+use Rattle.link_words.specs.MidiWords.{IsMidi}
 use Rattle.link_commands.specs.declared.status.Status.{Status}
 use Rattle.link_commands.specs.declared.status.Status.TheVariants as status
 use Rattle.link_daemon.specs.Ends.{Ends}
@@ -30,6 +31,16 @@ abbrev pub CompletesValid : CommandName → Command → Type 0
 CompletesValid named command =
     (words : List (String Global)) (seed : ℕ) (input input' : Stream) (before after : Outside) (end : Status)
     → Names named words → IsValidFor command input
+    → (Rose input.faults input'.faults → ⊥) → (Rose before.out.faults after.out.faults → ⊥)
+    → Ends words seed input input' before after end
+    → (end ≡ status.Done) ⊎ (end ≡ status.Memory)
+
+-- Where the words are those of `midi`, the input is a script that `replay` would answer, and no count rose, all is done, or there was no
+-- memory.
+abbrev pub CompletesMidi : Type 0
+CompletesMidi =
+    (words : List (String Global)) (seed : ℕ) (input input' : Stream) (before after : Outside) (end : Status)
+    → IsMidi words → IsValidFor replay_command input
     → (Rose input.faults input'.faults → ⊥) → (Rose before.out.faults after.out.faults → ⊥)
     → Ends words seed input input' before after end
     → (end ≡ status.Done) ⊎ (end ≡ status.Memory)
@@ -64,4 +75,5 @@ CompletesLive =
 abbrev pub CompleteValid : Type 0
 CompleteValid =
     CompletesValid name.Replay replay_command
-    × (CompletesValid name.Decode decode_command × (CompletesValid name.Filter filter_command × (CompletesLoad × CompletesLive)))
+    × (CompletesValid name.Decode decode_command
+    × (CompletesValid name.Filter filter_command × (CompletesMidi × (CompletesLoad × CompletesLive))))

@@ -17,8 +17,8 @@ pub use link_adapters::{
     BehindName, ClickAudio, ClockPace, HostClock, StdSink, StdSource, UdpPort,
 };
 pub use link_commands::{
-    Grammar, Reason, Status, decode_main, filter_main, load_main, one_filter_text, one_output,
-    replay_main,
+    Grammar, Reason, Status, decode_main, filter_main, load_main, midi_main, one_filter_text,
+    one_output, replay_main,
 };
 pub use link_live::{Report, audio_loop, network_loop};
 pub use live::live_main;

@@ -10,7 +10,7 @@ ghost use Rattle.link_live.specs.Report.{report_value};
 ghost use Rattle.link_commands.specs.Statuses.{IfNothingWritten, seen};
 
 use crate::live::live_main;
-use link_commands::{Status, decode_main, filter_main, load_main, replay_main};
+use link_commands::{Status, decode_main, filter_main, load_main, midi_main, replay_main};
 use link_live::Report;
 use link_words::{CommandName, command_named};
 use lk_outside::{Audio, Pace, Port, Sink, Source};
@@ -18,8 +18,8 @@ use std::alloc::Global;
 use std::sync::Wait;
 use std::thread::Threads;
 
-/// Runs the command that the first word names: `replay`, `decode`, `filter`, `load` or `live`. Any other word, and none, is a faulty
-/// command line. The seed, the port, the device, the pace and the report are those of `live`.
+/// Runs the command that the first word names: `replay`, `decode`, `filter`, `midi`, `load` or `live`. Any other word, and none, is a
+/// faulty command line. The seed, the port, the device, the pace and the report are those of `live`.
 ///
 /// Waits: in the objects' calls, and for the threads of a live run. Memory: that of the command.
 pub fn link_main<
@@ -61,6 +61,7 @@ pub fn link_main<
         Some(CommandName::Replay) => replay_main(alloc, words, input, out),
         Some(CommandName::Decode) => decode_main(alloc, words, input, out),
         Some(CommandName::Filter) => filter_main(alloc, words, input, out),
+        Some(CommandName::Midi) => midi_main(alloc, words, input, out),
         Some(CommandName::Load) => load_main(alloc, words, out),
         Some(CommandName::Live) => live_main(
             rt, alloc, words, seed, input, port, audio, pace, out, report,

@@ -5,16 +5,18 @@ use clap::{ArgMatches, Command, Error};
 use link_text::Excerpt;
 use link_words::{
     CommandName, command_named, live_command, live_matches, load_command, load_matches,
+    midi_command, midi_matches,
 };
 use std::alloc::{AllocError, Global};
 
 /// The commands, each with its form.
 const COMMANDS: &str = "Usage: jorazhil <COMMAND>\n\n  \
-    jorazhil replay < SCRIPT           reads a script on standard input, and writes what the node sends and shows\n  \
-    jorazhil decode < DATAGRAMS        reads datagrams in hex on standard input, one a line, and tells in a line what each says\n  \
-    jorazhil filter < PAIRS            reads pairs of a sample count and a host time on standard input, one a line, and tells a smooth host time for each\n  \
-    jorazhil load <SEED> <COUNT>       runs a node through generated events, and writes how much there was and the last state\n  \
-    jorazhil live [OPTIONS] < SCRIPT   plays a live script beside its peers, and writes how much there was and the last state";
+    jorazhil replay < SCRIPT                   reads a script on standard input, and writes what the node sends and shows\n  \
+    jorazhil decode < DATAGRAMS                reads datagrams in hex on standard input, one a line, and tells in a line what each says\n  \
+    jorazhil filter < PAIRS                    reads pairs of a sample count and a host time on standard input, one a line, and gives each a smooth host time\n  \
+    jorazhil midi <LENGTH> <BLOCKS> < SCRIPT   reads a script on standard input, plays it in BLOCKS blocks of LENGTH microseconds, and writes the MIDI clock\n  \
+    jorazhil load <SEED> <COUNT>               runs a node through generated events, and writes how much there was and the last state\n  \
+    jorazhil live [OPTIONS] < SCRIPT           plays a live script beside its peers, and writes how much there was and the last state";
 
 /// What words are told that name no command: which of them is at fault, and what would be right.
 pub fn usage(alloc: Global, words: &[String]) -> Result<String, AllocError> {
@@ -28,6 +30,13 @@ pub fn usage(alloc: Global, words: &[String]) -> Result<String, AllocError> {
             rest,
             load_command(alloc)?,
             load_matches(alloc, words),
+        ),
+        Some(CommandName::Midi) => command_usage(
+            alloc,
+            "midi plays a script in blocks, and tells its MIDI clock",
+            rest,
+            midi_command(alloc)?.override_usage("jorazhil midi <LENGTH> <BLOCKS> < SCRIPT"),
+            midi_matches(alloc, words),
         ),
         Some(CommandName::Live) => command_usage(
             alloc,

@@ -132,6 +132,22 @@ const CASES: &[Case] = &[
         written: "host 0\nhost 11610\nlat",
     },
     Case {
+        words: "midi 1 1",
+        input: "=",
+        bad_read: 2,
+        bad_write: 0,
+        status: 5,
+        written: "",
+    },
+    Case {
+        words: "midi 1 1",
+        input: "=",
+        bad_read: 0,
+        bad_write: 18,
+        status: 7,
+        written: "midi 1000000 f8\nd",
+    },
+    Case {
         words: "load 0 1",
         input: "",
         bad_read: 0,

@@ -33,6 +33,7 @@ const ABOUT: About = About {
     blocks: 0,
     events: 1,
     quantum: 0,
+    group: 0,
 };
 
 /// One of the two ports of a script.

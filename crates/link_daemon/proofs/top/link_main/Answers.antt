@@ -21,5 +21,8 @@ returns-in-Some-Decode-clause-unbegun g c memory none = (refl, refl, none_for_me
 pub returns-in-Some-Filter-clause-unbegun : goal.returns-in-Some-Filter-clause-unbegun
 returns-in-Some-Filter-clause-unbegun g c memory none = (refl, refl, none_for_memory _ _ memory c.filter_main.ensures.unwritten)
 
+pub returns-in-Some-Midi-clause-unbegun : goal.returns-in-Some-Midi-clause-unbegun
+returns-in-Some-Midi-clause-unbegun g c memory none = (refl, refl, none_for_memory _ _ memory c.midi_main.ensures.unwritten)
+
 pub returns-in-Some-Load-clause-unbegun : goal.returns-in-Some-Load-clause-unbegun
 returns-in-Some-Load-clause-unbegun g c memory none = (refl, refl, none_for_memory _ _ memory c.load_main.ensures.unwritten)
