@@ -3,7 +3,8 @@
 # and of 11 words in 3,000 rounds of 1,000 calls, and runs it RUNS times (three where not given). Where there is a C++ compiler (CXX,
 # clang++, g++ or c++) each run is followed by one of the same loops over a triple buffer in C++ of the same widths and layout, without
 # proofs: three rows of words and one atomic word that has the back row and whether it is fresh, in two forms. `ordered`: each word is
-# stored with sequential consistency, as ours is. `relaxed`: the words are relaxed, and the one exchange alone orders them. One thread:
+# stored with sequential consistency, as ours is, so that each call makes as many steps of the same order as ours, and the best rounds of
+# `read` and `publish` are told over its own. `relaxed`: the words are relaxed, and the one exchange alone orders them. One thread:
 # `read` finds nothing new; `publish` makes rows that no one reads; `both` makes a row and reads it. Two threads: one makes rows while the
 # other reads; of each only the rounds count during which the other went on. Beside them `store` and `load` write and read as many plain
 # words, in turn in four rows of a list. A figure is what a call took in the best round of all runs and, in brackets, in the middle one of

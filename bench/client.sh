@@ -33,6 +33,8 @@ enum Work {
     TwoTimelines,
     ClientFromSession,
     SessionFromClient,
+    StateAlone,
+    StateAndNumber,
     OneState,
     SetTempo,
     ForceBeat,
@@ -246,6 +248,8 @@ fn result_of(work: Work, k: u64) -> i64 {
         }
         Work::ClientFromSession => returned(k),
         Work::SessionFromClient => converted(k),
+        Work::StateAlone => folded_state(&state(k)),
+        Work::StateAndNumber => folded_state(&state(k)) ^ place(k, 10),
         Work::OneState => folded_state(&state(k)) ^ place(k, 11) ^ place(k, 10) ^ bar(k),
         Work::SetTempo => tempo_set(k),
         Work::ForceBeat => forced(k),
@@ -292,6 +296,8 @@ fn main(rt: HostRuntime) -> io::Result<()> {
     tell(&rt, "two_timelines", Work::TwoTimelines)?;
     tell(&rt, "client_from_session", Work::ClientFromSession)?;
     tell(&rt, "session_from_client", Work::SessionFromClient)?;
+    tell(&rt, "state", Work::StateAlone)?;
+    tell(&rt, "state_and_number", Work::StateAndNumber)?;
     tell(&rt, "one_state", Work::OneState)?;
     tell(&rt, "set_tempo", Work::SetTempo)?;
     tell(&rt, "force_beat", Work::ForceBeat)?;
@@ -318,10 +324,10 @@ ROWS = [  # the call, the loop without it, and the aim in nanoseconds, if there 
     ("set_tempo", "one_state", 26),
     ("force_beat", "one_state", 80),
     ("request_beat", "one_state", 150),
-    ("set_quantum", "one_state", None),
-    ("clicks", "one_state", None),
+    ("set_quantum", "state_and_number", None),
+    ("clicks", "state_and_number", None),
     ("between", "three_states", 15),
-    ("row", "one_state", 10),
+    ("row", "state", 10),
     ("from_row", "one_row", 10),
 ]
 SHOWN = {

@@ -584,7 +584,7 @@ SHOWN = {
     "capture_audio": ("`Link::capture_audio`, nothing new, own commit taken", None, (0, 0, 0, 0, 0)),
     "capture_audio_own": ("`Link::capture_audio`, nothing new, own commit laid over", None, (0, 0, 0, 0, 1)),
 }
-AIM = 40
+AIM = 30
 FEW = 4  # so many datagrams more may go out in a measure: the broadcasts, one in 250,000 turns
 
 

@@ -2,7 +2,7 @@
 # What `load` costs: bench/load.sh [RUNS] (five where not given). JORAZHIL_PROGRAM names another program than the built one.
 # 1. `load 7 COUNT` for 1,000, 32,768 and 524,288 events, of each the run that took the processor the least time, less that of `load 7 1`:
 #    nanoseconds an event, and how much dearer an event of the greatest count is than one of 32,768. There are thirty times as many runs
-#    of the small counts.
+#    of the small counts. With JORAZHIL_FORMER that program runs too, by turns, and the ratio of an event of the greatest count is told.
 # 2. What a step takes by kind of event, over a node that is opened as `load` opens it and knows 16 peers, half of them in sessions of
 #    their own. In a temporary folder a program over link_node is proved and built, which takes 2,000 rounds of 8 events of a kind, ten
 #    milliseconds apart, and before each round, untimed, an alive of each peer. It runs RUNS times. A figure is the least that a round
@@ -302,28 +302,41 @@ invariant meet j l 'record { gates : gates_of l.node ≡ 1; app : app_of l.node 
 invariant round_of k l 'record { gates : gates_of l.node ≡ 1; app : app_of l.node ≤ app_of l.initial.node + l.k }' "$standing"
 invariant tell round l 'record { gates : gates_of l.node ≡ 1; app : app_of l.node ≤ l.round * 8 }' "$standing"
 build
-figures "$loader" "$program" "$runs" <<'PY'
+figures "$loader" "$program" "$runs" "${JORAZHIL_FORMER:-}" <<'PY'
 import resource, sys
 from figures import Table, add_call, note, run, timed
 
-loader, stepper, runs = sys.argv[1], sys.argv[2], int(sys.argv[3])
+loader, stepper, runs, former = *sys.argv[1:3], int(sys.argv[3]), sys.argv[4]
+programs = [loader, former] if former else [loader]
 table = Table()
 COUNTS = (1000, 32_768, 524_288)
 
 
 def least(count):
-    told = [run([loader, "load", "7", str(count)]) for _ in range(runs if count > 1000 else 30 * runs)]
-    return [min(numbers) for numbers in zip(*told)]
+    """Of each program the least seconds, seconds of the processor and peak memory of its runs, which take turns."""
+    told = [[run([program, "load", "7", str(count)]) for program in programs] for _ in range(runs if count > 1000 else 30 * runs)]
+    return [[min(numbers) for numbers in zip(*own)] for own in zip(*told)]
 
 
 start = least(1)
-note(f"`load 7 1`: {1000 * start[0]:.2f} ms, {1000 * start[1]:.2f} ms of the processor, {start[2] / 1e6:.1f} MB")
+note(f"`load 7 1`: {1000 * start[0][0]:.2f} ms, {1000 * start[0][1]:.2f} ms of the processor, {start[0][2] / 1e6:.1f} MB")
 ns = {}
 for count in COUNTS:
-    seconds, used, peak = least(count)
-    ns[count] = 1e9 * (used - start[1]) / count
-    table.add(f"`load 7 {count}`: an event", f"{ns[count]:.0f} ns")
-table.add("`load`: an event of 524,288 over one of 32,768", f"{ns[524_288] / ns[32_768]:.2f} times", "at most 1.1 times", ns[524_288] <= 1.1 * ns[32_768])
+    found = least(count)
+    seconds, used, peak = found[0]
+    ns[count] = [1e9 * (own[1] - begun[1]) / count for own, begun in zip(found, start)]
+    table.add(f"`load 7 {count}`: an event", f"{ns[count][0]:.0f} ns")
+few, many = ns[32_768][0], ns[524_288][0]
+table.add("`load`: an event of 524,288 over one of 32,768", f"{many / few:.2f} times", "at most 1.1 times", many <= 1.1 * few)
+if former:
+    before = ns[524_288][1]
+    note(f"`load 7 524288`: an event {many:.1f} ns, of the former program {before:.1f} ns")
+    table.add(
+        "`load 7 524288`: an event, over one of the former program in the same run",
+        f"{many / before:.3f} times",
+        "at most 1.05 times",
+        many <= 1.05 * before,
+    )
 table.add("`load 7 524288`: the whole run", f"{seconds:.2f} s, {used:.2f} s of the processor", "at most 1.5 s", used <= 1.5)
 # No peak of a child is told below that of the process that starts it.
 floor = resource.getrusage(resource.RUSAGE_SELF).ru_maxrss * 1024

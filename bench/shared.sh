@@ -1,9 +1,10 @@
 # shellcheck shell=bash
 # Sourced by each script here. What they measure comes on standard output as rows of docs/PERFORMANCE.md; what else there is to tell of it
 # comes on standard error.
-#   prepare NAME DEP ..   makes `folder`, a temporary copy of the crates, in which a program NAME over these crates has a folder of its
-#                         own beside them, `crate`, with an empty src/; and works there from then on
-#   build                 proves and builds that program, which is then at `program`
+#   prepare NAME DEP ..   makes `folder`, a temporary copy of the crates and of what is built of them, in which a program NAME over these
+#                         crates has a folder of its own beside them, `crate`, with an empty src/; and works there from then on
+#   build                 proves and builds that program, which is then at `program`. Where JORAZHIL_BUILT names a folder, it is kept there,
+#                         and taken from there where one lies there that was built of the same sources
 #   built                 sets `program` to what JORAZHIL_PROGRAM names, or to the clone's own, which is built first where it isn't yet
 #   invariant ..          writes what a loop of that program keeps
 #   figures WORD ..       runs the Python on standard input with these words; it may import bench/figures.py and bench/scripts.py
@@ -16,9 +17,16 @@ trap 'rm -rf "$folder"' EXIT
 
 prepare() {
   command -v rt >/dev/null || { echo "$0: there is no rt on the PATH" >&2; exit 1; }
-  local name=$1
+  local name=$1 rlib
   shift
   tar -C "$here" --exclude='crates/*/out' -cf - crates crates.txt HANDLES | tar -C "$folder" -xf -
+  # By its stamp rt tells whether a library is of these sources, and else proves them.
+  for rlib in "$here"/crates/*/out/rlib/stamp; do
+    [ -e "$rlib" ] || continue
+    rlib=${rlib%/*}
+    mkdir -p "$folder/${rlib#"$here"/}"
+    cp -a "$rlib/." "$folder/${rlib#"$here"/}"
+  done
   echo "$name: $*" >>"$folder/crates.txt"
   crate=$folder/crates/$name
   program=$crate/out/$name
@@ -26,9 +34,26 @@ prepare() {
   cd "$crate"
 }
 
+# A checksum of what that program is built from, and of the toolchain.
+built_from() (
+  # shellcheck source=.ci/program
+  . "$here/.ci/program"
+  here=$folder program=$1
+  { linked_sum; toolchain_mark; } | cksum | tr ' ' -
+)
+
 build() {
+  local kept=
+  if [ -n "${JORAZHIL_BUILT:-}" ]; then
+    kept=$JORAZHIL_BUILT/${program##*/}-$(built_from "$program")
+    if [ -x "$kept" ]; then
+      program=$kept
+      return
+    fi
+  fi
   echo "$0: proving what is measured; this takes some minutes where nothing is kept of it" >&2
   (cd "$crate" && rt run --jobs 1 </dev/null >"$folder/build.log" 2>&1) || { tail -n 40 "$folder/build.log" >&2; exit 1; }
+  if [ -n "$kept" ]; then cp "$program" "$kept"; fi
 }
 
 built() {

@@ -254,6 +254,8 @@ def groups_apart(*runs):
     heard = [run.messages([digits for _, digits in run.heard()]) for run in runs]
     sent = [run.messages([words[4] for words in run.sent]) for run in runs]
     own, another = GROUPS[0], GROUPS[2]
+    told = [run.error.splitlines()[0].rsplit(", ", 1)[-1] for run in runs]
+    want("the group that each tells as it begins", told, [f"group {group}" for group in GROUPS])
     want("the groups that each hears", [groups for _, groups in heard], [{own, another}, {own, another}, {own}])
     want("the groups that each sends with", [groups for _, groups in sent], [{own}, {own}, {another}])
     # Nobody has answered or measured the third one, nor it the others.

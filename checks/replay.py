@@ -227,7 +227,10 @@ class Story:
             words += f" s {self.draw.randrange(2)} {self.time()} {stamp}"
         if self.script.version == 2 and self.draw.random() < 0.5:
             words += f" q {self.one(held.quantum, self.quantum(), self.quantum(), self.quantum())}"
-        at = self.time(held.moment)
+        self.put_commit(words)
+
+    def put_commit(self, words):
+        at = self.time(self.node.moment)
         if self.draw.random() < 0.6 or self.number == LIMIT - 1:
             self.event(f"app {self.later()} {at}{words}")
         else:

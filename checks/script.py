@@ -18,6 +18,7 @@ COMMANDS = {
     "replay": ["Usage: jorazhil replay < SCRIPT", "1,073,741,824 bytes", "500000 is 120 beats a minute"],
     "decode": ["Usage: jorazhil decode < DATAGRAMS", "16,777,216 bytes"],
     "filter": ["Usage: jorazhil filter < PAIRS", "last 512 pairs", "16,777,216 bytes"],
+    "midi": ["Usage: jorazhil midi <LENGTH> <BLOCKS> < SCRIPT", "from 1 to 1000000", "from 0 to 524288", "1,073,741,824 bytes"],
     "load": ["Usage: jorazhil load <SEED> <COUNT>", "from 1 to 524288"],
     "live": [
         "Usage: jorazhil live [OPTIONS] < SCRIPT",
@@ -39,6 +40,7 @@ RUNS = [
     (["lod", "7", "5"], 2, [], ['"lod" is no command; the nearest is `load`\n', *FORMS]),
     (["liev"], 2, [], ['"liev" is no command; the nearest is `live`\n', *FORMS]),
     (["filters"], 2, [], ['"filters" is no command; the nearest is `filter`\n', *FORMS]),
+    (["MIDI", "1", "1"], 2, [], ['"MIDI" is no command; the nearest is `midi`\n', *FORMS]),
     (["replay decode"], 2, [], ['"replay decode" is no command\n', *FORMS]),
     (["--bogus"], 2, [], ['"--bogus" is no command\n', *FORMS]),
     (["help", "lives"], 2, [], ['"lives" is no command; the nearest is `live`\n', *FORMS]),
@@ -46,6 +48,7 @@ RUNS = [
     (["-h"], 0, GENERAL, []),
     (["help"], 0, GENERAL, []),
     (["live", "--blocks", "5", "--help"], 0, COMMANDS["live"], []),
+    (["midi", "20000", "50", "--help"], 0, COMMANDS["midi"], []),
     *((["help", name], 0, texts, []) for name, texts in COMMANDS.items()),
     *(([name, "--help"], 0, texts, []) for name, texts in COMMANDS.items()),
     *(([name, "-h"], 0, texts, []) for name, texts in COMMANDS.items()),
@@ -151,7 +154,7 @@ def main():
         run = copy.run(["replay"])
         asked = copy.was_asked()
         note("jorazhil replay, which has to be built", None if run.returncode == 125 and asked else f"status {run.returncode}, rt {asked!r}")
-        for words in (["replay"], ["decode"], ["live", "--blocks", "0"]):
+        for words in (["replay"], ["decode"], ["midi", "1", "1"], ["live", "--blocks", "0"]):
             error = copy.at_a_terminal(words)
             if error is None:
                 print("skipped: no terminal can be had")

@@ -25,16 +25,25 @@ LOOK = b"at 0 look\n"
 COMMANDS = b"""\
 Usage: jorazhil <COMMAND>
 
-  jorazhil replay < SCRIPT           reads a script on standard input, and writes what the node sends and shows
-  jorazhil decode < DATAGRAMS        reads datagrams in hex on standard input, one a line, and tells in a line what each says
-  jorazhil filter < PAIRS            reads pairs of a sample count and a host time on standard input, one a line, \
-and tells a smooth host time for each
-  jorazhil load <SEED> <COUNT>       runs a node through generated events, and writes how much there was and the last state
-  jorazhil live [OPTIONS] < SCRIPT   plays a live script beside its peers, and writes how much there was and the last state
+  jorazhil replay < SCRIPT                   reads a script on standard input, and writes what the node sends and shows
+  jorazhil decode < DATAGRAMS                reads datagrams in hex on standard input, one a line, and tells in a line what each says
+  jorazhil filter < PAIRS                    reads pairs of a sample count and a host time on standard input, one a line, \
+and gives each a smooth host time
+  jorazhil midi <LENGTH> <BLOCKS> < SCRIPT   reads a script on standard input, plays it in BLOCKS blocks of LENGTH microseconds, \
+and writes the MIDI clock
+  jorazhil load <SEED> <COUNT>               runs a node through generated events, and writes how much there was and the last state
+  jorazhil live [OPTIONS] < SCRIPT           plays a live script beside its peers, and writes how much there was and the last state
 """
 REPLAY = b"Usage: jorazhil replay < SCRIPT\n"
 DECODE = b"Usage: jorazhil decode < DATAGRAMS\n"
 FILTER = b"Usage: jorazhil filter < PAIRS\n"
+MIDI = b"""\
+Usage: jorazhil midi <LENGTH> <BLOCKS> < SCRIPT
+
+Arguments:
+  <LENGTH>  how long each block is, in microseconds, from 1 to 1000000
+  <BLOCKS>  how many blocks, from 0 to 524288
+"""
 LOAD = b"""\
 Usage: jorazhil load <SEED> <COUNT>
 
@@ -135,6 +144,16 @@ TEXTS = [
     (["filter", ""], b"0 0\n", 2, words_at_fault(b'"" is one word too many: filter takes no other word, and reads standard input', FILTER)),
     (["filter", "--"], b"0 0\n", 2, words_at_fault(b'"--" is one word too many: filter takes no other word, and reads standard input', FILTER)),
     (["filter", "--help"], b"0 0\n", 2, words_at_fault(b"filter reads standard input", FILTER)),
+    (["MIDI", "1", "1"], HEAD, 2, words_at_fault(b'"MIDI" is no command', COMMANDS)),
+    (["midi"], HEAD, 2, words_at_fault(b"the following required arguments were not provided:\n  <LENGTH>\n  <BLOCKS>", MIDI)),
+    (["midi", "1"], HEAD, 2, words_at_fault(b"the following required arguments were not provided:\n  <BLOCKS>", MIDI)),
+    (["midi", "0", "1"], HEAD, 2, words_at_fault(b"invalid value '0' for '<LENGTH>': 0 is not in 1..=1000000", MIDI)),
+    (["midi", "1000001", "1"], HEAD, 2, words_at_fault(b"invalid value '1000001' for '<LENGTH>': 1000001 is not in 1..=1000000", MIDI)),
+    (["midi", "1", "524289"], HEAD, 2, words_at_fault(b"invalid value '524289' for '<BLOCKS>': 524289 is not in 0..=524288", MIDI)),
+    (["midi", "1e3", "1"], HEAD, 2, words_at_fault(b"invalid value '1e3' for '<LENGTH>': invalid digit found in string", MIDI)),
+    (["midi", "-1", "1"], HEAD, 2, words_at_fault(b"unexpected argument '-1' found", MIDI)),
+    (["midi", "1", "1", "x"], HEAD, 2, words_at_fault(b"unexpected argument 'x' found", MIDI)),
+    (["midi", "--help"], HEAD, 2, words_at_fault(b"midi plays a script in blocks, and tells its MIDI clock", MIDI)),
     ([b"replay\xff"], HEAD, 2, words_at_fault(b"a word is not UTF-8 text", COMMANDS)),
     (["load"], b"", 2, words_at_fault(b"the following required arguments were not provided:\n  <SEED>\n  <COUNT>", LOAD)),
     (["load", "7", "0"], b"", 2, words_at_fault(b"invalid value '0' for '<COUNT>': 0 is not in 1..=524288", LOAD)),
@@ -227,6 +246,10 @@ TEXTS = [
     (["replay"], HEAD_2 + b"app 0 0 q 5 5\n", 8, at_fault(6, 13, LINE_END, b'"5"')),
     (["replay"], HEAD_2 + b"app 0 0 q 5 s 1 0 0\n", 8, at_fault(6, 13, LINE_END, b'"s"')),
     (["replay"], HEAD_2 + b"app 0 0 q 5\r\n", 8, at_fault(6, 12, QUANTUM, CARRIAGE_RETURN)),
+    # The greatest words, one that begins with a plus, and no block: the whole script is read in any case.
+    (["midi", "1000000", "524288"], b"", 8, at_fault(1, 1, VERSION, TEXT_END)),
+    (["midi", "+5", "1"], HEAD + b"app 0 0 q 3000000\n", 8, at_fault(4, 9, NO_QUANTUM, b'"q"')),
+    (["midi", "1", "0"], HEAD + b"# twice\nend 1\nend\n", 8, at_fault(6, 4, MOMENT, LINE_END)),
     (["live"], b"", 8, at_fault(1, 1, b"`link 1`", TEXT_END)),
     (["live"], b"replay 1\n", 8, at_fault(1, 1, b"`link 1`", b'"replay"')),
     (["live"], b"link 1\nat x tempo\n", 8, at_fault(2, 1, b"`setup` and a tempo and a sync", b'"at"')),
@@ -345,11 +368,11 @@ def no_live_runs(program):
 
 def read_failures(program):
     """A standard input that can't be read: a directory, and one that is closed."""
-    for word in ("replay", "decode", "filter", "live"):
+    for words in (["replay"], ["decode"], ["filter"], ["midi", "1", "1"], ["live"]):
         directory = os.open("/", os.O_RDONLY)
-        found = run(program, [word], stdin=directory, stdout=subprocess.PIPE)
+        found = run(program, words, stdin=directory, stdout=subprocess.PIPE)
         os.close(directory)
-        yield f"{word} of a directory", found, (5, b"", INPUT % DIRECTORY)
+        yield f"{words[0]} of a directory", found, (5, b"", INPUT % DIRECTORY)
     closed = subprocess.run(
         ["/bin/sh", "-c", 'exec "$0" replay <&-', program], stdout=subprocess.PIPE, stderr=subprocess.PIPE, timeout=60, check=False
     )
@@ -363,6 +386,7 @@ def write_failures(program):
         (["replay"], HEAD, b""),
         (["decode"], b"00\n", b""),
         (["filter"], b"0 0\n", b""),
+        (["midi", "1", "1"], HEAD, b""),
         (["load", "7", "40"], b"", b""),
         (["live", "--blocks", "0"], LINK + LOOK, lived),
     ):

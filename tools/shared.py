@@ -218,13 +218,16 @@ class Words(argparse.ArgumentParser):
         self.add_argument("--program", metavar="PROGRAM", default=program, help="the program (../jorazhil beside this tool)")
 
 
-def end_of(name, lines_to_tell, arguments):
-    """Writes the lines that a tool has to tell, and answers its exit status."""
+def end_of(name, to_tell, arguments):
+    """Writes the lines that a tool has to tell, or the bytes of a file, and answers its exit status."""
     try:
-        lines = lines_to_tell(arguments)
+        told = to_tell(arguments)
         if sys.stdout is None:
             raise Refused("standard output could not be written: it is closed")
-        sys.stdout.writelines(lines)
+        if isinstance(told, bytes):
+            sys.stdout.buffer.write(told)
+        else:
+            sys.stdout.writelines(told)
         sys.stdout.flush()
     except Refused as refusal:
         print(f"{name}: {refusal}", file=sys.stderr)
