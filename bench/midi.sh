@@ -2,12 +2,13 @@
 # What `midi` costs: bench/midi.sh [RUNS] (five where not given). JORAZHIL_PROGRAM names another program than the built one.
 # 1. `midi 10000 524288` of a script without events, an hour and a half of clocks at 120 beats a minute: the middle one of RUNS runs, after
 #    one to warm up. With JORAZHIL_FORMER that program runs too, by turns, and the middle one of the ratios is told.
-# 2. What `MidiClock::block` takes, of a clock that runs: with blocks of 10 milliseconds in which no pulse comes and in which one comes, and
-#    what a pulse takes in blocks of 1 millisecond to 1 second at about 60,060 microseconds per beat, of which a second has 400. In a
+# 2. What `MidiClock::block_into` takes, of a clock that runs: with blocks of 10 milliseconds in which no pulse comes and in which one does,
+#    and what a pulse takes in blocks of 1 millisecond to 1 second at about 60,060 microseconds per beat, of which a second has 400. In a
 #    temporary folder a program over link_midi is proved and built, which goes through 100 rounds of blocks; state, timeline and time are
-#    others at each call. Beside it `State::clicks` goes through the same blocks of 10 milliseconds. It runs RUNS times. A figure is the
-#    least that a round took in all runs, less a loop that only makes the states and blocks; a pulse's is what a block took beyond one
-#    without a pulse, over the pulses in it. The times of the events are folded into a number that is the same in each run.
+#    others at each call. Beside it `MidiClock::block`, which clears new room at each call, and `State::clicks` go through the same blocks
+#    of 10 milliseconds. It runs RUNS times. A figure is the least that a round took in all runs, less a loop that only makes the states and
+#    blocks; a pulse's is what a block took beyond one without a pulse, over the pulses in it. The times of the events are folded into a
+#    number that is the same in each run.
 # shellcheck source=bench/shared.sh
 . "$(dirname "${BASH_SOURCE[0]}")/shared.sh"
 runs=${1:-5}
@@ -15,7 +16,7 @@ built
 player=$program
 prepare bench_midi lk_base client_state link_midi
 cat >"$crate/src/main.rt" <<'RT'
-//! Times `MidiClock::block`. A line for each loop: its name, the calls of a round, the nanoseconds of the best round and of all, the events
+//! Times `MidiClock`. A line for each loop: its name, the calls of a round, the nanoseconds of the best round and of all, the events
 //! found, and their times folded into one number.
 #![tactic(auto)]
 
@@ -24,7 +25,7 @@ ghost use Rattle.lk_base.specs.Ranges.{IsWithin};
 ghost use Rattle.client_state.specs.State.{IsTidyState};
 
 use client_state::State;
-use link_midi::MidiClock;
+use link_midi::{MidiClock, MidiEvents};
 use lk_base::Block;
 use std::io;
 use std::time::Instant;
@@ -35,7 +36,8 @@ const ROUNDS: u64 = 100;
 #[derive(Clone, Copy)]
 enum Work {
     Nothing,
-    Midi,
+    Into,
+    Block,
     Clicks,
 }
 
@@ -87,21 +89,39 @@ fn block(mpb: i64, origin: i64, k: u64, after: i64, length: i64) -> Block
 }
 
 #[inline(always)]
-fn played(clock: &mut MidiClock, state: &State, block: Block, so_far: Folded) -> Folded
+fn added(events: &MidiEvents, so_far: Folded) -> Folded {
+    let mut sum = so_far.sum;
+    for event in events.iter() {
+        sum = sum.wrapping_add(event.at);
+    }
+    Folded {
+        events: so_far.events.wrapping_add(events.len() as u64),
+        sum,
+    }
+}
+
+// The events of a block, in room that is kept.
+#[inline(always)]
+fn played(clock: &mut MidiClock, room: &mut MidiEvents, state: &State, block: Block, so_far: Folded) -> Folded
+    requires tidy { IsTidyState state.now }
+    requires start { IsWithin (2 ^ 58) block.start }
+    requires some { pos 1 ≤ℤ block.length }
+    requires short { block.length ≤ℤ pos 1_000_000 }
+{
+    clock.block_into(state, block, room);
+    added(room, so_far)
+}
+
+// The same in new room.
+#[inline(always)]
+fn played_anew(clock: &mut MidiClock, state: &State, block: Block, so_far: Folded) -> Folded
     requires tidy { IsTidyState state.now }
     requires start { IsWithin (2 ^ 58) block.start }
     requires some { pos 1 ≤ℤ block.length }
     requires short { block.length ≤ℤ pos 1_000_000 }
 {
     let found = clock.block(state, block);
-    let mut sum = so_far.sum;
-    for event in found.iter() {
-        sum = sum.wrapping_add(event.at);
-    }
-    Folded {
-        events: so_far.events.wrapping_add(found.len() as u64),
-        sum,
-    }
+    added(&found, so_far)
 }
 
 #[inline(always)]
@@ -126,6 +146,7 @@ fn clicked(state: &State, block: Block, so_far: Folded) -> Folded
 #[inline(always)]
 fn after(
     clock: &mut MidiClock,
+    room: &mut MidiEvents,
     work: Work,
     least: i64,
     late: i64,
@@ -147,7 +168,8 @@ fn after(
             events: so_far.events,
             sum: so_far.sum.wrapping_add(state.timeline.time ^ block.start),
         },
-        Work::Midi => played(clock, &state, block, so_far),
+        Work::Into => played(clock, room, &state, block, so_far),
+        Work::Block => played_anew(clock, &state, block, so_far),
         Work::Clicks => clicked(&state, block, so_far),
     }
 }
@@ -156,6 +178,7 @@ fn after(
 #[inline(always)]
 fn round_of(
     clock: &mut MidiClock,
+    room: &mut MidiEvents,
     work: Work,
     least: i64,
     late: i64,
@@ -173,7 +196,7 @@ fn round_of(
 {
     let mut folded = so_far;
     for k in from..from + calls {
-        folded = after(clock, work, least, late, length, k, folded);
+        folded = after(clock, room, work, least, late, length, k, folded);
     }
     folded
 }
@@ -196,12 +219,14 @@ fn tell(
     requires calls { calls ≤ 10_000 }
 {
     let mut clock = MidiClock::new();
+    let mut room = MidiEvents::new();
     let mut folded = Folded { events: 0, sum: 0 };
     let mut best = u128::MAX;
     let mut whole: u128 = 0;
     for round in 0..ROUNDS {
         let start = Instant::now(rt)?;
-        folded = round_of(&mut clock, work, least, late, length, round * calls, calls, folded);
+        let from = round * calls;
+        folded = round_of(&mut clock, &mut room, work, least, late, length, from, calls, folded);
         let spent = start.elapsed(rt)?.as_nanos();
         best = best.min(spent);
         whole = whole.saturating_add(spent);
@@ -213,15 +238,17 @@ fn tell(
 fn main(rt: HostRuntime) -> io::Result<()> {
     // At 500,000 to 501,023 a pulse comes each 20.8 milliseconds, one of them on the beat.
     tell(&rt, "nothing", Work::Nothing, 500_000, 1000, 10_000, 10_000)?;
-    tell(&rt, "silent", Work::Midi, 500_000, 1000, 10_000, 10_000)?;
-    tell(&rt, "single", Work::Midi, 500_000, -5000, 10_000, 10_000)?;
+    tell(&rt, "silent", Work::Into, 500_000, 1000, 10_000, 10_000)?;
+    tell(&rt, "single", Work::Into, 500_000, -5000, 10_000, 10_000)?;
+    tell(&rt, "silent_anew", Work::Block, 500_000, 1000, 10_000, 10_000)?;
+    tell(&rt, "single_anew", Work::Block, 500_000, -5000, 10_000, 10_000)?;
     tell(&rt, "no_click", Work::Clicks, 500_000, 1000, 10_000, 10_000)?;
     tell(&rt, "click", Work::Clicks, 500_000, -5000, 10_000, 10_000)?;
     // The first pulse behind a beat comes 2502 to 2546 microseconds later.
-    tell(&rt, "millisecond", Work::Midi, 60_060, 2000, 1000, 10_000)?;
-    tell(&rt, "ten", Work::Midi, 60_060, 1000, 10_000, 10_000)?;
-    tell(&rt, "hundred", Work::Midi, 60_060, 1000, 100_000, 1000)?;
-    tell(&rt, "second", Work::Midi, 60_060, 1000, 1_000_000, 100)
+    tell(&rt, "millisecond", Work::Into, 60_060, 2000, 1000, 10_000)?;
+    tell(&rt, "ten", Work::Into, 60_060, 1000, 10_000, 10_000)?;
+    tell(&rt, "hundred", Work::Into, 60_060, 1000, 100_000, 1000)?;
+    tell(&rt, "second", Work::Into, 60_060, 1000, 1_000_000, 100)
 }
 RT
 build
@@ -263,23 +290,27 @@ note(f"{what}: {os.path.getsize(out) / 1e6:.1f} MB, {middle / cat:.2f} times the
 ROUNDS = 100
 told = timed(blocks, runs, ROUNDS)
 pulses = {name: int(call.results[0]) / (call.calls * ROUNDS) for name, call in told.items()}
-for name, wanted in (("nothing", 0), ("silent", 0), ("no_click", 0), ("click", 1)):
+for name, wanted in (("nothing", 0), ("silent", 0), ("silent_anew", 0), ("no_click", 0), ("click", 1)):
     if pulses[name] != wanted:
         sys.exit(f"{name} found {pulses[name]} events in a block")
 # Besides the clocks it starts or continues once.
-if not 1 <= pulses["single"] <= 1 + 2 / ROUNDS:
-    sys.exit(f"single found {pulses['single']} events in a block")
-add_call(table, "`MidiClock::block` of 10 milliseconds without a pulse", told["silent"], told["nothing"], 60)
-add_call(table, "`MidiClock::block` of 10 milliseconds with one pulse", told["single"], told["nothing"], 150)
-for name, click, shown in (("silent", "no_click", "without a pulse"), ("single", "click", "with one pulse")):
+if not 1 <= pulses["single"] == pulses["single_anew"] <= 1 + 2 / ROUNDS:
+    sys.exit(f"single found {pulses['single']} events in a block, and {pulses['single_anew']} in new room")
+kinds = ("without a pulse", "silent", "no_click", 60), ("with one pulse", "single", "click", 150)
+for shown, name, _, aim in kinds:
+    add_call(table, f"`MidiClock::block_into` of 10 milliseconds {shown}", told[name], told["nothing"], aim)
+for shown, name, _, _ in kinds:
+    add_call(table, f"`MidiClock::block` of 10 milliseconds {shown}, in new room", told[f"{name}_anew"], told["nothing"])
+for shown, name, click, _ in kinds:
     ratio = (told[name].least - told["nothing"].least) / (told[click].least - told["nothing"].least)
-    table.add(f"`MidiClock::block` of 10 milliseconds {shown}: its time, over that of `State::clicks` in the same run", f"{ratio:.2f}")
+    table.add(f"`MidiClock::block_into` of 10 milliseconds {shown}: its time, over that of `State::clicks` in the same run", f"{ratio:.2f}")
 costs = {}
 for name, shown in (("millisecond", "1 millisecond"), ("ten", "10 milliseconds"), ("hundred", "100 milliseconds"), ("second", "1 second")):
     costs[name] = (told[name].least - told["silent"].least) / pulses[name]
-    table.add(f"`MidiClock::block`: a pulse in blocks of {shown}, which have {pulses[name]:.1f} each", f"{costs[name]:.1f} ns")
+    table.add(f"`MidiClock::block_into`: a pulse in blocks of {shown}, which have {pulses[name]:.1f} each", f"{costs[name]:.1f} ns")
     note(f"blocks of {shown}: {told[name].least:.1f} ns, whole {told[name].whole:.1f}, folded {' '.join(told[name].results)}")
 ratio = costs["second"] / costs["ten"]
-table.add("`MidiClock::block`: a pulse in blocks of 1 second, over one in blocks of 10 milliseconds", f"{ratio:.2f}", "at most 1.5", ratio <= 1.5)
+what = "`MidiClock::block_into`: a pulse in blocks of 1 second, over one in blocks of 10 milliseconds"
+table.add(what, f"{ratio:.2f}", "at most 1.5", ratio <= 1.5)
 table.show()
 PY

@@ -337,9 +337,9 @@ def steady(mpb, pulse):
 
 
 def seconds():
-    """Whole seconds of a steady tempo."""
-    for mpb, count in ((60_061, 400), (1_234_567, 20), (2_000_000, 13)):
-        yield SECOND, 1, head_of(mpb) + PLAYS, ", ".join(["0 fa"] + [f"{steady(mpb, pulse)} f8" for pulse in range(count)])
+    """A steady tempo, for a second and less."""
+    for mpb, length, count in ((60_061, SECOND, 400), (1_234_567, 300_000, 6), (2_000_000, 250_000, 4)):
+        yield length, 1, head_of(mpb) + PLAYS, ", ".join(["0 fa"] + [f"{steady(mpb, pulse)} f8" for pulse in range(count)])
     # The second of two has as many as it may have: a stop, and sixteenth 100 is the first one half a second later.
     events = ["0 fa"] + [f"{steady(60_060, pulse)} f8" for pulse in range(800)]
     events[601:601] = ["1501500 f26400", "1501500 fb"]
@@ -423,23 +423,23 @@ SPELLINGS = [
 
 def blocks_of(draw, span):
     """Words of blocks that take about so many microseconds."""
-    length = draw.choice([span, span // 2, span // 3, draw.randint(1, span), draw.choice([10, 1000, 2503, 10_000, 20_000]), 1])
+    length = draw.choice([span, span // 2, span // 3, draw.randint(1, span), draw.choice([1, 10, 1000, 2503, 10_000, 20_000])])
     length = max(1, min(length, SECOND))
-    return length, 0 if draw.random() < 0.01 else min(MOST_BLOCKS, max(1, span // length))
+    return length, 0 if draw.random() < 0.01 else min(5000, max(1, span // length))
 
 
 class Story(replay.Story):
     """A story whose events come while blocks are played, and whose beats and starts lie about there."""
 
     def __init__(self, draw, span=None, words=None, mpb=None):
-        self.span = span or draw.choice([3000, 10_000, 30_000, 60_000, 100_000])
+        self.span = span or draw.choice([3000, 10_000, 30_000, 60_000, 60_000])
         self.length, self.blocks = words or blocks_of(draw, self.span)
         self.fixed = mpb
         self.opened = draw.choice([0, 1, 1_000_000, draw.randrange(10**12), replay.LAST - draw.randrange(2 * self.span)])
         super().__init__(draw, now=self.opened)
 
     def mpb(self):
-        quick = [60_060, 60_060, 60_061, self.draw.randrange(60_060, 120_000), self.draw.randrange(60_060, 120_000)]
+        quick = [60_060, 60_060, 60_061] + [self.draw.randrange(60_060, 100_000) for _ in range(5)]
         return self.fixed or self.one(*quick, 500_000, 2_000_000, 3_000_000, self.draw.randrange(60_060, 3_000_001))
 
     def later(self):
@@ -459,20 +459,26 @@ class Story(replay.Story):
         begin = self.opened + self.length * self.draw.randrange(self.blocks + 1)
         return self.one(self.now, begin, self.opened + self.draw.randrange(self.span)) + self.one(0, 0, 0, 1, -1)
 
+    def sixteenths(self):
+        """A number of them since the beat origin."""
+        near, far = self.draw.randrange(-4, 40), self.draw.randrange(16_384)
+        return self.one(0, 0, 0, near, near, far, *[self.one(1, 127, 128, 16_383, 16_384, 16_385, 40_000, -1, -16_384)] * 3)
+
     def sixteenth(self, line):
         """The time of a sixteenth that is near to what is played, or next to it."""
         count = pulse_at(line, self.place()) // 6 + self.one(0, 1)
-        return node.time_at(line, node.clip(line.beat + count * 250_000)) + self.one(-1, 0, 0, 0, 1)
+        near = node.time_at(line, node.clip(line.beat + count * 250_000))
+        first = next((time for time in range(near - 3, near + 4) if pulse_at(line, time) >= 6 * count), near)
+        return first + self.one(-1, 0, 0, 1)
 
     def line(self):
         """A timeline that has a drawn pulse somewhere in what is played; on some the beat goes on, and on some it is clipped there."""
         held, kind = self.node.client, self.draw.random()
         mpb, place = self.one(held.mpb, self.mpb(), self.mpb()), self.place()
-        if kind < 0.15:
+        if kind < 0.22:
             gone = node.beat_at(held, self.now) - held.beat
             return node.Timeline(mpb, held.beat, node.clip(self.now - node.near(gone * mpb, 1_000_000)))
-        sixteenths = self.one(0, 0, 0, 1, 127, 128, 16_383, 16_384, 16_385, -1, -16_384, self.draw.randrange(-4, 40), self.draw.randrange(16_384))
-        pulses = self.one(6 * sixteenths, 6 * sixteenths, 6 * sixteenths, self.draw.randrange(-100, 1000))
+        pulses = self.draw.randrange(-100, 1000) if self.draw.random() < 0.2 else 6 * self.sixteenths()
         time = node.clip(place - pulses * mpb // 24)
         beat = self.one(held.beat, 0, self.time(held.beat))
         if kind > 0.85:
@@ -512,7 +518,7 @@ class Story(replay.Story):
         return node.Timeline(line.mpb, beat, node.time_at(node.Timeline(line.mpb, 0, node.clip(line.time + offset)), beat))
 
 
-STEPS = [Story.commit] * 8 + [Story.peer] * 3 + [Story.tick] * 2 + [Story.bye] * 2 + [Story.hear, Story.ping, Story.pong, Story.end, Story.damaged]
+STEPS = [Story.commit] * 8 + [Story.peer] * 3 + [Story.tick] * 2 + [Story.bye] * 3 + [Story.hear, Story.ping, Story.pong, Story.end, Story.damaged]
 
 
 def played(draw):
@@ -554,23 +560,56 @@ def joined(draw):
 
 
 def again(draw):
-    """It runs, and with most blocks a start comes that is a little later."""
-    length = draw.choice([40_000, 60_000, 100_000])
-    story = Story(draw, 3 * length, (length, 3), draw.randrange(60_060, 80_000))
-    story.event(f"app {story.now} {story.now} s 1 {story.now - draw.randrange(2)} {story.node.client_start.stamp + 1}")
-    for k in range(3):
-        begin = min(replay.LAST, story.opened + k * length)
-        words = f" t {story.fixed} 0 {begin + draw.randrange(length // 2)}" if draw.random() < 0.5 else ""
-        words += f" s {draw.choice([0, 1, 1, 1])} {begin + draw.randrange(length)} {story.node.client_start.stamp + 1}"
+    """It runs, and with most blocks a start comes that is a little later, or another beat."""
+    length, count = draw.choice([20_000, 40_000, 60_000]), 4
+    story = Story(draw, count * length, (length, count), draw.randrange(60_060, 80_000))
+    begins = [min(replay.LAST, story.opened + k * length) for k in range(count)]
+    for k, begin in enumerate([story.opened, *begins]):
+        words, place = "", begin + draw.randrange(length)
+        at = max(begin + 1, place - draw.randrange(15_000)) if k else begin - draw.randrange(2)
+        if draw.random() < 0.6:
+            words += f" t {story.fixed} 0 {place - story.sixteenths() * story.fixed // 4}"
+        if k == 0 or draw.random() < 0.7:
+            words += f" s {draw.choice([0, 1, 1, 1]) if k else 1} {at} {story.node.client_start.stamp + 1}"
         story.event(f"app {begin} {begin}{words}")
     return story
 
 
+def pinned(draw):
+    """A sixteenth at an end of a block or between, and a start at it, or next to it."""
+    story = Story(draw, 6000, (2000, 3), draw.randrange(60_060, 80_000))
+    place, begin = story.opened + draw.choice([0, 1999, 2000, 3999, draw.randrange(6000)]), story.now
+    story.event(f"app {begin} {begin} t {story.fixed} 0 {place - story.sixteenths() * story.fixed // 4}")
+    line = story.node.client
+    place = next((time for time in range(place - 3, place + 4) if pulses(line, time)), place)
+    story.event(f"app {begin} {begin} s 1 {place + draw.choice([-1, 0, 0, 1])} {story.node.client_start.stamp + 1}")
+    return story
+
+
 def slow(draw):
-    """Long beats. Halves count at 2,000,000 alone, the one tempo of which a pulse can be at one."""
-    span = draw.choice([200_000, 300_000])
-    story = Story(draw, span, mpb=draw.choice([2_000_000, 2_000_000, draw.randrange(300_000, 3_000_001)]))
-    story.go(draw.randrange(4), STEPS)
+    """Long beats, of which a pulse comes in the blocks. At 2,000,000 alone a pulse can be at half a microbeat, and then all are."""
+    story = Story(draw, draw.choice([20_000, 60_000, 100_000]), mpb=draw.choice([2_000_000, 2_000_000, draw.randrange(300_000, 3_000_001)]))
+    count = draw.choice([draw.randrange(1, 100), draw.randrange(-100, 0), 6 * story.sixteenths()])
+    place = story.opened + draw.randrange(story.span)
+    story.event(f"app {story.now} {story.now} t {story.fixed} 0 {node.clip(place - count * story.fixed // 24)}")
+    story.go(draw.randrange(3), STEPS)
+    return story
+
+
+def clipped(draw):
+    """Beats that are clipped while blocks are played, or till just before."""
+    story = Story(draw, draw.choice([10_000, 30_000]))
+    for k in range(draw.randrange(1, 3)):
+        now, mpb = min(replay.LAST, story.opened + k * story.length), story.mpb()
+        if draw.random() < 0.6:
+            time = now - draw.randrange(story.span)
+            beat = LIMIT - (now + draw.randrange(story.span) - time) * 1_000_000 // mpb
+        else:
+            # By whole beats, so that a pulse would come there.
+            time = now + draw.choice([draw.randrange(1, story.span), mpb * draw.randrange(1, 5)])
+            beat = -LIMIT + draw.randrange((time - now) * 1_000_000 // mpb + 2)
+        start = f" s 1 {now + draw.randrange(story.span)} {story.node.client_start.stamp + 1}" if draw.random() < 0.5 else ""
+        story.event(f"app {now} {now} t {mpb} {beat} {time}{start}")
     return story
 
 
@@ -586,7 +625,8 @@ def full(draw):
 
 def drawn(draw):
     """Words and scripts."""
-    for kind, count in ((played, 220), (at_once, 30), (joined, 30), (again, 20), (slow, 16), (full, 1)):
+    yield ("1000000", "0"), played(draw).text()
+    for kind, count in ((played, 210), (at_once, 30), (joined, 30), (again, 36), (pinned, 40), (slow, 20), (clipped, 24), (full, 1)):
         for _ in range(count):
             story = kind(draw)
             yield (str(story.length), str(story.blocks)), story.text()
