@@ -249,7 +249,7 @@ PLAYS = "app 0 0 s 1 0 1\n"
 WORKED = [
     (100_000, 1, HEAD, TENTH),
     (50_000, 2, HEAD, TENTH),
-    (1, 100_000, HEAD, TENTH),
+    (1, 20_835, HEAD, "0 f8, 20834 f8"),
     (100_000, 1, HEAD_2, TENTH),
     (100_000, 0, HEAD + PLAYS, ""),
     # A pulse is in the first microsecond of a block, and in the last one.
@@ -337,8 +337,8 @@ def steady(mpb, pulse):
 
 
 def seconds():
-    """A steady tempo, for a second and less."""
-    for mpb, length, count in ((60_061, SECOND, 400), (1_234_567, 300_000, 6), (2_000_000, 250_000, 4)):
+    """A steady tempo."""
+    for mpb, length, count in ((60_061, 100_000, 40), (1_234_567, 300_000, 6), (2_000_000, 250_000, 4)):
         yield length, 1, head_of(mpb) + PLAYS, ", ".join(["0 fa"] + [f"{steady(mpb, pulse)} f8" for pulse in range(count)])
     # The second of two has as many as it may have: a stop, and sixteenth 100 is the first one half a second later.
     events = ["0 fa"] + [f"{steady(60_060, pulse)} f8" for pulse in range(800)]
@@ -561,7 +561,7 @@ def joined(draw):
 
 def again(draw):
     """It runs, and with most blocks a start comes that is a little later, or another beat."""
-    length, count = draw.choice([20_000, 40_000, 60_000]), 4
+    length, count = draw.choice([20_000, 30_000, 40_000]), 4
     story = Story(draw, count * length, (length, count), draw.randrange(60_060, 80_000))
     begins = [min(replay.LAST, story.opened + k * length) for k in range(count)]
     for k, begin in enumerate([story.opened, *begins]):
