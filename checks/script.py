@@ -25,6 +25,12 @@ COMMANDS = {
         *("--events <N>", "--blocks <N>", "--quantum <N>", "--group <N>", "--record"),
         "2 hours 55 minutes",
     ],
+    "control": [
+        "Usage: jorazhil control [OPTIONS] <ENDPOINT> < SCRIPT",
+        *("<ENDPOINT>", "--events <N>", "--quantum <N>", "--group <N>"),
+        "without a password",
+        "tools/control.py",
+    ],
 }
 GENERAL = ["Usage: jorazhil <COMMAND>", "jorazhil help COMMAND", "JORAZHIL_TRY=1", "Exit status:", *(f"jorazhil {name} " for name in COMMANDS)]
 FORMS = ["Usage: jorazhil <COMMAND>", *(f"jorazhil {name} " for name in COMMANDS)]
@@ -40,6 +46,7 @@ RUNS = [
     (["lod", "7", "5"], 2, [], ['"lod" is no command; the nearest is `load`\n', *FORMS]),
     (["liev"], 2, [], ['"liev" is no command; the nearest is `live`\n', *FORMS]),
     (["filters"], 2, [], ['"filters" is no command; the nearest is `filter`\n', *FORMS]),
+    (["controls", "127.0.0.1:1"], 2, [], ['"controls" is no command; the nearest is `control`\n', *FORMS]),
     (["MIDI", "1", "1"], 2, [], ['"MIDI" is no command; the nearest is `midi`\n', *FORMS]),
     (["replay decode"], 2, [], ['"replay decode" is no command\n', *FORMS]),
     (["--bogus"], 2, [], ['"--bogus" is no command\n', *FORMS]),
@@ -49,6 +56,7 @@ RUNS = [
     (["help"], 0, GENERAL, []),
     (["live", "--blocks", "5", "--help"], 0, COMMANDS["live"], []),
     (["midi", "20000", "50", "--help"], 0, COMMANDS["midi"], []),
+    (["control", "127.0.0.1:1", "--help"], 0, COMMANDS["control"], []),
     *((["help", name], 0, texts, []) for name, texts in COMMANDS.items()),
     *(([name, "--help"], 0, texts, []) for name, texts in COMMANDS.items()),
     *(([name, "-h"], 0, texts, []) for name, texts in COMMANDS.items()),
@@ -154,7 +162,7 @@ def main():
         run = copy.run(["replay"])
         asked = copy.was_asked()
         note("jorazhil replay, which has to be built", None if run.returncode == 125 and asked else f"status {run.returncode}, rt {asked!r}")
-        for words in (["replay"], ["decode"], ["midi", "1", "1"], ["live", "--blocks", "0"]):
+        for words in (["replay"], ["decode"], ["midi", "1", "1"], ["live", "--blocks", "0"], ["control", "127.0.0.1:1"]):
             error = copy.at_a_terminal(words)
             if error is None:
                 print("skipped: no terminal can be had")

@@ -33,6 +33,7 @@ and gives each a smooth host time
 and writes the MIDI clock
   jorazhil load <SEED> <COUNT>               runs a node through generated events, and writes how much there was and the last state
   jorazhil live [OPTIONS] < SCRIPT           plays a live script beside its peers, and writes how much there was and the last state
+  jorazhil control <ENDPOINT> < SCRIPT       plays beside its peers, driven line by line by a program that connects to ENDPOINT
 """
 REPLAY = b"Usage: jorazhil replay < SCRIPT\n"
 DECODE = b"Usage: jorazhil decode < DATAGRAMS\n"
@@ -62,6 +63,18 @@ to 1099511627776 [default: 4000000]
       --group <N>    the group of the nodes that hear each other, from 0, which all Link programs are in, to 65535 [default: 0]
       --record       also writes the run's replay script
 """
+CONTROL = b"""\
+Usage: jorazhil control [OPTIONS] <ENDPOINT> < SCRIPT
+
+Arguments:
+  <ENDPOINT>  where the client connects, as 127.0.0.1:20900
+
+Options:
+      --events <N>   how many events the journal takes, from 1 to 524288 [default: 262144]
+      --quantum <N>  the length in microbeats that beats are counted in at first, from 0, which is none, \
+to 1099511627776 [default: 4000000]
+      --group <N>    the group of the nodes that hear each other, from 0, which all Link programs are in, to 65535 [default: 0]
+"""
 INPUT = b"jorazhil: standard input could not be read: %s; nothing was written\n"
 SINK = b"jorazhil: standard output could not be written: %s; what was written is the front of the output\n"
 DIRECTORY, DESCRIPTOR, FULL = b"Is a directory (os error 21)", b"Bad file descriptor (os error 9)", b"No space left on device (os error 28)"
@@ -84,6 +97,11 @@ EVENTS = (
 )
 TOO_MANY = b"jorazhil: the script has more than 4096 commands; nothing was run or written\n"
 TOO_LONG = b"jorazhil: the input is longer than 16777216 bytes; nothing was written\n"
+
+# Where a client would connect, which nobody comes to in these runs, and words that name no such place.
+CLIENT = "127.0.0.1:0"
+NO_ENDPOINTS = ["", "x", "localhost:1", "127.0.0.1", "127.0.0.1:", "127.0.0.1:65536", "1.2.3.256:1", "1.2.3:1", "01.2.3.4:1", "1.2.3.4:1 ", "[::1]:1"]
+NO_COMMAND = b"no command: a script for `control` has none, as its client gives them"
 
 GATE_OR_COMMAND = b"`gate`, `to` or a command: `at` or `block`"
 ACT = b"`tempo`, `force`, `request`, `quantum`, `play`, `stop` or `look`"
@@ -115,6 +133,10 @@ CARRIAGE_RETURN = b"a carriage return (lines end in line feeds alone)"
 
 def words_at_fault(reason, forms):
     return b"jorazhil: " + reason + b"\n\n" + forms
+
+
+def no_endpoint(word):
+    return b'"%s" is no endpoint: four numbers from 0 to 255 parted by dots, a colon and a port, as 127.0.0.1:20900' % word.encode()
 
 
 def at_fault(line, column, expected, found):
@@ -183,6 +205,14 @@ TEXTS = [
     (["live", "x"], LINK, 2, words_at_fault(b"unexpected argument 'x' found", LIVE)),
     (["live", "--record", "x"], LINK, 2, words_at_fault(b"unexpected argument 'x' found", LIVE)),
     (["live", "--record", "--record"], LINK, 2, words_at_fault(b"the argument '--record' cannot be used multiple times", LIVE)),
+    (["control"], LINK, 2, words_at_fault(b"the following required arguments were not provided:\n  <ENDPOINT>", CONTROL)),
+    (["control", "--help"], LINK, 2, words_at_fault(b"control listens at ENDPOINT for a client that drives a node line by line", CONTROL)),
+    (["control", CLIENT, "x"], LINK, 2, words_at_fault(b"unexpected argument 'x' found", CONTROL)),
+    (["control", CLIENT, "--record"], LINK, 2, words_at_fault(b"unexpected argument '--record' found", CONTROL)),
+    (["control", CLIENT, "--blocks", "1"], LINK, 2, words_at_fault(b"unexpected argument '--blocks' found", CONTROL)),
+    (["control", "--events", "0", CLIENT], LINK, 2, words_at_fault(b"invalid value '0' for '--events <N>': 0 is not in 1..=524288", CONTROL)),
+    (["control", CLIENT, "--group", "65536"], LINK, 2, words_at_fault(b"invalid value '65536' for '--group <N>': 65536 is not in 0..=65535", CONTROL)),
+    *((["control", word], LINK, 2, words_at_fault(no_endpoint(word), CONTROL)) for word in NO_ENDPOINTS),
     (["replay"], b"", 8, at_fault(1, 1, VERSION, TEXT_END)),
     (["replay"], b"replay 3\n", 8, at_fault(1, 8, VERSION, b'"3"')),
     (["replay"], b"replay 02\n", 8, at_fault(1, 8, VERSION, b'"02"')),
@@ -265,6 +295,15 @@ TEXTS = [
     (["live"], LINK + b"block 0 play\n", 8, at_fault(4, 7, b"the number of a block from 1 to 524288", b'"0"')),
     (["live"], LINK + LOOK * 4097, 10, TOO_MANY),
     (["live"], LINK + b"#" * 16_777_216, 10, TOO_LONG),
+    (["control", CLIENT], b"", 8, at_fault(1, 1, b"`link 1`", TEXT_END)),
+    (["control", CLIENT], b"link 1\n", 8, at_fault(2, 1, b"`setup` and a tempo and a sync", TEXT_END)),
+    (["control", CLIENT], LINK + LOOK, 8, at_fault(4, 1, NO_COMMAND, b'"at"')),
+    (["control", CLIENT], LINK + b"# a comment\n\nblock 1 play\n", 8, at_fault(6, 1, NO_COMMAND, b'"block"')),
+    (["control", CLIENT], LINK + b"look\n", 8, at_fault(4, 1, b"`gate`, `to` or the end of the script", b'"look"')),
+    (["control", CLIENT], LINK + b"gate 127.0.0.1:0\n" * 4, 8, at_fault(7, 1, b"`to` or the end of the script, as there are four gates", b'"gate"')),
+    (["control", CLIENT], LINK + LOOK * 4097, 10, TOO_MANY),
+    (["control", CLIENT], b"at 0\n" * 4097, 10, TOO_MANY),
+    (["control", CLIENT], LINK + b"#" * 16_777_216, 10, TOO_LONG),
     (["decode"], b"00\n000", 8, at_fault(2, 4, b"a second hex digit for the last byte", b"the end of the line")),
     (["decode"], b"0\n", 8, at_fault(1, 2, b"a second hex digit for the last byte", b"the end of the line")),
     (["decode"], b"00\n\n0g\n", 8, at_fault(3, 2, b"a hex digit", b'"g"')),

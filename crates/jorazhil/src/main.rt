@@ -1,13 +1,14 @@
-//! The program: its words, and the real things that its top call reads from, writes to and plays on.
+//! The program: its words, and the real things that its top call reads from, writes to, plays on and talks with.
 #![tactic(auto)]
 
 use link_adapters::{About, Counted};
+use link_control::{MOST_LINES, SessionLog};
 use link_daemon::{
-    BehindName, ClickAudio, ClockPace, HostClock, Report, Status, StdSink, StdSource, UdpPort,
-    link_main, unreadable_usage, usage,
+    BehindName, ClickAudio, ClockPace, HostClock, Report, Status, StdSink, StdSource, TcpTalk,
+    UdpPort, link_main, unreadable_usage, usage,
 };
-use link_words::{CommandName, WordsFault, command_named, live_options};
-use lk_outside::{ListAudio, ListPace, ListPort, Sink, Source};
+use link_words::{CommandName, WordsFault, command_named, control_options, live_options};
+use lk_outside::{ListAudio, ListPace, ListPort, ListTalk, Sink, Source};
 use std::alloc::{AllocError, Global};
 use std::io::{ErrorKind, Write};
 use std::net::Net;
@@ -23,8 +24,9 @@ fn main(rt: HostRuntime) -> ExitCode {
         Ok(words) => {
             let mut input = StdSource::new(rt.stdin());
             let mut out = StdSink::new(rt.stdout());
-            let mut report = Report::new(rt.alloc());
-            let status = if command_named(words) == Some(CommandName::Live) {
+            let status = if is_named(words, CommandName::Live)
+                || is_named(words, CommandName::Control)
+            {
                 // What is sent to another thread stands on the runtime itself here, and not on a type parameter for it.
                 match devices_of(rt, rt.alloc(), words, rt.stderr()) {
                     Ok(
@@ -36,6 +38,9 @@ fn main(rt: HostRuntime) -> ExitCode {
                             mut pace,
                         },
                     ) => {
+                        let mut talk = TcpTalk::new(rt);
+                        let mut report = Report::new(rt.alloc());
+                        let mut log = empty_log(rt.alloc());
                         let status = link_main(
                             &rt,
                             rt.alloc(),
@@ -44,18 +49,20 @@ fn main(rt: HostRuntime) -> ExitCode {
                             &mut input,
                             &mut port,
                             &mut audio,
+                            &mut talk,
                             &mut pace,
                             &mut out,
                             &mut report,
+                            &mut log,
                         );
                         port.tell_refused();
-                        tell_run(&rt, about, &report, status);
+                        tell_run(&rt, words, about, &report, log.lines.len(), status);
                         status
                     }
                     Err(status) => status,
                 }
             } else {
-                run_alone(&rt, rt.alloc(), words, &mut input, &mut out, &mut report)
+                run_alone(&rt, rt.alloc(), words, &mut input, &mut out)
             };
             tell(&rt, status, words, input.last_error(), out.last_error());
             status
@@ -65,6 +72,11 @@ fn main(rt: HostRuntime) -> ExitCode {
     ExitCode::from(status.number())
 }
 
+// Whether the words name this command.
+fn is_named(words: &[String], command: CommandName) -> bool {
+    command_named(words) == Some(command)
+}
+
 // Runs a command that needs no network, device or clock, over objects that hold nothing.
 fn run_alone<R: Threads + Wait + Sync, S: Source, K: Sink>(
     rt: &R,
@@ -72,21 +84,38 @@ fn run_alone<R: Threads + Wait + Sync, S: Source, K: Sink>(
     words: &[String],
     input: &mut S,
     out: &mut K,
-    report: &mut Report,
 ) -> Status {
-    let (Ok(mut port), Ok(mut audio)) = (
+    let (Ok(mut port), Ok(mut audio), Ok(mut talk)) = (
         ListPort::new(alloc, Vec::new(alloc), 0, Vec::new(alloc)),
         ListAudio::new(alloc, Vec::new(alloc), Vec::new(alloc)),
+        ListTalk::new(alloc, Vec::new(alloc), 1, 0, Vec::new(alloc)),
     ) else {
         return Status::Memory;
     };
-    let mut pace = ListPace::new(0);
     link_main(
-        rt, alloc, words, 0, input, &mut port, &mut audio, &mut pace, out, report,
+        rt,
+        alloc,
+        words,
+        0,
+        input,
+        &mut port,
+        &mut audio,
+        &mut talk,
+        &mut ListPace::new(0),
+        out,
+        &mut Report::new(alloc),
+        &mut empty_log(alloc),
     )
 }
 
-/// The devices of a live run, which share a clock that starts when they are made, its seed, and what is told of it.
+// A log without room, which a run under control takes itself.
+fn empty_log(alloc: Global) -> SessionLog {
+    SessionLog {
+        lines: Vec::new(alloc),
+    }
+}
+
+/// The devices of a run on the network, which share a clock that starts when they are made, its seed, and what is told of it.
 #[derive(Drop)]
 struct Devices<R: Net + Wait + Clock + Eprint + Copy + Drop, W: Write + Drop> {
     about: About,
@@ -96,8 +125,8 @@ struct Devices<R: Net + Wait + Clock + Eprint + Copy + Drop, W: Write + Drop> {
     pace: ClockPace<R>,
 }
 
-// The devices of the live run that the words set up. Its seed is the nanoseconds since 1970. Where the words set up none, or the system has
-// no network or tells no time, the status says so.
+// The devices of the run that the words set up. Its seed is the nanoseconds since 1970. Where the words set up none, or the system has no
+// network or tells no time, the status says so.
 fn devices_of<R: Net + Wait + Clock + Eprint + Copy + Drop, W: Write + Drop>(
     rt: R,
     alloc: Global,
@@ -106,7 +135,7 @@ fn devices_of<R: Net + Wait + Clock + Eprint + Copy + Drop, W: Write + Drop>(
 ) -> Result<Devices<R, W>, Status> {
     let about = about_of(alloc, words)?;
     let (Ok(clock), Ok(now)) = (HostClock::started(&rt), SystemTime::now(&rt)) else {
-        return Err(Status::Audio);
+        return Err(untimed(words));
     };
     let port = match UdpPort::new(rt, alloc, clock, about) {
         Ok(port) => port,
@@ -114,7 +143,7 @@ fn devices_of<R: Net + Wait + Clock + Eprint + Copy + Drop, W: Write + Drop>(
         Err(_) => return Err(Status::Port),
     };
     let Ok(audio) = ClickAudio::new(clicks, rt, clock) else {
-        return Err(Status::Audio);
+        return Err(untimed(words));
     };
     let since = now.duration_since(UNIX_EPOCH).unwrap_or_default();
     Ok(Devices {
@@ -126,39 +155,105 @@ fn devices_of<R: Net + Wait + Clock + Eprint + Copy + Drop, W: Write + Drop>(
     })
 }
 
-// How the words set up a live run. The status says that they don't, or that no memory was left to read them.
+// The status where the system tells no time: `control` has no audio device that would lack it.
+fn untimed(words: &[String]) -> Status {
+    if is_named(words, CommandName::Control) {
+        Status::Port
+    } else {
+        Status::Audio
+    }
+}
+
+// How the words set up a run. The status says that they don't, or that no memory was left to read them.
 fn about_of(alloc: Global, words: &[String]) -> Result<About, Status> {
-    match live_options(alloc, words) {
-        Ok(options) => Ok(About {
-            blocks: options.blocks,
-            events: options.events,
-            quantum: options.quantum.unsigned_abs(),
-            group: options.group,
-        }),
+    let about = if is_named(words, CommandName::Control) {
+        about_control(alloc, words)
+    } else {
+        about_live(alloc, words)
+    };
+    match about {
+        Ok(about) => Ok(about),
         Err(WordsFault::NotTaken) => Err(Status::Words),
         Err(WordsFault::Memory) => Err(Status::Memory),
     }
 }
 
-// Tells of a live run that had begun how full its journal got, and whether the node left at once for want of commands. A run that had begun
-// published a state; one that took no command for want of memory had some.
-fn tell_run(rt: &HostRuntime, about: About, report: &Report, status: Status) {
+fn about_live(alloc: Global, words: &[String]) -> Result<About, WordsFault> {
+    let options = live_options(alloc, words)?;
+    Ok(About {
+        command: CommandName::Live.word(),
+        blocks: Some(options.blocks),
+        events: options.events,
+        quantum: options.quantum.unsigned_abs(),
+        group: options.group,
+    })
+}
+
+// No block is played under control.
+fn about_control(alloc: Global, words: &[String]) -> Result<About, WordsFault> {
+    let options = control_options(alloc, words)?;
+    Ok(About {
+        command: CommandName::Control.word(),
+        blocks: None,
+        events: options.events,
+        quantum: options.quantum.unsigned_abs(),
+        group: options.group,
+    })
+}
+
+// Tells of a run that had begun, and so published a state, how full its journal got, and what its commands or its client's lines came to.
+fn tell_run(
+    rt: &HostRuntime,
+    words: &[String],
+    about: About,
+    report: &Report,
+    lines: usize,
+    status: Status,
+) {
     if report.published.is_empty() {
         return;
     }
+    tell_journal(rt, about, report);
+    if is_named(words, CommandName::Control) {
+        tell_lines(rt, lines, status);
+    } else {
+        tell_commands(rt, report, status);
+    }
+}
+
+// Tells how full the journal of a run got.
+fn tell_journal(rt: &HostRuntime, about: About, report: &Report) {
     let took = report.events.len();
     let events = Counted(about.events, "event");
     let _printed = eprintln!(rt; "jorazhil: the journal took {took} of {events}");
-    if report.captures.is_empty() && status != Status::Memory {
-        let _told = if report.plays.is_empty() {
-            eprintln!(rt;
-                "jorazhil: the script had no at command, so the node left its session at once"
-            )
-        } else {
-            eprintln!(rt;
-                "jorazhil: the script had no at command, so the node left its session at once, while its blocks went on"
-            )
-        };
+}
+
+// Tells of a live run whether the node left at once for want of commands. One that took no command for want of memory had some.
+fn tell_commands(rt: &HostRuntime, report: &Report, status: Status) {
+    if !report.captures.is_empty() || status == Status::Memory {
+        return;
+    }
+    let _told = if report.plays.is_empty() {
+        eprintln!(rt;
+            "jorazhil: the script had no at command, so the node left its session at once"
+        )
+    } else {
+        eprintln!(rt;
+            "jorazhil: the script had no at command, so the node left its session at once, while its blocks went on"
+        )
+    };
+}
+
+// Tells how many lines of its client a run took, and what a line is where the client left without one. Where the network, the talk or the
+// memory failed, it may not have been heard to its end.
+fn tell_lines(rt: &HostRuntime, took: usize, status: Status) {
+    let most = Counted(MOST_LINES as u64, "line");
+    let _printed = eprintln!(rt; "jorazhil: the run took {took} of at most {most} of its client");
+    let left = !matches!(status, Status::Port | Status::Talk | Status::Memory);
+    if took == 0 && left {
+        let _told = eprintln!(rt;
+            "jorazhil: the client left without a line; a line ends with a line feed"
+        );
     }
 }
 

@@ -1,4 +1,4 @@
-//! What is told of a live run when it begins.
+//! What is told of a run on the network when it begins.
 
 use crate::counted::{Counted, Millionths};
 use std::fmt;
@@ -9,11 +9,13 @@ const BLOCK_LENGTH: u64 = 20_000;
 /// A million: the microseconds of a second, and the microbeats of a beat.
 const MILLION: u64 = 1_000_000;
 
-/// How a live run was set up: how many blocks of 20 milliseconds it plays at most, how many events find room, the quantum that bars are
-/// counted in at first, in microbeats, which is 0 where there is none, and the group of the messages that are heard and sent.
+/// How a run was set up: the command's word, how many blocks of 20 milliseconds it plays at most, where it plays any, how many events find
+/// room, the quantum that bars are counted in at first, in microbeats, which is 0 where there is none, and the group of the messages that
+/// are heard and sent.
 #[derive(Clone, Copy, Debug)]
 pub struct About {
-    pub blocks: u64,
+    pub command: &'static str,
+    pub blocks: Option<u64>,
     pub events: u64,
     pub quantum: u64,
     pub group: u16,
@@ -21,11 +23,14 @@ pub struct About {
 
 impl fmt::Display for About {
     fn fmt<W: fmt::Write>(&self, f: &mut fmt::Formatter<W>) -> fmt::Result {
-        let blocks = Blocks(self.blocks);
         let events = Counted(self.events, "event");
         let bars = Bars(self.quantum);
         let group = Group(self.group);
-        write!(f, "{blocks}, room for {events}, {bars}{group}")
+        if let Some(blocks) = self.blocks {
+            let blocks = Blocks(blocks);
+            write!(f, "{blocks}, ")?;
+        }
+        write!(f, "room for {events}, {bars}{group}")
     }
 }
 

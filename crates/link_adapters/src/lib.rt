@@ -3,7 +3,7 @@
 //! own.
 //!
 //! In reading order: `behind_name`, `std_source`, `std_sink`; `host_clock`, which the devices share, `clock_pace`, `click_audio`;
-//! `counted` and `about` (what is told of a run), `udp_port`.
+//! `counted` and `about` (what is told of a run), `udp_port`, `tcp_talk`.
 #![tactic(auto)]
 
 mod about;
@@ -14,6 +14,7 @@ mod counted;
 mod host_clock;
 mod std_sink;
 mod std_source;
+mod tcp_talk;
 mod udp_port;
 
 pub use about::About;
@@ -24,6 +25,7 @@ pub use counted::Counted;
 pub use host_clock::{HostClock, moment_of};
 pub use std_sink::StdSink;
 pub use std_source::StdSource;
+pub use tcp_talk::TcpTalk;
 pub use udp_port::{
     RefusedSends, Taken, UdpPort, address_of, endpoint_of, posted_of, taken_of, waited_of,
 };

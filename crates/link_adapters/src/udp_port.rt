@@ -102,7 +102,8 @@ impl<R: Net + Clock + Wait + Eprint + Copy + Drop> UdpPort<R> {
         let rt = &self.rt;
         let gates = Named(locals);
         let about = self.about;
-        let _printed = eprintln!(rt; "jorazhil: live at {gates}; {about}");
+        let command = about.command;
+        let _printed = eprintln!(rt; "jorazhil: {command} at {gates}; {about}");
     }
 
     // Tells why no gates could be bound, and of the run.
@@ -110,7 +111,8 @@ impl<R: Net + Clock + Wait + Eprint + Copy + Drop> UdpPort<R> {
         let rt = &self.rt;
         let about = self.about;
         let _printed = eprintln!(rt; "jorazhil: {unbound}; the run goes on without the network");
-        let _told = eprintln!(rt; "jorazhil: live without the network; {about}");
+        let command = about.command;
+        let _told = eprintln!(rt; "jorazhil: {command} without the network; {about}");
     }
 
     // Takes note of a datagram that wasn't sent: one that the system refused is counted by its destination; of a port that failed it is

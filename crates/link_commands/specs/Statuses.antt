@@ -47,6 +47,8 @@ status_number_of (status.Script g line reason) = 8
 status_number_of status.Memory = 9
 status_number_of (status.TooLong limit) = 10
 status_number_of (status.TooMany limit) = 10
+status_number_of status.Talk = 11
+status_number_of status.Lines = 12
 
 -- what holds where the status is one of those that write nothing
 abbrev pub IfNothingWritten : Status → Type 0 → Type 0
@@ -55,6 +57,8 @@ IfNothingWritten status.Sink P = Unit {0}
 IfNothingWritten status.Port P = Unit {0}
 IfNothingWritten status.Audio P = Unit {0}
 IfNothingWritten status.Events P = Unit {0}
+IfNothingWritten status.Talk P = Unit {0}
+IfNothingWritten status.Lines P = Unit {0}
 IfNothingWritten other P = P
 
 -- What a command does that reads a text and writes another: how many bytes it reads at most, the grammar of its texts, what it writes for

@@ -1,9 +1,7 @@
 //! The lines of `midi`, handed over.
 
-ghost use Rattle.std.specs.Prelude.{◌≡◌, ◌≤◌, ◌+◌, ◌*◌, ◌++◌, length, All, OnOk, OnErr};
+ghost use Rattle.std.specs.Prelude.{◌≡◌, All, OnOk, OnErr};
 ghost use Rattle.std.specs.List.{flat_map};
-ghost use Rattle.arrayvec.specs.ArrayVec.{array_vec_len};
-ghost use Rattle.hex.specs.Hex.{encode_lower};
 ghost use Rattle.lk_outside.specs.Faults.{Rose};
 ghost use Rattle.link_midi.specs.Messages.{IsMessage};
 ghost use Rattle.link_commands.specs.MidiText.{blocks_line_of, midi_line_of};
@@ -11,7 +9,7 @@ ghost use Rattle.link_commands.specs.Outlet.{HandsOver, HandsPart};
 
 use crate::outlet::{Outlet, SinkFailed};
 use link_midi::MidiEvent;
-use link_text::{LineBuf, put, put_decimal, put_signed};
+use link_text::{LineBuf, put, put_decimal, put_short_hex, put_signed};
 use lk_outside::Sink;
 
 /// Hands over the lines of MIDI events.
@@ -46,30 +44,8 @@ fn put_midi(line: &mut LineBuf, event: &MidiEvent)
     put(line, b"midi ");
     put_signed(line, event.at);
     put(line, b" ");
-    put_bytes(line, event.message.bytes().as_slice());
+    put_short_hex(line, event.message.bytes().as_slice());
     put(line, b"\n");
-}
-
-// Appends at most 3 bytes in hex digits of lower case.
-fn put_bytes(line: &mut LineBuf, bytes: &[u8])
-    requires short { length bytes.now ≤ 3 }
-    requires room { array_vec_len line.old + 2 * length bytes.now ≤ 1200 }
-    ensures items { line.new.items ≡ line.old.items ++ encode_lower bytes.now }
-    ensures len { array_vec_len line.new ≡ array_vec_len line.old + 2 * length bytes.now }
-{
-    let mut digits = [0u8; 6];
-    put_bytes_by(line, bytes, &mut digits[..2 * bytes.len()]);
-}
-
-// Appends bytes in hex digits of lower case, by way of room for just those.
-fn put_bytes_by(line: &mut LineBuf, bytes: &[u8], digits: &mut [u8])
-    requires digits { length digits.old ≡ 2 * length bytes.now }
-    requires room { array_vec_len line.old + 2 * length bytes.now ≤ 1200 }
-    ensures items { line.new.items ≡ line.old.items ++ encode_lower bytes.now }
-    ensures len { array_vec_len line.new ≡ array_vec_len line.old + 2 * length bytes.now }
-{
-    hex::encode_to_slice(bytes, digits).unwrap();
-    put(line, digits);
 }
 
 /// Hands over the last line.

@@ -17,6 +17,8 @@ pub enum Grammar {
     LiveScript,
     /// Pairs of a sample count and a host time, one a line.
     Pairs,
+    /// The head of a live script, without commands.
+    LiveHead,
 }
 
 /// How a call of the program ended. Its number is the program's exit status, and its text is for the person who ran it.
@@ -50,8 +52,8 @@ pub enum Status {
         line: u32,
         reason: Reason,
     },
-    /// 9: there was no memory. Nothing was written, unless a live run had begun.
-    #[error("no memory was left; nothing was written, unless a live run had begun: it ended its script there")]
+    /// 9: there was no memory. Nothing was written, unless a run on the network had begun.
+    #[error("no memory was left; nothing was written, unless a run on the network had begun: it ended there")]
     Memory,
     /// 10: the input is longer than so many bytes, which are what the command takes.
     #[error("the input is longer than {limit} bytes; nothing was written")]
@@ -63,6 +65,12 @@ pub enum Status {
     TooMany {
         limit: u64,
     },
+    /// 11: the client's endpoint could not be opened, or a call of the talk with it failed. The client was served no further.
+    #[error("the client could not be served: its endpoint could not be opened (its address must be this machine's, and its port free), or the connection broke; the run ended there")]
+    Talk,
+    /// 12: the client sent one line more than are answered.
+    #[error("the client sent more than 4096 lines, which are what one run answers; it ended there")]
+    Lines,
 }
 
 impl Status {
@@ -81,6 +89,8 @@ impl Status {
             Status::Script { .. } => 8,
             Status::Memory => 9,
             Status::TooLong { .. } | Status::TooMany { .. } => 10,
+            Status::Talk => 11,
+            Status::Lines => 12,
         }
     }
 }

@@ -1,5 +1,5 @@
 -- Causes that exclude each other, and an end by the first cause that holds.
-use Rattle.std.proofs.Common.{◌≡◌, ◌<◌, ◌-◌, ◌^◌, ◌++◌, length, List, ℕ, Option, Some, None, IsSome, ap, sym, subst, ◌∙◌, arith}
+use Rattle.std.proofs.Common.{◌≡◌, ◌<◌, ◌≤◌, ◌-◌, ◌^◌, ◌++◌, length, Bool, false, true, List, ℕ, Option, Some, None, IsSome, ap, sym, subst, ◌∙◌, arith, length-append}
 use Rattle.std.proofs.lemmas.List.{append-nil}
 use Rattle.lk_outside.specs.Faults.{Rose}
 use Rattle.lk_outside.specs.Source.{Takes, IsAtEnd}
@@ -30,6 +30,10 @@ first_is_one P told Rest same rest one other (later never more) (later never' mo
 -- a count that can rise does not both rise and stay
 pub rose_and_quiet : (before now : ℕ) → before < 2 ^ 64 - 1 → Rose before now → now ≡ before → ⊥
 rose_and_quiet before now counts rose quiet = omega (arith, rose.risen)
+
+-- a journal has not both ended and not
+pub ended_and_not : (ended : Bool) → ended ≡ true → ended ≡ false → ⊥
+ended_and_not ended is_ended goes_on = cc
 
 -- what was taken up to the end is all that was told
 pub taken_is_all : (xs bytes : List ℕ) (after : Option (List ℕ)) → Takes (Some xs) bytes after → IsAtEnd after → xs ≡ bytes
@@ -64,3 +68,20 @@ more_and_whole limit input input' bytes tells over read =
     let same : over.bytes ≡ bytes = one_text input.told input'.told over.bytes bytes tells over.taken read.whole.taken read.whole.ended in
     let long : length over.bytes ≡ length bytes = ap length same in
     omega (arith, read.within, over.more)
+
+-- what is taken is no more than what was told
+taken_is_some : (xs bytes : List ℕ) (after : Option (List ℕ)) → Takes (Some xs) bytes after → length xs < length bytes → ⊥
+taken_is_some xs bytes None takes more = cc
+taken_is_some xs bytes (Some ys) takes more =
+    let all : Some xs ≡ Some (bytes ++ ys) = takes in
+    let same : xs ≡ bytes ++ ys = cc in
+    let long : length xs ≡ length (bytes ++ ys) = ap length same in
+    omega (arith, length-append bytes ys)
+
+-- of a text within the limit no more than the limit is taken
+pub within_and_over : (limit : ℕ) (bytes : List ℕ) (input : Stream) (after : Option (List ℕ)) → input.told ≡ Some bytes → length bytes ≤ limit
+    → TakesOver limit input.told after → ⊥
+within_and_over limit bytes input after told within over =
+    taken_is_some bytes over.bytes after
+    (let P : Option (List ℕ) → Type 0 = λ before. Takes before over.bytes after in subst P told over.taken)
+    (omega (arith, within, over.more))

@@ -1,15 +1,13 @@
 -- By how a live run ended: which counts of failures rose and which stayed, and whether its journal has ended.
-use Rattle.std.proofs.Common.{◌≡◌, Bool, true, false, ℕ, ℤ, List, [], Option, sym, ◌∙◌}
+use Rattle.std.proofs.Common.{◌≡◌, Bool, true, false, ℕ, ℤ, List, Option}
 use Rattle.lk_base.specs.declared.endpoint.Endpoint.{Endpoint}
 use Rattle.lk_outside.specs.Audio.{AudioContents}
 use Rattle.lk_outside.specs.Faults.{Rose}
 use Rattle.lk_outside.specs.Port.{PortContents}
-use Rattle.link_node.specs.Runs.{published_of}
 use Rattle.link_live.specs.Headline.{LiveSetup}
 use Rattle.link_live.specs.Journal.{has_ended}
 use Rattle.link_live.specs.LiveRun.{EndsLiveRun, first_of}
 use Rattle.link_live.specs.Report.{ReportValue}
-use Rattle.link_live.specs.declared.run.LiveEnd.{LiveEnd}
 use Rattle.link_live.specs.declared.run.LiveEnd.TheVariants as end
 
 -- by how a run ended, what it met
@@ -48,10 +46,3 @@ module _ {setup : LiveSetup} {late : Option ℤ} {port port' : Option PortConten
       let course = run.course in
       let met = laws.well course.captured course.failed course.played course.full run.ended_is in
       (run.port_works met.1, run.audio_works met.2, run.run.recorded.journal.ended met.3)
-
-  -- a run that was begun has published its opening state
-  pub has_published : (ended : LiveEnd)
-      → EndsLiveRun setup late port port' gates port_faults port_faults' audio audio' audio_faults audio_faults' report ended → report.published ≡ [] → ⊥
-  has_published ended run none =
-      let told : [] ≡ published_of report.config report.now report.events = sym none ∙ run.run.recorded.published in
-      cc

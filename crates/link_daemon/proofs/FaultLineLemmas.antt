@@ -2,12 +2,14 @@
 use Rattle.std.proofs.Common.{◌≡◌, sym, ◌∙◌, arith, ℕ, ◌<◌, List, [], ◌∷◌, ◌++◌, length}
 use Rattle.std.proofs.lemmas.List.{append_assoc}
 use Rattle.std.proofs.lemmas.List.Elements.{All-head, All-same}
+use Rattle.link_text.specs.LiveHead.{IsFirstHeadFault}
+use Rattle.link_text.specs.LiveScript.{IsFirstLiveFault}
 use Rattle.link_text.specs.ReplayScript.{IsFirstFault}
 use Rattle.link_commands.specs.BadLines.{IsFirstBad}
 use Rattle.link_commands.specs.HexLines.{IsHexLine, IsBadLine}
 use Rattle.link_commands.specs.PairLines.{IsSomePair, IsNoPair}
 use Rattle.link_commands.specs.Statuses.{replay_command, decode_command, filter_command}
-use Rattle.link_daemon.specs.OneStatus.{HasOneFaultLine}
+use Rattle.link_daemon.specs.OneStatus.{HasOneFaultLine, HasOneHeadFaultLine, HasOneLiveFaultLine}
 use Rattle.link_commands.proofs.HexLineLemmas.{bad_line}
 use Rattle.link_commands.proofs.DecodeLemmas.{all_back}
 
@@ -27,6 +29,13 @@ IsFaultOnce = (text : List ℕ) (k j : ℕ) → IsFirstFault text k → IsFirstF
 
 pub one_script_fault : IsFaultOnce → HasOneFaultLine replay_command
 one_script_fault law text line other p q = law text line other p.0 q.0
+
+-- and of a text that is no live script, or no head of one, whatever else is said of that line
+pub one_live_fault : ((text : List ℕ) (k j : ℕ) → IsFirstLiveFault text k → IsFirstLiveFault text j → k ≡ j) → HasOneLiveFaultLine
+one_live_fault law text line other p q = law text line other p.first q.first
+
+pub one_head_fault : ((text : List ℕ) (k j : ℕ) → IsFirstHeadFault text k → IsFirstHeadFault text j → k ≡ j) → HasOneHeadFaultLine
+one_head_fault law text line other p q = law text line other p.first q.first
 
 no_earlier_bad : (IsGood IsBad : List ℕ → Type 0) (clash : (line : List ℕ) → IsGood line → IsBad line → ⊥) (text : List ℕ) (k j : ℕ)
     → IsFirstBad IsGood IsBad text k → IsFirstBad IsGood IsBad text j → k < j → ⊥

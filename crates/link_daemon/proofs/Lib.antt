@@ -3,8 +3,15 @@ mod StatusLemmas
 mod FaultLineLemmas
 mod CauseLemmas
 mod CourseLemmas
+mod ControlCourseLemmas
+mod ScriptStatusLemmas
 mod LiveStatusLemmas
+mod ControlStatusLemmas
 mod OneStatusLemmas
+mod ValidRunLemmas
 mod ValidInputLemmas
+mod RunLemmas
+mod InputLemmas
 mod LiveLemmas
+mod ControlLemmas
 mod RecordLemmas

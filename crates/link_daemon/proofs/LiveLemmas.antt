@@ -1,7 +1,5 @@
 -- How a call of `live` ends, from how its parts end.
-use Rattle.std.proofs.Common.{◌≡◌, ◌<◌, ◌^◌, inl, inr, ℕ, ℤ, Bool, true, false, List, length, map, Option, Result, Ok, Err, refl, sym, ap, subst, ◌∙◌, w64, FitsSigned, arith}
-use Rattle.std.specs.Prelude.{OnErr, OnOk, is_ok}
-use Rattle.std.proofs.lemmas.Int.{ints}
+use Rattle.std.proofs.Common.{◌≡◌, ◌<◌, ◌^◌, inl, inr, ℕ, ℤ, Bool, true, false, List, length, map, Option, refl, sym, ap, subst, ◌∙◌, arith}
 use Rattle.std.specs.declared.alloc.Global.{Global}
 use Rattle.std.specs.declared.string.String.{String}
 use Rattle.lk_base.specs.Ranges.{IsMoment, IsQuantum}
@@ -27,23 +25,7 @@ use Rattle.link_words.specs.declared.live_words.LiveOptions.{LiveOptions}
 use Rattle.link_commands.specs.declared.status.Status.{Status}
 use Rattle.link_commands.specs.declared.status.Status.TheVariants as status
 use Rattle.link_daemon.proofs.RecordLemmas.{is_config, is_head, whole_record}
-
--- what holds where a result is a success, by whether it is one
-pub where_done : {T E P : Type 0} (result : Result T E) → OnOk result P → is_ok result ≡ true → P
-where_done (Ok value) holds well = holds
-where_done (Err fault) holds well = cc
-
-pub where_failed : {T E P : Type 0} (result : Result T E) → OnErr result P → is_ok result ≡ false → P
-where_failed (Ok value) holds not = cc
-where_failed (Err fault) holds not = holds
-
--- a success is no failure
-pub not_failed : {T E : Type 0} (result : Result T E) (value : T) (fault : E) → result ≡ Ok value → result ≡ Err fault → ⊥
-not_failed result value fault is failed = cc
-
--- a moment is a number of 64 bits
-pub moment_fits : (z : ℤ) → IsMoment z → FitsSigned w64 z
-moment_fits z range = grind (arith, ints)
+use Rattle.link_daemon.proofs.RunLemmas.{wrote_some}
 
 -- how a run ends whose report was written, or in part
 pub run_ended : (setup : LiveSetup) (recorded : Bool) (before after : Outside) (ended : LiveEnd) (wrote : Bool)
@@ -54,14 +36,14 @@ pub run_ended : (setup : LiveSetup) (recorded : Bool) (before after : Outside) (
     → EndsRun setup recorded before after (status_from ended wrote)
 run_ended setup recorded before after end.Well true run whole part replays = record { run = run; written = whole refl; replayable = replays }
 run_ended setup recorded before after end.Well false run whole part replays = record { run = run; written = part refl; replayable = replays }
-run_ended setup recorded before after end.Port true run whole part replays = record { run = run; written = inl (whole refl); replayable = replays }
-run_ended setup recorded before after end.Port false run whole part replays = record { run = run; written = inr (part refl); replayable = replays }
-run_ended setup recorded before after end.Audio true run whole part replays = record { run = run; written = inl (whole refl); replayable = replays }
-run_ended setup recorded before after end.Audio false run whole part replays = record { run = run; written = inr (part refl); replayable = replays }
-run_ended setup recorded before after end.Events true run whole part replays = record { run = run; written = inl (whole refl); replayable = replays }
-run_ended setup recorded before after end.Events false run whole part replays = record { run = run; written = inr (part refl); replayable = replays }
-run_ended setup recorded before after end.Memory true run whole part replays = inr (record { run = run; written = inl (whole refl); replayable = replays })
-run_ended setup recorded before after end.Memory false run whole part replays = inr (record { run = run; written = inr (part refl); replayable = replays })
+run_ended setup recorded before after end.Port wrote run whole part replays =
+    record { run = run; written = wrote_some before.out after.out (live_text_of after.report recorded) wrote whole part; replayable = replays }
+run_ended setup recorded before after end.Audio wrote run whole part replays =
+    record { run = run; written = wrote_some before.out after.out (live_text_of after.report recorded) wrote whole part; replayable = replays }
+run_ended setup recorded before after end.Events wrote run whole part replays =
+    record { run = run; written = wrote_some before.out after.out (live_text_of after.report recorded) wrote whole part; replayable = replays }
+run_ended setup recorded before after end.Memory wrote run whole part replays =
+    inr (record { run = run; written = wrote_some before.out after.out (live_text_of after.report recorded) wrote whole part; replayable = replays })
 
 -- a run of a script that was read, from what its parts say
 module _ (seed : ℕ) (options : LiveOptions) (script later : LiveScript) (config opened : ConfigValue) (now at : ℤ) (most : ℕ)

@@ -10,20 +10,22 @@ use Rattle.link_words.specs.CommandNames.{Names, named_by}
 use Rattle.link_words.specs.CommandWords.{Says}
 use Rattle.link_words.specs.declared.command_name.CommandName.{CommandName}
 use Rattle.link_words.specs.declared.command_name.CommandName.TheVariants as name
+use Rattle.link_control.specs.ControlRun.{EndsTell}
 use Rattle.link_daemon.specs.Ends.{EndsNamed}
 use Rattle.link_words.specs.LoadWords.{IsLoad}
 use Rattle.link_words.specs.MidiWords.{IsMidi, NamesMidi, midi_app}
-use Rattle.link_daemon.specs.Outside.{Outside}
+use Rattle.link_daemon.specs.Outside.{AllSeen}
 use Rattle.link_commands.specs.declared.status.Grammar.{Grammar}
 use Rattle.link_commands.specs.declared.status.Status.{Status}
 use Rattle.link_commands.specs.declared.status.Status.TheVariants as status
 use Rattle.link_commands.specs.Statuses.{Command, Stream, ReadsText, ReadsFault, EndsBy, EndsInput, EndsLoad, EndsMidi, replay_command, decode_command, filter_command, midi_command}
-use Rattle.link_daemon.specs.OneStatus.{CanFail, End, end_of, IsTold, HasOneStatus, HasOneFaultLine, HasOneLiveFaultLine}
+use Rattle.link_daemon.specs.OneStatus.{CanFail, End, end_of, IsTold, TellsTalk, HasOneStatus, HasOneFaultLine, HasOneHeadFaultLine, HasOneLiveFaultLine}
 use Rattle.link_daemon.proofs.CourseLemmas.{CourseLaws}
 use Rattle.link_daemon.proofs.CauseLemmas.{First, here, later, IsOne, first_is_one, rose_and_quiet, one_read, more_and_whole}
 use Rattle.link_commands.proofs.HexLineLemmas.{bad_and_decoded}
 use Rattle.link_commands.proofs.FilterLemmas.{bad_and_filtered}
 use Rattle.link_daemon.proofs.FaultLineLemmas.{IsFaultOnce, one_script_fault, one_bad_line, one_no_pair}
+use Rattle.link_daemon.proofs.ControlStatusLemmas.{one_control}
 use Rattle.link_daemon.proofs.LiveStatusLemmas.{one_live}
 
 -- a text for which a command gives an output has no fault
@@ -226,27 +228,32 @@ one_load words out out' one other counts not_one not_other ends ends' =
 
 -- ---- the program
 
-module _ (courses : CourseLaws) (law : IsFaultOnce) (live_law : HasOneLiveFaultLine) (words : List (String Global)) (seed : ℕ) (input input' : Stream)
-    (before after : Outside) (one other : Status) (tells : IsTold input) (can : CanFail before) (not_one : one ≢ status.Memory)
-    (not_other : other ≢ status.Memory) where
+module _ (courses : CourseLaws) (tell : EndsTell) (law : IsFaultOnce) (live_law : HasOneLiveFaultLine) (head_law : HasOneHeadFaultLine)
+    (words : List (String Global)) (seed : ℕ) (input input' : Stream) (before after : AllSeen) (one other : Status) (tells : IsTold input)
+    (can : CanFail before) (talks : TellsTalk words before) (not_one : one ≢ status.Memory) (not_other : other ≢ status.Memory) where
   one_end : (found : Option CommandName) → EndsNamed found words seed input input' before after one
       → EndsNamed found words seed input input' before after other → end_of one ≡ end_of other
   one_end (Some name.Replay) (ends, aside) (ends', aside') =
-      one_of name.Replay replay_command replay_exclusive (one_script_fault law) words input input' before.out after.out one other tells
-      can.out_counts not_one not_other ends ends'
+      one_of name.Replay replay_command replay_exclusive (one_script_fault law) words input input' before.outside.out after.outside.out one other
+      tells can.out_counts not_one not_other ends ends'
   one_end (Some name.Decode) (ends, aside) (ends', aside') =
-      one_of name.Decode decode_command decode_exclusive one_bad_line words input input' before.out after.out one other tells
-      can.out_counts not_one not_other ends ends'
+      one_of name.Decode decode_command decode_exclusive one_bad_line words input input' before.outside.out after.outside.out one other
+      tells can.out_counts not_one not_other ends ends'
   one_end (Some name.Filter) (ends, aside) (ends', aside') =
-      one_of name.Filter filter_command filter_exclusive one_no_pair words input input' before.out after.out one other tells
-      can.out_counts not_one not_other ends ends'
+      one_of name.Filter filter_command filter_exclusive one_no_pair words input input' before.outside.out after.outside.out one other
+      tells can.out_counts not_one not_other ends ends'
   one_end (Some name.Midi) (ends, aside) (ends', aside') =
-      one_midi (one_script_fault law) words input input' before.out after.out one other tells can.out_counts not_one not_other ends ends'
+      one_midi (one_script_fault law) words input input' before.outside.out after.outside.out one other tells can.out_counts not_one not_other
+      ends ends'
   one_end (Some name.Load) (ends, unread, aside) (ends', unread', aside') =
-      one_load words before.out after.out one other can.out_counts not_one not_other ends ends'
-  one_end (Some name.Live) ends ends' = one_live courses live_law words seed input input' before after one other tells can not_one not_other ends ends'
+      one_load words before.outside.out after.outside.out one other can.out_counts not_one not_other ends ends'
+  one_end (Some name.Live) (ends, untalked) (ends', untalked') =
+      one_live courses live_law words seed input input' before after one other tells can not_one not_other ends ends'
+  one_end (Some name.Control) (ends, soundless) (ends', soundless') =
+      one_control tell head_law words seed input input' before after one other tells can talks not_one not_other ends ends'
   one_end None ends ends' = ap end_of (ends.words_at_fault ∙ sym ends'.words_at_fault)
 
-pub one_status : CourseLaws → IsFaultOnce → HasOneLiveFaultLine → HasOneStatus
-one_status courses law live_law words seed input input' before after one other tells can not_one not_other =
-    one_end courses law live_law words seed input input' before after one other tells can not_one not_other (named_by words)
+pub one_status : CourseLaws → EndsTell → IsFaultOnce → HasOneLiveFaultLine → HasOneHeadFaultLine → HasOneStatus
+one_status courses tell law live_law head_law words seed input input' before after one other tells can talks not_one not_other =
+    one_end courses tell law live_law head_law words seed input input' before after one other tells can talks not_one not_other
+    (named_by words)

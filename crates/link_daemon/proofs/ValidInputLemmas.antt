@@ -1,18 +1,11 @@
 -- A valid input is answered by its output, unless there is no memory.
-use Rattle.std.proofs.Common.{◌≡◌, ◌⊎◌, inl, inr, ◌++◌, ◌<◌, ◌≤◌, length, true, List, [], ℕ, Option, Some, None, refl, sym, subst, ap, ◌∙◌, true≢false, arith, length-append}
+use Rattle.std.proofs.Common.{◌≡◌, ◌⊎◌, inl, inr, List, [], ℕ, refl, subst}
 use Rattle.std.specs.declared.alloc.Global.{Global}
 use Rattle.std.specs.declared.string.String.{String}
 use Rattle.lk_outside.specs.Faults.{Rose}
-use Rattle.lk_outside.specs.Source.{Takes}
-use Rattle.lk_outside.specs.Transfer.{TakesOver}
-use Rattle.link_text.specs.Lines.{lines_of}
-use Rattle.link_text.specs.LiveScript.{IsSomeLiveScript, commands_told}
-use Rattle.link_live.specs.Journal.{has_ended}
-use Rattle.link_daemon.specs.LiveEnds.{EndsLive, ReadsLiveFault, ReadsTooMany}
-use Rattle.link_words.specs.LiveWords.{IsLive}
+use Rattle.link_control.specs.ControlRun.{EndsTell}
 use Rattle.link_words.specs.LoadWords.{IsLoad}
 use Rattle.link_words.specs.MidiWords.{IsMidi}
-use Rattle.link_daemon.specs.Outside.{Outside}
 use Rattle.link_commands.specs.declared.status.Status.{Status}
 use Rattle.link_commands.specs.declared.status.Status.TheVariants as status
 use Rattle.link_commands.specs.MidiText.{midi_text_of}
@@ -20,27 +13,12 @@ use Rattle.link_commands.specs.Statuses.{Command, Stream, EndsBy, EndsInput, End
 use Rattle.link_words.specs.CommandNames.{Names}
 use Rattle.link_words.specs.declared.command_name.CommandName.{CommandName}
 use Rattle.link_words.specs.declared.command_name.CommandName.TheVariants as name
-use Rattle.link_daemon.specs.ValidInput.{IsValidFor, IsValidLive, CompletesLive, CompletesLoad, CompletesMidi, CompletesValid, CompleteValid}
-use Rattle.link_daemon.proofs.CauseLemmas.{told_is_read}
-use Rattle.link_daemon.proofs.CourseLemmas.{CourseLaws, audio_met, events_met, port_met}
+use Rattle.link_daemon.specs.ValidInput.{IsValidFor, CompletesLoad, CompletesMidi, CompletesValid, CompleteValid}
+use Rattle.link_daemon.proofs.CauseLemmas.{told_is_read, within_and_over}
+use Rattle.link_daemon.proofs.CourseLemmas.{CourseLaws}
 use Rattle.link_daemon.proofs.StatusLemmas.{as_named}
 use Rattle.link_daemon.proofs.OneStatusLemmas.{AreExclusive, replay_exclusive, decode_exclusive, filter_exclusive, midi_exclusive}
-
--- what is taken is no more than what was told
-taken_is_some : (xs bytes : List ℕ) (after : Option (List ℕ)) → Takes (Some xs) bytes after → length xs < length bytes → ⊥
-taken_is_some xs bytes None takes more = cc
-taken_is_some xs bytes (Some ys) takes more =
-    let all : Some xs ≡ Some (bytes ++ ys) = takes in
-    let same : xs ≡ bytes ++ ys = cc in
-    let long : length xs ≡ length (bytes ++ ys) = ap length same in
-    omega (arith, length-append bytes ys)
-
-within_and_over : (limit : ℕ) (bytes : List ℕ) (input : Stream) (after : Option (List ℕ)) → input.told ≡ Some bytes → length bytes ≤ limit
-    → TakesOver limit input.told after → ⊥
-within_and_over limit bytes input after told within over =
-    taken_is_some bytes over.bytes after
-    (let P : Option (List ℕ) → Type 0 = λ before. Takes before over.bytes after in subst P told over.taken)
-    (omega (arith, within, over.more))
+use Rattle.link_daemon.proofs.ValidRunLemmas.{completes_control, completes_live}
 
 -- ---- a command over a text
 
@@ -72,17 +50,17 @@ module _ (command : Command) (exclusive : AreExclusive command) (input input' ou
 
 completes_replay : CompletesValid name.Replay replay_command
 completes_replay words seed input input' before after end named valid reads writes ends =
-    completes_by replay_command replay_exclusive input input' before.out after.out valid reads writes name.Replay words end named
+    completes_by replay_command replay_exclusive input input' before.outside.out after.outside.out valid reads writes name.Replay words end named
     (as_named words name.Replay seed input input' before after end ([], named) ends).0
 
 completes_decode : CompletesValid name.Decode decode_command
 completes_decode words seed input input' before after end named valid reads writes ends =
-    completes_by decode_command decode_exclusive input input' before.out after.out valid reads writes name.Decode words end named
+    completes_by decode_command decode_exclusive input input' before.outside.out after.outside.out valid reads writes name.Decode words end named
     (as_named words name.Decode seed input input' before after end ([], named) ends).0
 
 completes_filter : CompletesValid name.Filter filter_command
 completes_filter words seed input input' before after end named valid reads writes ends =
-    completes_by filter_command filter_exclusive input input' before.out after.out valid reads writes name.Filter words end named
+    completes_by filter_command filter_exclusive input input' before.outside.out after.outside.out valid reads writes name.Filter words end named
     (as_named words name.Filter seed input input' before after end ([], named) ends).0
 
 -- ---- a script that is played in blocks
@@ -110,7 +88,7 @@ midi_ends words input input' out out' end midi valid reads writes (inr (inr unre
 
 completes_midi : CompletesMidi
 completes_midi words seed input input' before after end midi valid reads writes ends =
-    midi_ends words input input' before.out after.out end midi valid reads writes
+    midi_ends words input input' before.outside.out after.outside.out end midi valid reads writes
     (as_named words name.Midi seed input input' before after end midi.0 ends).0
 
 -- ---- a load
@@ -125,44 +103,10 @@ load_ends words out out' other load writes never = absurd never
 
 completes_load : CompletesLoad
 completes_load words seed input input' before after end load writes ends =
-    load_ends words before.out after.out end load writes (as_named words name.Load seed input input' before after end load.0 ends).0
+    load_ends words before.outside.out after.outside.out end load writes (as_named words name.Load seed input input' before after end load.0 ends).0
 
--- ---- a live run
-
-valid_and_many : (input input' : Stream) → IsValidLive input → ReadsTooMany input input' → ⊥
-valid_and_many input input' valid many =
-    let same : valid.bytes ≡ many.bytes = told_is_read 16_777_216 input input' valid.bytes many.bytes valid.told many.read in
-    let told : commands_told valid.bytes ≡ commands_told many.bytes = ap commands_told same in
-    omega (arith, told, valid.few, many.many)
-
-valid_and_live_fault : (input input' : Stream) (line : ℕ) → IsValidLive input → ReadsLiveFault input input' line → ⊥
-valid_and_live_fault input input' line valid faulty =
-    let same : valid.bytes ≡ faulty.bytes = told_is_read 16_777_216 input input' valid.bytes faulty.bytes valid.told faulty.read in
-    faulty.fault.none (subst (λ (text : List ℕ). IsSomeLiveScript (lines_of text)) same valid.script)
-
-module _ (laws : CourseLaws) (words : List (String Global)) (seed : ℕ) (input input' : Stream) (before after : Outside) (live : IsLive words)
-    (valid : IsValidLive input) (fits : has_ended after.report.events ≡ true) (reads : Rose input.faults input'.faults → ⊥)
-    (posts : Rose before.port.faults after.port.faults → ⊥) (plays : Rose before.audio.faults after.audio.faults → ⊥)
-    (writes : Rose before.out.faults after.out.faults → ⊥) where
-  live_ends : (end : Status) → EndsLive words seed input input' before after end → (end ≡ status.Done) ⊎ (end ≡ status.Memory)
-  live_ends status.Done ends = inl refl
-  live_ends status.Memory ends = inr refl
-  live_ends status.Words (other, unread, not_begun) = absurd (other live)
-  live_ends status.Input (live', (rose, few), not_begun) = absurd (reads rose)
-  live_ends (status.TooLong limit) (live', (same_limit, over, quiet), not_begun) =
-      absurd (within_and_over 16_777_216 valid.bytes input input'.told valid.told valid.within over)
-  live_ends (status.TooMany limit) (live', (same_limit, many), not_begun) = absurd (valid_and_many input input' valid many)
-  live_ends (status.Script g line reason) (live', (same_grammar, faulty), not_begun) =
-      absurd (valid_and_live_fault input input' line valid faulty)
-  live_ends status.Port runs = absurd (posts (port_met laws runs.ends.run))
-  live_ends status.Audio runs = absurd (plays (audio_met laws runs.ends.run).1)
-  live_ends status.Events runs = absurd (true≢false (sym fits ∙ (events_met laws runs.ends.run).2))
-  live_ends status.Sink runs = absurd (writes runs.ends.written.rose)
-
-completes_live : CourseLaws → CompletesLive
-completes_live laws words seed input input' before after end live valid fits reads posts plays writes ends =
-    live_ends laws words seed input input' before after live valid fits reads posts plays writes end
-    (as_named words name.Live seed input input' before after end live.0 ends)
-
-pub complete_valid : CourseLaws → CompleteValid
-complete_valid laws = (completes_replay, (completes_decode, (completes_filter, (completes_midi, (completes_load, completes_live laws)))))
+pub complete_valid : CourseLaws → EndsTell → CompleteValid
+complete_valid courses tell = (
+  completes_replay,
+  (completes_decode, (completes_filter, (completes_midi, (completes_load, (completes_live courses, completes_control tell))))),
+)

@@ -8,36 +8,59 @@ use Rattle.link_words.specs.declared.command_name.CommandName.TheVariants as nam
 use Rattle.link_commands.specs.Statuses.{Stream, EndsDecode, EndsFilter, EndsLoad, EndsMidi, EndsReplay}
 use Rattle.link_commands.specs.declared.status.Status.{Status}
 use Rattle.link_commands.specs.declared.status.Status.TheVariants as status
+use Rattle.link_daemon.specs.ControlEnds.{ControlSeen, EndsControl}
 use Rattle.link_daemon.specs.LiveEnds.{EndsLive}
-use Rattle.link_daemon.specs.Outside.{Outside}
+use Rattle.link_daemon.specs.Outside.{AllSeen}
 
 -- the words name no command, and no object was called
-pub record EndsUnnamed (input input' : Stream) (before after : Outside) (end : Status) : Type 0 where
+pub record EndsUnnamed (input input' : Stream) (before after : AllSeen) (end : Status) : Type 0 where
   pub words_at_fault : end ≡ status.Words
   pub unread : input' ≡ input
   pub untouched : after ≡ before
 
--- what only `live` is given stays
-pub record IsAside (before after : Outside) : Type 0 where
-  pub port_stays : after.port ≡ before.port
-  pub audio_stays : after.audio ≡ before.audio
-  pub late_stays : after.late ≡ before.late
-  pub report_stays : after.report ≡ before.report
+-- what only `live` and `control` are given stays
+pub record IsAside (before after : AllSeen) : Type 0 where
+  pub port_stays : after.outside.port ≡ before.outside.port
+  pub audio_stays : after.outside.audio ≡ before.outside.audio
+  pub late_stays : after.outside.late ≡ before.outside.late
+  pub report_stays : after.outside.report ≡ before.outside.report
+  pub talk_stays : after.talk ≡ before.talk
+  pub log_stays : after.log ≡ before.log
+
+-- what only `control` is given stays
+pub record IsUntalked (before after : AllSeen) : Type 0 where
+  pub talk_stays : after.talk ≡ before.talk
+  pub log_stays : after.log ≡ before.log
+
+-- what a run under control is given of all
+abbrev pub control_seen : AllSeen → ControlSeen
+control_seen all = record {
+  port = all.outside.port;
+  talk = all.talk;
+  late = all.outside.late;
+  out = all.outside.out;
+  report = all.outside.report;
+  log = all.log;
+}
 
 -- a run is that of the command that the first of its words names, and of none where it names none
-abbrev pub EndsNamed : Option CommandName → List (String Global) → ℕ → Stream → Stream → Outside → Outside → Status → Type 0
+abbrev pub EndsNamed : Option CommandName → List (String Global) → ℕ → Stream → Stream → AllSeen → AllSeen → Status → Type 0
 EndsNamed (Some name.Replay) words seed input input' before after end =
-    EndsReplay words input input' before.out after.out end × IsAside before after
+    EndsReplay words input input' before.outside.out after.outside.out end × IsAside before after
 EndsNamed (Some name.Decode) words seed input input' before after end =
-    EndsDecode words input input' before.out after.out end × IsAside before after
+    EndsDecode words input input' before.outside.out after.outside.out end × IsAside before after
 EndsNamed (Some name.Load) words seed input input' before after end =
-    EndsLoad words before.out after.out end × (input' ≡ input) × IsAside before after
-EndsNamed (Some name.Live) words seed input input' before after end = EndsLive words seed input input' before after end
+    EndsLoad words before.outside.out after.outside.out end × (input' ≡ input) × IsAside before after
+EndsNamed (Some name.Live) words seed input input' before after end =
+    EndsLive words seed input input' before.outside after.outside end × IsUntalked before after
 EndsNamed (Some name.Filter) words seed input input' before after end =
-    EndsFilter words input input' before.out after.out end × IsAside before after
+    EndsFilter words input input' before.outside.out after.outside.out end × IsAside before after
 EndsNamed (Some name.Midi) words seed input input' before after end =
-    EndsMidi words input input' before.out after.out end × IsAside before after
+    EndsMidi words input input' before.outside.out after.outside.out end × IsAside before after
+-- the audio device is given to `live` alone
+EndsNamed (Some name.Control) words seed input input' before after end =
+    EndsControl words seed input input' (control_seen before) (control_seen after) end × (after.outside.audio ≡ before.outside.audio)
 EndsNamed None words seed input input' before after end = EndsUnnamed input input' before after end
 
-abbrev pub Ends : List (String Global) → ℕ → Stream → Stream → Outside → Outside → Status → Type 0
+abbrev pub Ends : List (String Global) → ℕ → Stream → Stream → AllSeen → AllSeen → Status → Type 0
 Ends words = EndsNamed (named_by words) words

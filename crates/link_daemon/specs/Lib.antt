@@ -1,7 +1,10 @@
 pub mod ReportText
 pub mod LiveSetup
+pub mod ControlSetup
+pub mod ScriptRead
 pub mod Outside
 pub mod LiveEnds
+pub mod ControlEnds
 pub mod Ends
 pub mod OneStatus
 pub mod ValidInput

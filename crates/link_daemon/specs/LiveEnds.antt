@@ -1,15 +1,14 @@
 -- How a call of `live` may end: each status with its cause, and what was read, run, written and told then. The statuses are tried in this
 -- order: the words, a failure of the source, a text over the limit, too many commands, a text that is no live script, a failure of the
 -- port, one of the audio device, a full journal, a failure of the sink.
-use Rattle.std.specs.Prelude.{◌≡◌, ◌≤◌, ◌<◌, ◌+◌, ◌⊎◌, ℕ, true, Bool, List}
+use Rattle.std.specs.Prelude.{◌≡◌, ◌≤◌, ◌+◌, ◌⊎◌, ℕ, true, Bool, List}
 use Rattle.std.specs.declared.alloc.Global.{Global}
 use Rattle.std.specs.declared.string.String.{String}
 use Rattle.rand_pcg.specs.Lcg.{started, increment_of}
 use Rattle.rand_pcg.specs.Pcg.{multiplier_64}
 use Rattle.lk_base.specs.Ids.{drawn_id}
-use Rattle.lk_outside.specs.Faults.{Rose}
-use Rattle.lk_outside.specs.Transfer.{TakesOver, TakesWithin}
-use Rattle.link_text.specs.LiveScript.{IsLiveLineFault, IsLiveText, commands_told}
+use Rattle.lk_outside.specs.Transfer.{TakesWithin}
+use Rattle.link_text.specs.LiveScript.{IsLiveText, commands_told}
 use Rattle.link_text.specs.ReplayScript.{IsScriptOf}
 use Rattle.link_live.specs.Headline.{LiveSetup}
 use Rattle.link_live.specs.LiveRun.{EndsLiveRun}
@@ -17,11 +16,11 @@ use Rattle.link_words.specs.LiveWords.{BeginsLive, IsLive, NamesLive}
 use Rattle.link_daemon.specs.Outside.{Outside}
 use Rattle.link_live.specs.Report.{IsCleared, ReportValue}
 use Rattle.link_daemon.specs.ReportText.{live_text_of}
+use Rattle.link_daemon.specs.ScriptRead.{EndsRead}
 use Rattle.link_commands.specs.Statuses.{Stream, WasRead, WritesPart, WritesSome, WritesWhole}
 use Rattle.link_live.specs.declared.run.LiveEnd.{LiveEnd}
 use Rattle.link_live.specs.declared.run.LiveEnd.TheVariants as end
 use Rattle.link_words.specs.declared.live_words.LiveOptions.{LiveOptions}
-use Rattle.link_commands.specs.declared.status.Grammar.TheVariants as grammar
 use Rattle.link_commands.specs.declared.status.Status.{Status}
 use Rattle.link_commands.specs.declared.status.Status.TheVariants as status
 
@@ -67,32 +66,6 @@ EndsRun setup recorded before after status.Audio = HasEndedRun setup recorded be
 EndsRun setup recorded before after status.Events = HasEndedRun setup recorded before after end.Events WritesSome
 EndsRun setup recorded before after status.Memory = Stays before after ⊎ HasEndedRun setup recorded before after end.Memory WritesSome
 EndsRun setup recorded before after other = ⊥
-
--- ---- a script that was read, or not
-
--- The first line at fault of a text that is no live script, whose commands are not too many.
-pub record ReadsLiveFault (input input' : Stream) (line : ℕ) : Type 0 where
-  pub bytes : List ℕ
-  pub read : WasRead 16_777_216 input input' bytes
-  pub few : commands_told bytes ≤ 4_096
-  pub fault : IsLiveLineFault bytes line
-
--- a text with too many commands
-pub record ReadsTooMany (input input' : Stream) : Type 0 where
-  pub bytes : List ℕ
-  pub read : WasRead 16_777_216 input input' bytes
-  pub many : 4_096 < commands_told bytes
-
--- why no live script was read
-abbrev pub EndsRead : Stream → Stream → Status → Type 0
-EndsRead input input' status.Input = Rose input.faults input'.faults × TakesWithin 16_777_216 input.told input'.told
-EndsRead input input' (status.TooLong limit) =
-    (limit ≡ 16_777_216) × TakesOver 16_777_216 input.told input'.told × (input'.faults ≡ input.faults)
-EndsRead input input' (status.TooMany limit) = (limit ≡ 4_096) × ReadsTooMany input input'
-EndsRead input input' (status.Script g line reason) = (g ≡ grammar.LiveScript) × ReadsLiveFault input input' line
--- want of memory may come of any text
-EndsRead input input' status.Memory = TakesWithin (16_777_216 + 65_536) input.told input'.told × (input'.faults ≡ input.faults)
-EndsRead input input' other = ⊥
 
 -- ---- the command
 

@@ -2,12 +2,14 @@
 use Rattle.std.specs.Prelude.{◌≡◌, ◌≢◌, ◌<◌, ◌^◌, ◌-◌, ℕ, IsSome, List, Option, Some, None}
 use Rattle.std.specs.declared.alloc.Global.{Global}
 use Rattle.std.specs.declared.string.String.{String}
+use Rattle.link_text.specs.LiveHead.{IsHeadLineFault}
 use Rattle.link_text.specs.LiveScript.{IsLiveLineFault}
+use Rattle.link_words.specs.ControlWords.{BeginsControl}
 use Rattle.link_commands.specs.declared.status.Grammar.{Grammar}
 use Rattle.link_commands.specs.declared.status.Status.{Status}
 use Rattle.link_commands.specs.declared.status.Status.TheVariants as status
 use Rattle.link_daemon.specs.Ends.{Ends}
-use Rattle.link_daemon.specs.Outside.{Outside}
+use Rattle.link_daemon.specs.Outside.{AllSeen}
 use Rattle.link_commands.specs.Statuses.{Command, Stream, status_number_of, replay_command, decode_command, filter_command}
 
 -- a stream that tells what it holds, and whose count of failures can still rise
@@ -28,17 +30,22 @@ end_of (status.TooMany limit) = record { number = 10; fault = None; limit = Some
 end_of other = record { number = status_number_of other; fault = None; limit = None }
 
 -- the counts of failures can still rise
-pub record CanFail (outside : Outside) : Type 0 where
-  pub out_counts : outside.out.faults < 2 ^ 64 - 1
-  pub port_counts : outside.port.faults < 2 ^ 64 - 1
-  pub audio_counts : outside.audio.faults < 2 ^ 64 - 1
+pub record CanFail (all : AllSeen) : Type 0 where
+  pub out_counts : all.outside.out.faults < 2 ^ 64 - 1
+  pub port_counts : all.outside.port.faults < 2 ^ 64 - 1
+  pub audio_counts : all.outside.audio.faults < 2 ^ 64 - 1
+  pub talk_counts : all.talk.faults < 2 ^ 64 - 1
 
--- One run over an input that tells has one status, its line at fault and its limit among it, want of memory apart. The words that
--- say to people why a line is at fault are left out.
+-- where the words are of `control`, the talk tells what its client sends
+abbrev pub TellsTalk : List (String Global) → AllSeen → Type 0
+TellsTalk words all = BeginsControl words → IsSome all.talk.left
+
+-- One run over an input that tells, and a talk that does, has one status, its line at fault and its limit among it, want of memory apart.
+-- The words that say to people why a line is at fault are left out.
 abbrev pub HasOneStatus : Type 0
 HasOneStatus =
-    (words : List (String Global)) (seed : ℕ) (input input' : Stream) (before after : Outside) (one other : Status)
-    → IsTold input → CanFail before
+    (words : List (String Global)) (seed : ℕ) (input input' : Stream) (before after : AllSeen) (one other : Status)
+    → IsTold input → CanFail before → TellsTalk words before
     → one ≢ status.Memory → other ≢ status.Memory
     → Ends words seed input input' before after one
     → Ends words seed input input' before after other
@@ -51,6 +58,10 @@ HasOneFaultLine command = (text : List ℕ) (line other : ℕ) → command.Fault
 abbrev pub HasOneLiveFaultLine : Type 0
 HasOneLiveFaultLine = (text : List ℕ) (line other : ℕ) → IsLiveLineFault text line → IsLiveLineFault text other → line ≡ other
 
+abbrev pub HasOneHeadFaultLine : Type 0
+HasOneHeadFaultLine = (text : List ℕ) (line other : ℕ) → IsHeadLineFault text line → IsHeadLineFault text other → line ≡ other
+
 abbrev pub HaveOneFaultLine : Type 0
 HaveOneFaultLine =
-    HasOneFaultLine replay_command × (HasOneFaultLine decode_command × (HasOneFaultLine filter_command × HasOneLiveFaultLine))
+    HasOneFaultLine replay_command
+    × (HasOneFaultLine decode_command × (HasOneFaultLine filter_command × (HasOneLiveFaultLine × HasOneHeadFaultLine)))

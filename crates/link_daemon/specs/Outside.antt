@@ -1,9 +1,11 @@
--- What is seen of the objects that a live run is given, beside its input.
+-- What is seen of the objects that a run on the network is given, beside its input.
 use Rattle.std.specs.Prelude.{ℕ, ℤ, List, Option}
 use Rattle.lk_base.specs.declared.endpoint.Endpoint.{Endpoint}
 use Rattle.lk_outside.specs.Audio.{AudioContents}
 use Rattle.lk_outside.specs.Port.{PortContents}
 use Rattle.link_live.specs.Report.{ReportValue}
+use Rattle.link_control.specs.Serving.{TalkSeen}
+use Rattle.link_control.specs.declared.log.LineLog.{LineLog}
 use Rattle.link_commands.specs.Statuses.{Stream, seen}
 
 -- a port's contents where it tells them, the local endpoints of its gates, and its count of failures
@@ -42,3 +44,9 @@ outside_of port_told gates port_faults audio_told audio_faults late out_told out
   out = seen out_told out_faults k;
   report = report;
 }
+
+-- all that a call is given: what a live run is, and the talk and the log of a run under control
+pub record AllSeen : Type 0 where
+  pub outside : Outside
+  pub talk : TalkSeen
+  pub log : List LineLog

@@ -5,14 +5,18 @@ use Rattle.std.specs.declared.string.String.{String}
 use Rattle.lk_outside.specs.Faults.{Rose}
 use Rattle.link_live.specs.Journal.{has_ended}
 use Rattle.link_text.specs.Lines.{lines_of}
+use Rattle.link_text.specs.LiveHead.{IsSomeHead}
 use Rattle.link_text.specs.LiveScript.{IsSomeLiveScript, commands_told}
+use Rattle.link_control.specs.Lines.{whole_lines_of}
+use Rattle.link_control.specs.Serving.{TalkSeen}
+use Rattle.link_words.specs.ControlWords.{IsControl}
 use Rattle.link_words.specs.LoadWords.{IsLoad}
 use Rattle.link_words.specs.MidiWords.{IsMidi}
 use Rattle.link_commands.specs.declared.status.Status.{Status}
 use Rattle.link_commands.specs.declared.status.Status.TheVariants as status
 use Rattle.link_daemon.specs.Ends.{Ends}
 use Rattle.link_words.specs.LiveWords.{IsLive}
-use Rattle.link_daemon.specs.Outside.{Outside}
+use Rattle.link_daemon.specs.Outside.{AllSeen}
 use Rattle.link_commands.specs.Statuses.{Command, Stream, replay_command, decode_command, filter_command}
 use Rattle.link_words.specs.CommandNames.{Names}
 use Rattle.link_words.specs.declared.command_name.CommandName.{CommandName}
@@ -29,9 +33,9 @@ pub record IsValidFor (command : Command) (input : Stream) : Type 0 where
 -- Where the words name the command, the input is valid and no count rose, all is done, or there was no memory.
 abbrev pub CompletesValid : CommandName → Command → Type 0
 CompletesValid named command =
-    (words : List (String Global)) (seed : ℕ) (input input' : Stream) (before after : Outside) (end : Status)
+    (words : List (String Global)) (seed : ℕ) (input input' : Stream) (before after : AllSeen) (end : Status)
     → Names named words → IsValidFor command input
-    → (Rose input.faults input'.faults → ⊥) → (Rose before.out.faults after.out.faults → ⊥)
+    → (Rose input.faults input'.faults → ⊥) → (Rose before.outside.out.faults after.outside.out.faults → ⊥)
     → Ends words seed input input' before after end
     → (end ≡ status.Done) ⊎ (end ≡ status.Memory)
 
@@ -39,17 +43,17 @@ CompletesValid named command =
 -- memory.
 abbrev pub CompletesMidi : Type 0
 CompletesMidi =
-    (words : List (String Global)) (seed : ℕ) (input input' : Stream) (before after : Outside) (end : Status)
+    (words : List (String Global)) (seed : ℕ) (input input' : Stream) (before after : AllSeen) (end : Status)
     → IsMidi words → IsValidFor replay_command input
-    → (Rose input.faults input'.faults → ⊥) → (Rose before.out.faults after.out.faults → ⊥)
+    → (Rose input.faults input'.faults → ⊥) → (Rose before.outside.out.faults after.outside.out.faults → ⊥)
     → Ends words seed input input' before after end
     → (end ≡ status.Done) ⊎ (end ≡ status.Memory)
 
 -- Where the words are those of a load and no write failed, all is done, or there was no memory.
 abbrev pub CompletesLoad : Type 0
 CompletesLoad =
-    (words : List (String Global)) (seed : ℕ) (input input' : Stream) (before after : Outside) (end : Status)
-    → IsLoad words → (Rose before.out.faults after.out.faults → ⊥)
+    (words : List (String Global)) (seed : ℕ) (input input' : Stream) (before after : AllSeen) (end : Status)
+    → IsLoad words → (Rose before.outside.out.faults after.outside.out.faults → ⊥)
     → Ends words seed input input' before after end
     → (end ≡ status.Done) ⊎ (end ≡ status.Memory)
 
@@ -65,10 +69,35 @@ pub record IsValidLive (input : Stream) : Type 0 where
 -- the end last (where one finds none the journal has no end), all is done, or there was no memory.
 abbrev pub CompletesLive : Type 0
 CompletesLive =
-    (words : List (String Global)) (seed : ℕ) (input input' : Stream) (before after : Outside) (end : Status)
-    → IsLive words → IsValidLive input → has_ended after.report.events ≡ true
-    → (Rose input.faults input'.faults → ⊥) → (Rose before.port.faults after.port.faults → ⊥)
-    → (Rose before.audio.faults after.audio.faults → ⊥) → (Rose before.out.faults after.out.faults → ⊥)
+    (words : List (String Global)) (seed : ℕ) (input input' : Stream) (before after : AllSeen) (end : Status)
+    → IsLive words → IsValidLive input → has_ended after.outside.report.events ≡ true
+    → (Rose input.faults input'.faults → ⊥) → (Rose before.outside.port.faults after.outside.port.faults → ⊥)
+    → (Rose before.outside.audio.faults after.outside.audio.faults → ⊥) → (Rose before.outside.out.faults after.outside.out.faults → ⊥)
+    → Ends words seed input input' before after end
+    → (end ≡ status.Done) ⊎ (end ≡ status.Memory)
+
+-- the input tells the head of a live script within the limits
+pub record IsValidHead (input : Stream) : Type 0 where
+  pub bytes : List ℕ
+  pub told : input.told ≡ Some bytes
+  pub within : length bytes ≤ 16_777_216
+  pub few : commands_told bytes ≤ 4_096
+  pub head : IsSomeHead (lines_of bytes)
+
+-- the talk tells no more lines than are answered
+pub record IsValidTalk (talk : TalkSeen) : Type 0 where
+  pub bytes : List ℕ
+  pub told : talk.left ≡ Some bytes
+  pub few : length (whole_lines_of bytes) ≤ 4_096
+
+-- Where the words are those of `control`, the input and the talk are valid, no count rose, and all events that were offered found room in
+-- the journal, the end last, all is done, or there was no memory.
+abbrev pub CompletesControl : Type 0
+CompletesControl =
+    (words : List (String Global)) (seed : ℕ) (input input' : Stream) (before after : AllSeen) (end : Status)
+    → IsControl words → IsValidHead input → IsValidTalk before.talk → has_ended after.outside.report.events ≡ true
+    → (Rose input.faults input'.faults → ⊥) → (Rose before.outside.port.faults after.outside.port.faults → ⊥)
+    → (Rose before.talk.faults after.talk.faults → ⊥) → (Rose before.outside.out.faults after.outside.out.faults → ⊥)
     → Ends words seed input input' before after end
     → (end ≡ status.Done) ⊎ (end ≡ status.Memory)
 
@@ -76,4 +105,4 @@ abbrev pub CompleteValid : Type 0
 CompleteValid =
     CompletesValid name.Replay replay_command
     × (CompletesValid name.Decode decode_command
-    × (CompletesValid name.Filter filter_command × (CompletesMidi × (CompletesLoad × CompletesLive))))
+    × (CompletesValid name.Filter filter_command × (CompletesMidi × (CompletesLoad × (CompletesLive × CompletesControl)))))

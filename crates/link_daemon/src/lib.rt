@@ -1,25 +1,31 @@
-//! The top call, and the command `live`. What the crates below have for a program it hands on: the other commands, the statuses, and the
-//! real things that a program reads from and writes to.
+//! The top call, and the commands `live` and `control`. What the crates below have for a program it hands on: the other commands, the
+//! statuses, and the real things that a program reads from and writes to.
 //!
-//! In reading order: `top` (the top call), `live` (the command `live`, over the run of `link_live`), `report_text`, `sayable` (what it
-//! tells); `usage_text` (what is told of words that are no command); last `laws`.
+//! In reading order: `top` (the top call), `input` (how a script is read); `live` (the command `live`, over the run of `link_live`),
+//! `control` (the command `control`, over that of `link_control`); `summary`, `report_text`, `sayable` (what they tell); `usage_text`
+//! (what is told of words that are no command); last `laws`.
 #![tactic(auto)]
 
+mod control;
+mod input;
 mod laws;
 mod live;
 mod report_text;
 mod sayable;
+mod summary;
 mod top;
 mod usage_text;
 
+pub use control::control_main;
 pub use laws::{one_fault_line, one_status, valid_is_done};
 pub use link_adapters::{
-    BehindName, ClickAudio, ClockPace, HostClock, StdSink, StdSource, UdpPort,
+    BehindName, ClickAudio, ClockPace, HostClock, StdSink, StdSource, TcpTalk, UdpPort,
 };
 pub use link_commands::{
     Grammar, Reason, Status, decode_main, filter_main, load_main, midi_main, one_filter_text,
     one_output, replay_main,
 };
+pub use link_control::{LineLog, Served, SessionLog, serve};
 pub use link_live::{Report, audio_loop, network_loop};
 pub use live::live_main;
 pub use top::link_main;

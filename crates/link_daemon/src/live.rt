@@ -1,42 +1,33 @@
 //! The command `live`: a live run of a script over a port, an audio device and a pace.
 
-ghost use Rattle.std.specs.Prelude.{◌≡◌, ◌≤◌, ◌<◌, ◌^◌, ℕ, List, [], length, map, IfOk, IfErr, OnOk, OnErr};
+ghost use Rattle.std.specs.Prelude.{◌≡◌, ◌≤◌, ◌<◌, ◌^◌, ℕ, List, [], length, map};
 ghost use Rattle.lk_base.specs.Ranges.{IsQuantum};
-ghost use Rattle.lk_outside.specs.Faults.{Rose};
-ghost use Rattle.lk_outside.specs.Sink.{Appends};
-ghost use Rattle.lk_outside.specs.Transfer.{AppendsPrefix};
 ghost use Rattle.link_node.specs.Config.{config_value, gate_value};
 ghost use Rattle.link_text.specs.LiveScript.{IsLiveText};
 ghost use Rattle.link_text.specs.ReplayScript.{IsVisibleId};
-ghost use Rattle.link_daemon.specs.LiveEnds.{EndsLive, EndsRead, EndsRun, IfNotBegun};
-ghost use Rattle.link_daemon.specs.LiveSetup.{IsRead, config_from, setup_from, status_from};
+ghost use Rattle.link_daemon.specs.LiveEnds.{EndsLive, EndsRun, IfNotBegun};
+ghost use Rattle.link_daemon.specs.LiveSetup.{config_from, setup_from, status_from};
 ghost use Rattle.link_daemon.specs.Outside.{outside_of};
 ghost use Rattle.link_live.specs.Report.{report_value};
-ghost use Rattle.link_daemon.specs.ReportText.{live_text_of};
 ghost use Rattle.link_commands.specs.Statuses.{seen};
 
-use crate::report_text::hand_report;
+use crate::input::read_script;
 use crate::sayable::are_sayable;
-use link_commands::{Grammar, Outlet, Reason, SinkFailed, Status};
+use crate::summary::write_report;
+use link_commands::{Outlet, Status};
 use link_live::{LiveEnd, LiveRun, Report, Room, live_run, scripts_have_commands};
 use link_node::Config;
 use link_shared::Parts;
-use link_text::{LiveFault, LiveScript, explain_live, read_live, written_scripts_are_read};
+use link_text::{LiveScript, written_scripts_are_read};
 use link_words::{LiveOptions, WordsFault, live_options};
 use lk_base::IdSource;
-use lk_outside::{Audio, InputFault, Pace, Port, Sink, Source, read_all};
+use lk_outside::{Audio, Pace, Port, Sink, Source};
 use std::alloc::Global;
 use std::marker::Brand;
 use std::mem;
 use std::sync::Wait;
 use std::thread::Threads;
 use triple_buffer::Triple;
-
-/// How many bytes of a script are read at most.
-const MOST_BYTES: usize = 16_777_216;
-
-/// How many commands a script may have.
-const MOST_COMMANDS: u64 = 4_096;
 
 /// Runs the live script on `input` over the port, the device and the pace: reads and checks it whole, plays until its commands are taken
 /// and the device's blocks are played, and then writes to `out` how much there was, and where the words ask for it the run's replay
@@ -87,35 +78,6 @@ pub fn live_main<
             rt, alloc, seed, &options, script, port, audio, pace, out, report,
         ),
         Err(status) => status,
-    }
-}
-
-// Reads the script to its end; or says why there is none.
-fn read_script<S: Source>(alloc: Global, input: &mut S) -> Result<LiveScript, Status>
-    ensures script { IfOk result (λ script. IsRead (seen S.left S.faults input.old) (seen S.left S.faults input.new) script) }
-    ensures fault { IfErr result (EndsRead (seen S.left S.faults input.old) (seen S.left S.faults input.new)) }
-{
-    let text = match read_all(alloc, input, MOST_BYTES) {
-        Ok(text) => text,
-        Err(InputFault::Failed) => return Err(Status::Input),
-        Err(InputFault::TooLong) => {
-            return Err(Status::TooLong {
-                limit: MOST_BYTES as u64,
-            });
-        }
-        Err(InputFault::Memory(_)) => return Err(Status::Memory),
-    };
-    match read_live(alloc, &text) {
-        Ok(script) => Ok(script),
-        Err(LiveFault::TooMany) => Err(Status::TooMany {
-            limit: MOST_COMMANDS,
-        }),
-        Err(LiveFault::Bad(bad)) => Err(Status::Script {
-            grammar: Grammar::LiveScript,
-            line: bad.line,
-            reason: Reason::Script(explain_live(&text, bad.line)),
-        }),
-        Err(LiveFault::Memory(_)) => Err(Status::Memory),
     }
 }
 
@@ -194,24 +156,6 @@ fn config_of(seed: u64, options: LiveOptions, script: &mut LiveScript) -> Config
         quantum: options.quantum,
         gates: mem::take(&mut script.gates),
     }
-}
-
-// Writes what is told of the run, through an outlet that keeps nothing yet. Waits: in the sink's calls alone. Memory: none.
-fn write_report<K: Sink>(
-    report: &Report,
-    recorded: bool,
-    outlet: &mut Outlet,
-    out: &mut K,
-) -> Result<(), SinkFailed>
-    requires few { length report.now.plays.items ≤ 524_288 }
-    requires empty { outlet.old.kept.items ≡ [] }
-    ensures whole { OnOk result (Appends (K.written out.old) (live_text_of (report_value report.entry.now) recorded) (K.written out.new)) }
-    ensures part { OnErr result (AppendsPrefix (K.written out.old) (live_text_of (report_value report.entry.now) recorded) (K.written out.new)) }
-    ensures quiet { OnOk result (K.faults out.new ≡ K.faults out.old) }
-    ensures cause { OnErr result (Rose (K.faults out.old) (K.faults out.new)) }
-{
-    hand_report(report, recorded, outlet, out)?;
-    outlet.flush(out)
 }
 
 // The status of a run that ended so, and whose report was written or not.

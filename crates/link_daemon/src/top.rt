@@ -3,29 +3,35 @@
 ghost use Rattle.std.specs.Prelude.{◌≡◌, []};
 ghost use Rattle.link_daemon.specs.Ends.{Ends};
 ghost use Rattle.link_daemon.specs.LiveEnds.{IfNotBegun};
+ghost use Rattle.link_control.specs.Serving.{seen_talk};
+ghost use Rattle.link_words.specs.ControlWords.{BeginsControl};
 ghost use Rattle.link_words.specs.LiveWords.{BeginsLive};
 ghost use Rattle.link_words.specs.LoadWords.{BeginsLoad};
 ghost use Rattle.link_daemon.specs.Outside.{outside_of};
 ghost use Rattle.link_live.specs.Report.{report_value};
 ghost use Rattle.link_commands.specs.Statuses.{IfNothingWritten, seen};
 
+use crate::control::control_main;
 use crate::live::live_main;
 use link_commands::{Status, decode_main, filter_main, load_main, midi_main, replay_main};
+use link_control::SessionLog;
 use link_live::Report;
 use link_words::{CommandName, command_named};
-use lk_outside::{Audio, Pace, Port, Sink, Source};
+use lk_outside::{Audio, Pace, Port, Sink, Source, Talk};
 use std::alloc::Global;
 use std::sync::Wait;
 use std::thread::Threads;
 
-/// Runs the command that the first word names: `replay`, `decode`, `filter`, `midi`, `load` or `live`. Any other word, and none, is a
-/// faulty command line. The seed, the port, the device, the pace and the report are those of `live`.
+/// Runs the command that the first word names: `replay`, `decode`, `filter`, `midi`, `load`, `live` or `control`. Any other word, and none,
+/// is a faulty command line. The seed, the port, the pace and the report are those of `live` and `control`, the device that of `live`, the
+/// talk and the log those of `control`.
 ///
-/// Waits: in the objects' calls, and for the threads of a live run. Memory: that of the command.
+/// Waits: in the objects' calls, and for the threads of a run on the network. Memory: that of the command.
 pub fn link_main<
     S: Source,
     P: Port + Send,
     A: Audio + Send,
+    L: Talk + Send,
     T: Pace + Send,
     K: Sink,
     R: Threads + Wait + Sync,
@@ -37,25 +43,40 @@ pub fn link_main<
     input: &mut S,
     port: &mut P,
     audio: &mut A,
+    talk: &mut L,
     pace: &mut T,
     out: &mut K,
     report: &mut Report,
+    log: &mut SessionLog,
 ) -> Status
     ensures ends { Ends words.now seed (seen S.left S.faults input.old) (seen S.left S.faults input.new)
-        (outside_of P.contents P.bound P.faults A.contents A.faults T.late K.written K.faults port.old audio.old pace.old out.old (report_value report.old))
-        (outside_of P.contents P.bound P.faults A.contents A.faults T.late K.written K.faults port.new audio.new pace.new out.new (report_value report.new))
+        (record {
+          outside = outside_of P.contents P.bound P.faults A.contents A.faults T.late K.written K.faults
+              port.old audio.old pace.old out.old (report_value report.old);
+          talk = seen_talk L.left L.written L.opened L.faults talk.old;
+          log = log.old.lines.items;
+        })
+        (record {
+          outside = outside_of P.contents P.bound P.faults A.contents A.faults T.late K.written K.faults
+              port.new audio.new pace.new out.new (report_value report.new);
+          talk = seen_talk L.left L.written L.opened L.faults talk.new;
+          log = log.new.lines.items;
+        })
         result }
 
     // No object is called, or just those of the command.
     ensures untouched { result ≡ Status.Words → (input.new ≡ input.old) × (pace.new ≡ pace.old) × (out.new ≡ out.old) }
-    ensures not_begun { IfNotBegun result ((port.new ≡ port.old) × (audio.new ≡ audio.old) × (pace.new ≡ pace.old) × (out.new ≡ out.old)) }
+    ensures not_begun { IfNotBegun result ((port.new ≡ port.old) × (audio.new ≡ audio.old) × (talk.new ≡ talk.old)
+        × (pace.new ≡ pace.old) × (out.new ≡ out.old)) }
     // Memory was wanting before a run was begun: one that was begun tells its opening state.
     ensures unbegun { result ≡ Status.Memory → report.new.published.items ≡ []
-        → (port.new ≡ port.old) × (audio.new ≡ audio.old) × (out.new ≡ out.old) }
-    ensures unwritten { (BeginsLive words.now → ⊥) → IfNothingWritten result (out.new ≡ out.old) }
+        → (port.new ≡ port.old) × (audio.new ≡ audio.old) × (talk.new ≡ talk.old) × (out.new ≡ out.old) }
+    ensures unwritten { (BeginsLive words.now → ⊥) → (BeginsControl words.now → ⊥) → IfNothingWritten result (out.new ≡ out.old) }
     ensures load_reads_nothing { BeginsLoad words.now → input.new ≡ input.old }
-    ensures aside { (BeginsLive words.now → ⊥)
-        → (port.new ≡ port.old) × (audio.new ≡ audio.old) × (pace.new ≡ pace.old) × (report.new ≡ report.old) }
+    ensures aside { (BeginsLive words.now → ⊥) → (BeginsControl words.now → ⊥)
+        → (port.new ≡ port.old) × (pace.new ≡ pace.old) × (report.new ≡ report.old) }
+    ensures soundless { (BeginsLive words.now → ⊥) → audio.new ≡ audio.old }
+    ensures untalked { (BeginsControl words.now → ⊥) → (talk.new ≡ talk.old) × (log.new ≡ log.old) }
 {
     match command_named(words) {
         Some(CommandName::Replay) => replay_main(alloc, words, input, out),
@@ -65,6 +86,9 @@ pub fn link_main<
         Some(CommandName::Load) => load_main(alloc, words, out),
         Some(CommandName::Live) => live_main(
             rt, alloc, words, seed, input, port, audio, pace, out, report,
+        ),
+        Some(CommandName::Control) => control_main(
+            rt, alloc, words, seed, input, port, talk, pace, out, report, log,
         ),
         None => Status::Words,
     }

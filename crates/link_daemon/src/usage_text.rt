@@ -2,10 +2,10 @@
 
 use clap::error::ErrorKind;
 use clap::{ArgMatches, Command, Error};
-use link_text::Excerpt;
+use link_text::{Excerpt, endpoint_of};
 use link_words::{
-    CommandName, command_named, live_command, live_matches, load_command, load_matches,
-    midi_command, midi_matches,
+    CommandName, command_named, control_command, control_matches, live_command, live_matches,
+    load_command, load_matches, midi_command, midi_matches,
 };
 use std::alloc::{AllocError, Global};
 
@@ -16,7 +16,8 @@ const COMMANDS: &str = "Usage: jorazhil <COMMAND>\n\n  \
     jorazhil filter < PAIRS                    reads pairs of a sample count and a host time on standard input, one a line, and gives each a smooth host time\n  \
     jorazhil midi <LENGTH> <BLOCKS> < SCRIPT   reads a script on standard input, plays it in BLOCKS blocks of LENGTH microseconds, and writes the MIDI clock\n  \
     jorazhil load <SEED> <COUNT>               runs a node through generated events, and writes how much there was and the last state\n  \
-    jorazhil live [OPTIONS] < SCRIPT           plays a live script beside its peers, and writes how much there was and the last state";
+    jorazhil live [OPTIONS] < SCRIPT           plays a live script beside its peers, and writes how much there was and the last state\n  \
+    jorazhil control <ENDPOINT> < SCRIPT       plays beside its peers, driven line by line by a program that connects to ENDPOINT";
 
 /// What words are told that name no command: which of them is at fault, and what would be right.
 pub fn usage(alloc: Global, words: &[String]) -> Result<String, AllocError> {
@@ -45,6 +46,7 @@ pub fn usage(alloc: Global, words: &[String]) -> Result<String, AllocError> {
             live_command(alloc)?,
             live_matches(alloc, words),
         ),
+        Some(CommandName::Control) => control_usage(alloc, words, rest),
         Some(CommandName::Replay) => input_usage(alloc, CommandName::Replay, "SCRIPT", rest),
         Some(CommandName::Decode) => input_usage(alloc, CommandName::Decode, "DATAGRAMS", rest),
         Some(CommandName::Filter) => input_usage(alloc, CommandName::Filter, "PAIRS", rest),
@@ -83,6 +85,39 @@ fn input_usage(
         "{} is one word too many: {command} takes no other word, and reads standard input\n\nUsage: jorazhil {command} < {input}",
         Excerpt::new(word.as_bytes())
     )
+}
+
+// What is told behind `control`. Where clap takes its words, the endpoint among them may be none.
+fn control_usage(alloc: Global, words: &[String], rest: &[String]) -> Result<String, AllocError> {
+    let mut command = control_command(alloc)?;
+    let matches = control_matches(alloc, words);
+    let Some(word) = no_endpoint(&matches) else {
+        return command_usage(
+            alloc,
+            "control listens at ENDPOINT for a client that drives a node line by line",
+            rest,
+            command,
+            matches,
+        );
+    };
+    let help = command.render_help()?;
+    format!(in alloc;
+        "{} is no endpoint: four numbers from 0 to 255 parted by dots, a colon and a port, as 127.0.0.1:20900\n\n{}",
+        Excerpt::new(word.as_bytes()),
+        help.as_str().trim_end()
+    )
+}
+
+// The word that stands for the endpoint, where it is none and doesn't ask for help.
+fn no_endpoint<'a>(matches: &Result<ArgMatches<'a>, Error>) -> Option<&'a str> {
+    let Ok(found) = matches else {
+        return None;
+    };
+    let word = found.get_str("ENDPOINT")?;
+    if is_request(word) || endpoint_of(word.as_bytes()).is_some() {
+        return None;
+    }
+    Some(word)
 }
 
 // What is told behind a command whose words clap reads: what clap finds wrong with them, and what the command takes. Where they ask for

@@ -1,21 +1,23 @@
-mod JournalLemmas
-mod HeardLemmas
-mod GoneLemmas
-mod CountLemmas
-mod GrownLemmas
-mod DatagramLemmas
-mod TurnsLemmas
-mod RunningLemmas
-mod AskLemmas
-mod PostLemmas
-mod LoopLemmas
-mod ScriptLemmas
-mod EndLemmas
-mod RecordedLemmas
-mod PlayedLemmas
-mod TakenLemmas
-mod EditLemmas
-mod CommitLemmas
-mod AudioLemmas
-mod CloseLemmas
+pub mod JournalLemmas
+pub mod HeardLemmas
+pub mod GoneLemmas
+pub mod CountLemmas
+pub mod GrownLemmas
+pub mod DatagramLemmas
+pub mod TurnsLemmas
+pub mod RunningLemmas
+pub mod AskLemmas
+pub mod PostLemmas
+pub mod LoopLemmas
+pub mod ScriptLemmas
+pub mod EndLemmas
+pub mod RecordedLemmas
+pub mod NetworkLemmas
+pub mod PlayedLemmas
+pub mod AppLemmas
+pub mod TakenLemmas
+pub mod EditLemmas
+pub mod CommitLemmas
+pub mod AudioLemmas
+pub mod CloseLemmas
 pub mod CourseLemmas

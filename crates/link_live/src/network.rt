@@ -175,8 +175,8 @@ fn ask<P: Port>(port: &mut P, due: i64, line: &mut Line) -> Got
     }
 }
 
-// Sends the datagrams in order, unless the port has failed. Answers whether it has then.
-// Waits: in the port. Memory: none.
+/// Sends the datagrams in order, unless the port has failed. Answers whether it has then.
+/// Waits: in the port. Memory: none.
 pub fn post<P: Port>(port: &mut P, sends: &[Sending], failed: bool) -> bool
     requires gates { failed ≡ false → AllByRecursion (λ s. s.gate.0 < length (P.bound port.old)) (map sending_value sends.now) }
     ensures posted { HasPosted (map sending_value sends.now) failed result (P.contents port.old) (P.contents port.new) }
@@ -229,7 +229,7 @@ fn either(one: bool, other: bool) -> bool
     one || other
 }
 
-// Laws of runs, for the proof.
+/// Laws: how the machine and what it sends go on from one event to the next.
 pub fn run_laws()
     ensures { RunLaws }
 {

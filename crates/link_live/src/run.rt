@@ -166,8 +166,8 @@ pub fn ends_tell_courses()
         → (captured ≡ true) × (failed ≡ true) }
 {}
 
-// Binds the config's gates. Answers whether the port did. Waits: in the port. Memory: none.
-fn bind<P: Port>(port: &mut P, config: &Config) -> bool
+/// Binds the config's gates. Answers whether the port did. Waits: in the port. Memory: none.
+pub fn bind<P: Port>(port: &mut P, config: &Config) -> bool
     requires config { IsConfig (config_value config.now) }
     ensures gates { result ≡ true → P.bound port.new ≡ locals_of (config_value config.now) }
     ensures works { result ≡ true → P.faults port.new ≡ P.faults port.old }

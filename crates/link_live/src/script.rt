@@ -1,15 +1,13 @@
 //! The loop of an application that takes its commands from a live script.
 
 ghost use Rattle.std.specs.Prelude.{◌≡◌, ◌≤◌, ◌<◌, ◌+◌, ℕ, List, [], None, if◌then◌else◌, true, length, All, vec_capacity, vec_len};
-ghost use Rattle.client_state.specs.Commit.{IsTidyCommit};
-ghost use Rattle.link_shared.specs.Passes.{HasCommitted};
 ghost use Rattle.link_text.specs.LiveScript.{IsCommand, app as app_command};
 ghost use Rattle.link_text.specs.declared.live_script.AppCommand.{AppCommand as AnyCommand};
 ghost use Rattle.link_live.specs.ScriptRun.{IsScriptRun, is_look};
 ghost use Rattle.link_live.specs.TakingRun.{IsCommandAt, IsTaking};
 
 use crate::edit::commit_of;
-use crate::rest::rest;
+use crate::handing::{ask_to_end, hand_over};
 use audio_handoff::StateCell;
 use client_state::Commit;
 use link_shared::{AppPass, Capture, Link, LinkName};
@@ -125,36 +123,4 @@ fn looks(act: Act) -> bool
     ensures { result ≡ is_look act }
 {
     matches!(act, Act::Look)
-}
-
-// Hands a commit over, as soon as the queue has room. Answers its number.
-// Waits: for the desk, and for room in the queue, a rest at a time. Memory: none.
-fn hand_over<C: StateCell<11>, N: LinkName, R: Wait>(
-    rt: &R,
-    link: &Link<C, N>,
-    pass: &mut AppPass<C, N>,
-    commit: Commit,
-) -> u64
-    requires tidy { IsTidyCommit commit }
-    ensures committed { HasCommitted pass.old pass.new commit result }
-{
-    for _ in rt.forever() {
-        if let Ok(number) = link.commit(rt, pass, commit) {
-            return number;
-        }
-        rest(rt);
-    }
-    unreachable!()
-}
-
-// Asks the network's loop to end, as soon as the queue has room.
-// Waits: for the desk, and for room in the queue, a rest at a time. Memory: none.
-fn ask_to_end<C: StateCell<11>, N: LinkName, R: Wait>(rt: &R, link: &Link<C, N>) {
-    for _ in rt.forever() {
-        if link.quit(rt).is_ok() {
-            return;
-        }
-        rest(rt);
-    }
-    unreachable!()
 }

@@ -11,9 +11,11 @@ mod EventLemmas
 mod HeadLemmas
 mod EventUniqueLemmas
 mod PairLemmas
+mod ControlLineLemmas
 mod ScriptLemmas
 mod LiveLineLemmas
 mod LiveLemmas
+mod LiveHeadLemmas
 mod NextLemmas
 mod WrittenHeadLemmas
 mod WrittenScriptLemmas

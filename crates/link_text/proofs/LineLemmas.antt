@@ -1,5 +1,5 @@
 -- The lines of a text.
-use Rattle.std.proofs.Common.{◌≡◌, refl, sym, ◌∙◌, ap, arith, ℕ, zero, suc, ◌+◌, ◌-◌, ◌<◌, ◌≤◌, ◌==◌, if◌then◌else◌, List, [], ◌∷◌, ◌++◌, length, take, drop}
+use Rattle.std.proofs.Common.{◌≡◌, refl, sym, ◌∙◌, ap, arith, ℕ, zero, suc, Bool, true, false, ◌+◌, ◌-◌, ◌<◌, ◌≤◌, ◌==◌, if◌then◌else◌, List, [], ◌∷◌, ◌++◌, length, take, drop}
 use Rattle.std.specs.List.{Contains, onto_first}
 use Rattle.std.proofs.lemmas.List.{take_rest, drop-drop, drop_at, length-drop, length-append, append_assoc, drop_all}
 use Rattle.std.proofs.lemmas.Bool.Decides.{nat_tests}
@@ -74,6 +74,20 @@ line_left text at within lacks =
     ∙ lines_last _ some lacks
     ∙ ap (λ (xs : List (List ℕ)). take (length text - at) (drop at text) ∷ xs)
     (sym (ap lines_of (drop_all (length text) text (omega arith)) ∙ lines_none))
+
+onto_some : (b : ℕ) (lines : List (List ℕ)) → (line : List ℕ) × (rest : List (List ℕ)) × (onto_first b lines ≡ line ∷ rest)
+onto_some b [] = (b ∷ [], [], refl)
+onto_some b (line ∷ lines) = (b ∷ line, lines, refl)
+
+-- some bytes have a line
+pub lines_some : (bytes : List ℕ) → 0 < length bytes → (line : List ℕ) × (rest : List (List ℕ)) × (lines_of bytes ≡ line ∷ rest)
+unfolding lines_of
+lines_some [] some = absurd (omega arith)
+lines_some (b ∷ bytes) some = by_test (b == 10)
+  where
+    by_test : (t : Bool) → (line : List ℕ) × (rest : List (List ℕ)) × ((if t then [] ∷ lines_of bytes else onto_first b (lines_of bytes)) ≡ line ∷ rest)
+    by_test true = ([], lines_of bytes, refl)
+    by_test false = onto_some b (lines_of bytes)
 
 -- no line stands at the end
 pub lines_end : (text : List ℕ) (at : ℕ) → length text ≤ at → lines_of (drop at text) ≡ []

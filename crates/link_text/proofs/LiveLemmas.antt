@@ -1,7 +1,6 @@
 -- Live scripts: how far a text is one, and where it stops to be one.
-use Rattle.std.proofs.Common.{◌≡◌, inl, inr, refl, sym, ◌∙◌, ap, subst, arith, ℤ, pos, ℕ, ◌+◌, ◌-◌, ◌≤◌, ◌^◌, Bool, true, false, not, if◌then◌else◌, List, [], ◌∷◌, ◌++◌, length, map, filter, drop}
+use Rattle.std.proofs.Common.{◌≡◌, inl, inr, refl, sym, ◌∙◌, ap, subst, arith, ℤ, ℕ, ◌+◌, ◌-◌, ◌≤◌, ◌^◌, Bool, true, false, not, if◌then◌else◌, List, [], ◌∷◌, ◌++◌, length, map, filter, drop}
 use Rattle.std.specs.List.{All, flat_map}
-use Rattle.std.proofs.lemmas.Int.{ints}
 use Rattle.std.proofs.lemmas.List.{append_assoc, append-nil, map-append, length-append}
 use Rattle.std.proofs.lemmas.List.Elements.{All-head, All-tail, All-nil, All-push, filter-append}
 use Rattle.lk_base.specs.declared.endpoint.Endpoint.{Endpoint}
@@ -12,13 +11,13 @@ use Rattle.link_text.specs.declared.live_script.BlockCommand.{BlockCommand}
 use Rattle.link_text.specs.declared.place.Place.{Place}
 use Rattle.link_text.specs.HeadParts.{gate_line, to_line, LacksGate, AreFull}
 use Rattle.link_text.specs.Places.{IsAhead, counting_from}
-use Rattle.link_text.specs.ReplayScript.{IsGate, gate_lines}
+use Rattle.link_text.specs.ReplayScript.{gate_lines}
 use Rattle.link_text.specs.LiveScript.{Command, app, block, IsTempo, IsLiveHead, IsCommand, IsLiveScript, IsLiveText, IsSomeLiveScript, IsLiveLineFault, apps_in, blocks_in, begins_command, command_line, commands_told, live_head_lines, live_version_line, setup_line}
 use Rattle.link_text.specs.LiveParts.{HasBadCommand, HasCommands, IsLiveStart, TakesCommand, lines_told}
 use Rattle.link_text.proofs.HeadLemmas.{gates_one, lacks_gate_as, first_differs, full_events}
 use Rattle.link_text.proofs.FirstFaultLemmas as faults
 use Rattle.link_text.proofs.FirstFaultLemmas.{IsCounted, BeginAlike, alike_first, line_fault}
-use Rattle.link_text.proofs.ScriptLemmas.{some_gate, some_gate_is, some_gate_lines, some_first, full_alike, lacks_gate_alike}
+use Rattle.link_text.proofs.ScriptLemmas.{some_first, full_alike, lacks_gate_alike}
 use Rattle.link_text.proofs.LiveLineLemmas.{setup_one, command_one}
 
 -- ---- how lines go on to a live script
@@ -49,50 +48,12 @@ pub fault_here : (text : List ℕ) (place : Place) (said : List (List ℕ)) → 
 fault_here text place said short ahead is starts none =
     line_fault IsSomeLiveScript SaysLive text place said live_counted short ahead is starts none
 
--- ---- lines of heads
+-- ---- how it begins
 
-live_open : (mpb : ℤ) (sync : Bool) (gates : List GateValue)
+pub live_open : (mpb : ℤ) (sync : Bool) (gates : List GateValue)
     → live_head_lines mpb sync gates ≡ live_version_line ∷ setup_line mpb sync ∷ flat_map gate_lines gates
 unfolding live_head_lines
 live_open mpb sync gates = refl
-
-some_tempo : IsTempo (pos 60_060)
-some_tempo = record { fastest = omega (arith, ints); slowest = omega (arith, ints) }
-
--- a setup's line, a gate's and no command
-goes_on : (mpb : ℤ) (sync : Bool) (lines : List (List ℕ)) → IsTempo mpb
-    → lines ≡ live_version_line ∷ setup_line mpb sync ∷ gate_line (record { addr = 0; port = 0 }) ∷ [] → SaysLive lines
-goes_on mpb sync lines is are = record {
-  mpb = mpb;
-  sync = sync;
-  gates = some_gate ∷ [];
-  commands = [];
-  head = record { tempo = is; some_gate = omega arith; few_gates = omega arith; each = All-push IsGate [] some_gate (All-nil IsGate) some_gate_is };
-  each = All-nil IsCommand;
-  lines_are = are ∙ ap (λ (ls : List (List ℕ)). live_version_line ∷ setup_line mpb sync ∷ ls) (sym some_gate_lines)
-      ∙ sym (live_open mpb sync (some_gate ∷ [])) ∙ sym (append-nil (live_head_lines mpb sync (some_gate ∷ [])));
-}
-
-pub starts_none : Starts []
-starts_none = record {
-  more = live_version_line ∷ setup_line (pos 60_060) false ∷ gate_line (record { addr = 0; port = 0 }) ∷ [];
-  goes = goes_on (pos 60_060) false _ some_tempo refl;
-  counts = refl;
-}
-
-pub starts_version : Starts (live_version_line ∷ [])
-starts_version = record {
-  more = setup_line (pos 60_060) false ∷ gate_line (record { addr = 0; port = 0 }) ∷ [];
-  goes = goes_on (pos 60_060) false _ some_tempo refl;
-  counts = refl;
-}
-
-pub starts_setup : (mpb : ℤ) (sync : Bool) → IsTempo mpb → Starts (live_version_line ∷ setup_line mpb sync ∷ [])
-starts_setup mpb sync is = record {
-  more = gate_line (record { addr = 0; port = 0 }) ∷ [];
-  goes = goes_on mpb sync _ is refl;
-  counts = refl;
-}
 
 starts_commands : (mpb : ℤ) (sync : Bool) (gates : List GateValue) (commands : List Command) → IsLiveHead mpb gates → All IsCommand commands
     → Starts (live_head_lines mpb sync gates ++ map command_line commands)
@@ -151,23 +112,23 @@ commands_no_gate : (commands : List Command) (e : Endpoint) (more : List (List �
 commands_no_gate [] e more same = cc
 commands_no_gate (command ∷ commands) e more same = command_no_gate command e (cc same)
 
-commands_no_to : (commands : List Command) (e : Endpoint) (more : List (List ℕ)) → map command_line commands ≡ to_line e ∷ more → ⊥
+pub commands_no_to : (commands : List Command) (e : Endpoint) (more : List (List ℕ)) → map command_line commands ≡ to_line e ∷ more → ⊥
 commands_no_to [] e more same = cc
 commands_no_to (command ∷ commands) e more same = command_no_to command e (cc same)
 
-commands_lack : (count : ℕ) (commands : List Command) → LacksGate count (map command_line commands)
+pub commands_lack : (count : ℕ) (commands : List Command) → LacksGate count (map command_line commands)
 commands_lack count commands = inl (λ e more range same. commands_no_gate commands e more same)
 
 -- ---- a head is read in one way
 
 -- two heads and what is behind them
-record IsOneHead (m n : ℤ) (s t : Bool) (gs hs : List GateValue) (xs ys : List (List ℕ)) : Type 0 where
+pub record IsOneHead (m n : ℤ) (s t : Bool) (gs hs : List GateValue) (xs ys : List (List ℕ)) : Type 0 where
   pub tempo : m ≡ n
   pub sync : s ≡ t
   pub gates : gs ≡ hs
   pub rest : xs ≡ ys
 
-head_one : (m n : ℤ) (s t : Bool) (gs hs : List GateValue) (xs ys : List (List ℕ)) → IsLiveHead m gs → IsLiveHead n hs
+pub head_one : (m n : ℤ) (s t : Bool) (gs hs : List GateValue) (xs ys : List (List ℕ)) → IsLiveHead m gs → IsLiveHead n hs
     → AreFull gs xs → AreFull hs ys → LacksGate (length gs) xs → LacksGate (length hs) ys
     → live_head_lines m s gs ++ xs ≡ live_head_lines n t hs ++ ys → IsOneHead m n s t gs hs xs ys
 head_one m n s t gs hs xs ys is_g is_h full_x full_y lacks_x lacks_y same =

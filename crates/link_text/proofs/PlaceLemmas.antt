@@ -1,11 +1,11 @@
 -- Places in a text.
 use Rattle.std.proofs.Common.{◌≡◌, refl, sym, ◌∙◌, ap, arith, ℕ, ◌+◌, ◌<◌, ◌≤◌, Bool, true, false, not, List, [], ◌∷◌, ◌++◌, if◌then◌else◌, length, drop}
-use Rattle.std.proofs.lemmas.List.{append_assoc, length_push, length-append}
+use Rattle.std.proofs.lemmas.List.{append_assoc, length_push, length-append, length-drop}
 use Rattle.std.proofs.lemmas.List.Elements.{filter-append}
 use Rattle.link_text.specs.Lines.{lines_of, is_passed, counting_in}
 use Rattle.link_text.specs.Places.{HasWalked, HasPassed, IsAhead, HasLine, StopsAt, counting_from}
 use Rattle.link_text.specs.declared.place.Place.{Place}
-use Rattle.link_text.proofs.LineLemmas.{lines_end}
+use Rattle.link_text.proofs.LineLemmas.{lines_end, lines_some}
 
 counts : List ℕ → Bool
 counts line = not (is_passed line)
@@ -105,3 +105,10 @@ line_next text line place behind next ahead lines further has =
 
 pub counting_end : (text : List ℕ) (at : ℕ) → length text ≤ at → counting_from text at ≡ []
 counting_end text at all = ap counting_in (lines_end text at all)
+
+-- where a text goes on, some line counts
+pub counting_some : (text : List ℕ) (place : Place) → IsAhead text place → place.at < length text
+    → (line : List ℕ) × (rest : List (List ℕ)) × (counting_from text place.at ≡ line ∷ rest)
+counting_some text place ahead some =
+    let there = lines_some (drop place.at text) (omega (arith, length-drop place.at text)) in
+    (there.0, counting_in there.1, ap counting_in there.2 ∙ counting_counted there.0 there.1 (ahead.stops there.0 there.1 there.2))

@@ -9,6 +9,8 @@ pub mod ReadingLine
 pub mod FirstFault
 pub mod ReplayScript
 pub mod LiveScript
+pub mod LiveHead
+pub mod ControlLine
 pub mod EventDetails
 pub mod Places
 pub mod HeadParts

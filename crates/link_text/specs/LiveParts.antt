@@ -4,7 +4,8 @@ use Rattle.link_node.specs.Config.{GateValue}
 use Rattle.link_text.specs.Lines.{lines_of, counting_in}
 use Rattle.link_text.specs.HeadParts.{AreFull, LacksGate}
 use Rattle.link_text.specs.Places.{IsAhead, HasLine, counting_from}
-use Rattle.link_text.specs.LiveScript.{Command, IsCommand, IsLiveHead, apps_in, blocks_in, begins_command, command_line, live_head_lines}
+use Rattle.link_text.specs.LiveHead.{IsHeadLineFault}
+use Rattle.link_text.specs.LiveScript.{Command, IsCommand, IsLiveHead, IsLiveLineFault, apps_in, blocks_in, begins_command, command_line, live_head_lines}
 use Rattle.link_text.specs.declared.live_script.AppCommand.{AppCommand}
 use Rattle.link_text.specs.declared.live_script.BlockCommand.{BlockCommand}
 use Rattle.link_text.specs.declared.place.Place.{Place}
@@ -16,6 +17,11 @@ pub record IsLiveStart (text : List ℕ) (mpb : ℤ) (sync : Bool) (gates : List
   pub said : counting_in (lines_of text) ≡ live_head_lines mpb sync gates ++ counting_from text place.at
   pub full : AreFull gates (counting_from text place.at)
   pub lacks : LacksGate (length gates) (counting_from text place.at)
+
+-- the first line at fault stands before the commands, so that it is at fault whether commands may follow or not
+pub record IsStartFault (text : List ℕ) (k : ℕ) : Type 0 where
+  pub live : IsLiveLineFault text k
+  pub head : IsHeadLineFault text k
 
 -- how many of some lines begin as those of commands
 abbrev pub lines_told : List (List ℕ) → ℕ

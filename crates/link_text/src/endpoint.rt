@@ -8,8 +8,8 @@ ghost use Rattle.link_text.specs.Words.{dotted, endpoint_text_of};
 use crate::number::{number_before, number_of};
 use lk_base::Endpoint;
 
-/// The endpoint that a word says.
-pub(crate) fn endpoint_of(word: &[u8]) -> Option<Endpoint>
+/// The endpoint that a word says. Memory: none.
+pub fn endpoint_of(word: &[u8]) -> Option<Endpoint>
     ensures some { IfSome result (λ e. IsEndpoint e × (word.now ≡ endpoint_text_of e)) }
     ensures none { IfNone result ((e : Endpoint) → IsEndpoint e → word.now ≡ endpoint_text_of e → ⊥) }
 {

@@ -4,7 +4,9 @@ ghost use Rattle.std.specs.Prelude.{◌≡◌, ◌≤◌, ◌<◌, ◌+◌, ◌^
 ghost use Rattle.link_node.specs.Config.{ConfigValue, GateValue};
 ghost use Rattle.link_node.specs.Event.{EventValue};
 ghost use Rattle.link_node.specs.Runs.{AreFitting};
+ghost use Rattle.link_text.specs.ControlLine.{AreControlLines};
 ghost use Rattle.link_text.specs.Lines.{lines_of};
+ghost use Rattle.link_text.specs.LiveHead.{IsFirstHeadFault, IsHeadText};
 ghost use Rattle.link_text.specs.LiveScript.{Command, IsFirstLiveFault, IsLiveScript, IsLiveText};
 ghost use Rattle.link_text.specs.Load.{HasOneLoadText};
 ghost use Rattle.link_text.specs.PairLine.{IsPairLine};
@@ -56,4 +58,17 @@ pub fn one_live_script()
 pub fn one_pair()
     ensures { (line : List ℕ) (first second third fourth : ℤ) → IsPairLine line first second → IsPairLine line third fourth
         → (first ≡ third) × (second ≡ fourth) }
+{}
+
+/// A text says one setup at most as a head without commands, and one line of a text outside that grammar is the first at fault.
+pub fn one_live_head()
+    ensures head { (text : List ℕ) (m n : ℤ) (s t : Bool) (gs hs : List GateValue) → IsHeadText text m s gs → IsHeadText text n t hs
+        → (m ≡ n) × (s ≡ t) × (gs ≡ hs) }
+    ensures fault { (text : List ℕ) (k j : ℕ) → IsFirstHeadFault text k → IsFirstHeadFault text j → k ≡ j }
+    ensures no_fault { (text : List ℕ) (k : ℕ) (m : ℤ) (s : Bool) (gs : List GateValue) → IsFirstHeadFault text k → IsHeadText text m s gs → ⊥ }
+{}
+
+/// A client's line asks for one thing at most, and a long line for none.
+pub fn control_lines()
+    ensures { AreControlLines }
 {}

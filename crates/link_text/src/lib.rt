@@ -3,11 +3,12 @@
 //! In reading order: `line` (a line that is put together), `text_line` (the lines of a text), `word`, `number`, `truth`, `node_id`,
 //! `endpoint`, `hex_word` (what a word says), `words`, `values` (a line word by word), `pair` (a line of two numbers), `place` (the lines
 //! that count), `commit_read`, `event_read`, `head_read` (a line of each kind), `fault`, `head`, `replay_script`, `live_read` (the lines of
-//! a live script), `live_script`, `reason`, `head_line`, `event_line`, `sending_line`, `state_line`, `reading_line`, `load` (the events of
-//! a generated run); last `laws`.
+//! a live script), `live_script`, `live_head`, `control_line` (the lines of a client), `reason`, `head_line`, `event_line`,
+//! `sending_line`, `state_line`, `reading_line`, `load` (the events of a generated run); last `laws`.
 #![tactic(auto)]
 
 mod commit_read;
+mod control_line;
 mod endpoint;
 mod event_line;
 mod event_read;
@@ -18,6 +19,7 @@ mod head_read;
 mod hex_word;
 mod laws;
 mod line;
+mod live_head;
 mod live_read;
 mod live_script;
 mod load;
@@ -36,20 +38,25 @@ mod values;
 mod word;
 mod words;
 
+pub use control_line::{ControlLine, control_line_of};
+pub use endpoint::endpoint_of;
 pub use event_line::write_event;
 pub use fault::BadLine;
 pub use head::Head;
 pub use head_line::write_head;
 pub use laws::{
-    one_live_script, one_load_text, one_pair, one_script, scripts_fit_nodes,
-    written_scripts_are_read,
+    control_lines, one_live_head, one_live_script, one_load_text, one_pair, one_script,
+    scripts_fit_nodes, written_scripts_are_read,
 };
-pub use line::{LineBuf, put, put_decimal, put_endpoint, put_signed, put_truth};
+pub use line::{LineBuf, put, put_decimal, put_endpoint, put_short_hex, put_signed, put_truth};
+pub use live_head::{HeadFault, LiveHead, read_live_head};
 pub use live_script::{Act, AppCommand, BlockCommand, LiveFault, LiveScript, read_live};
 pub use load::LoadEvents;
 pub use pair::pair_of;
 pub use reading_line::write_reading;
-pub use reason::{Excerpt, Expected, Found, Reason, explain, explain_live, explain_pair};
+pub use reason::{
+    Excerpt, Expected, Found, Reason, explain, explain_head, explain_live, explain_pair,
+};
 pub use replay_script::{check_replay, next_event};
 pub use sending_line::write_sending;
 pub use state_line::{write_done_line, write_load_line, write_state_line};

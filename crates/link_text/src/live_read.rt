@@ -171,12 +171,9 @@ fn tempo_act(left: &[u8]) -> Option<Act>
     ensures some { IfSome result (λ act. IsAct act × (codes "tempo" ∷ words_left left.now ≡ act_words act)) }
     ensures none { IfNone result ((mpb : ℤ) → IsTempo mpb → words_left left.now ≡ signed_decimal mpb ∷ [] → ⊥) }
 {
-    let Some((mpb, left)) = tempo_in(left) else {
+    let Some(mpb) = tempo_left(left) else {
         return None;
     };
-    if !is_end(left) {
-        return None;
-    }
     Some(Act::Tempo(mpb))
 }
 
@@ -185,7 +182,7 @@ fn force_act(left: &[u8]) -> Option<Act>
     ensures some { IfSome result (λ act. IsAct act × (codes "force" ∷ words_left left.now ≡ act_words act)) }
     ensures none { IfNone result ((beat : ℤ) → IsWithinLimit beat → words_left left.now ≡ signed_decimal beat ∷ [] → ⊥) }
 {
-    let Some(beat) = beat_of(left) else {
+    let Some(beat) = signed_left(left) else {
         return None;
     };
     Some(Act::Force(beat))
@@ -196,7 +193,7 @@ fn request_act(left: &[u8]) -> Option<Act>
     ensures some { IfSome result (λ act. IsAct act × (codes "request" ∷ words_left left.now ≡ act_words act)) }
     ensures none { IfNone result ((beat : ℤ) → IsWithinLimit beat → words_left left.now ≡ signed_decimal beat ∷ [] → ⊥) }
 {
-    let Some(beat) = beat_of(left) else {
+    let Some(beat) = signed_left(left) else {
         return None;
     };
     Some(Act::Request(beat))
@@ -216,16 +213,30 @@ fn quantum_act(left: &[u8]) -> Option<Act>
     Some(Act::Quantum(quantum))
 }
 
-// The beat that all that is left of a line says.
-fn beat_of(left: &[u8]) -> Option<i64>
-    ensures some { IfSome result (λ beat. IsWithinLimit beat × (words_left left.now ≡ signed_decimal beat ∷ [])) }
-    ensures none { IfNone result ((beat : ℤ) → IsWithinLimit beat → words_left left.now ≡ signed_decimal beat ∷ [] → ⊥) }
+/// The tempo that all that is left of a line says.
+pub(crate) fn tempo_left(left: &[u8]) -> Option<i64>
+    ensures some { IfSome result (λ mpb. IsTempo mpb × (words_left left.now ≡ signed_decimal mpb ∷ [])) }
+    ensures none { IfNone result ((mpb : ℤ) → IsTempo mpb → words_left left.now ≡ signed_decimal mpb ∷ [] → ⊥) }
 {
-    let Some((beat, left)) = signed_in(left) else {
+    let Some((mpb, left)) = tempo_in(left) else {
         return None;
     };
     if !is_end(left) {
         return None;
     }
-    Some(beat)
+    Some(mpb)
+}
+
+/// The number within 2^60 of 0 that all that is left of a line says.
+pub(crate) fn signed_left(left: &[u8]) -> Option<i64>
+    ensures some { IfSome result (λ number. IsWithinLimit number × (words_left left.now ≡ signed_decimal number ∷ [])) }
+    ensures none { IfNone result ((number : ℤ) → IsWithinLimit number → words_left left.now ≡ signed_decimal number ∷ [] → ⊥) }
+{
+    let Some((number, left)) = signed_in(left) else {
+        return None;
+    };
+    if !is_end(left) {
+        return None;
+    }
+    Some(number)
 }

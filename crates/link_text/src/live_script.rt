@@ -2,7 +2,7 @@
 
 ghost use Rattle.std.specs.Prelude.{◌≡◌, ◌≤◌, ◌<◌, ◌+◌, ◌-◌, ◌^◌, ◌∷◌, [], ℕ, ℤ, Bool, true, false, List, length, map, vec_len, vec_capacity, IsTrue, IfOk, IfErr, IsErrOf, IfSome, IfNone};
 ghost use Rattle.link_node.specs.Config.{gate_value};
-ghost use Rattle.link_text.specs.LiveParts.{HasBadCommand, HasCommands, IsLiveStart, TakesCommand, lines_told};
+ghost use Rattle.link_text.specs.LiveParts.{HasBadCommand, HasCommands, IsLiveStart, IsStartFault, TakesCommand, lines_told};
 ghost use Rattle.link_text.specs.LiveScript.{Command, IsCommand, IsLiveLineFault, IsLiveText, IsTempo, begins_command, command_line, commands_told, live_version_line, setup_line};
 ghost use Rattle.link_text.specs.Places.{IsAhead, counting_from};
 
@@ -18,7 +18,7 @@ use link_node::GateSetup;
 use std::alloc::{AllocError, Global};
 
 /// How many commands a script may have.
-const MOST_COMMANDS: usize = 4_096;
+pub(crate) const MOST_COMMANDS: usize = 4_096;
 
 /// What is done.
 #[derive(Clone, Copy, Debug, PartialEq, Eq)]
@@ -109,8 +109,8 @@ pub fn read_live(alloc: Global, text: &[u8]) -> Result<LiveScript, LiveFault>
     }
 }
 
-// How many lines begin as those of commands.
-fn commands_in(text: &[u8]) -> usize
+/// How many lines begin as those of commands.
+pub(crate) fn commands_in(text: &[u8]) -> usize
     ensures { result ≡ commands_told text.now }
 {
     let mut count = 0;
@@ -127,11 +127,11 @@ fn commands_in(text: &[u8]) -> usize
 
 /// What stands before the commands.
 #[derive(Drop)]
-struct Start {
-    mpb: i64,
-    sync: bool,
-    gates: ArrayVec<GateSetup, 4>,
-    behind: Place,
+pub(crate) struct Start {
+    pub mpb: i64,
+    pub sync: bool,
+    pub gates: ArrayVec<GateSetup, 4>,
+    pub behind: Place,
 }
 
 // The whole script, or the place of the first line at fault.
@@ -159,12 +159,12 @@ fn read_lines(
     Ok(start)
 }
 
-// What stands before the commands, or the place of the first line at fault.
-fn start_of(text: &[u8]) -> Result<Start, Place>
+/// What stands before the commands, or the place of the first line at fault, whether commands may follow or not.
+pub(crate) fn start_of(text: &[u8]) -> Result<Start, Place>
     requires { length text.now ≤ 2 ^ 32 - 2 }
     ensures start { IfOk result (λ start.
         IsLiveStart text.now start.mpb start.sync (map gate_value start.gates.items) start.behind) }
-    ensures fault { IfErr result (λ place. IsLiveLineFault text.now place.number) }
+    ensures fault { IfErr result (λ place. IsStartFault text.now place.number) }
 {
     let first = first_place(text);
     let Some(second) = version_from(text, first) else {

@@ -45,6 +45,8 @@ enum Kind {
     Replay,
     /// A setup, and commands.
     Live,
+    /// A setup alone.
+    Head,
 }
 
 /// What a script has on its next line.
@@ -58,7 +60,7 @@ enum Stage {
     Quantum,
     /// The last gate stands with so many destinations.
     Gates { before: Before, destinations: u8 },
-    /// Events, or commands.
+    /// Events, or commands, or the end.
     Body { before: Before },
 }
 
@@ -84,6 +86,13 @@ pub fn explain_live(text: &[u8], line: u32) -> Reason
     requires { length text.now ≤ 2 ^ 32 - 2 }
 {
     explain_as(Kind::Live, text, line)
+}
+
+/// Why a line of a live script's head, counted from 1, is at fault, where those before it are not. Memory: none.
+pub fn explain_head(text: &[u8], line: u32) -> Reason
+    requires { length text.now ≤ 2 ^ 32 - 2 }
+{
+    explain_as(Kind::Head, text, line)
 }
 
 /// Why a line is no pair of a sample count and a host time. Memory: none.
@@ -161,7 +170,7 @@ fn behind_gates(kind: Kind, before: Before, destinations: u8, line: &[u8]) -> St
 
 fn behind_body(kind: Kind, before: Before, line: &[u8]) -> Stage {
     let Before { gates, audio, .. } = before;
-    if kind == Kind::Live || gates == 0 || gates > 4 {
+    if kind != Kind::Replay || gates == 0 || gates > 4 {
         return Stage::Body { before };
     }
     let audio = match event_of(line, gates, audio) {
@@ -178,6 +187,7 @@ fn expected_at(kind: Kind, stage: Stage) -> Expected {
     match kind {
         Kind::Replay => expected_in_replay(stage),
         Kind::Live => expected_in_live(stage),
+        Kind::Head => expected_in_head(stage),
     }
 }
 
@@ -217,6 +227,23 @@ fn expected_in_live(stage: Stage) -> Expected {
             Open::Neither => Expected::Command,
         },
         Stage::Body { .. } => Expected::Command,
+    }
+}
+
+fn expected_in_head(stage: Stage) -> Expected {
+    match stage {
+        Stage::Gates {
+            before,
+            destinations,
+        } => match lines_open(before.gates, destinations) {
+            Open::Gate => Expected::Gate,
+            Open::GateOrDestination => Expected::GateDestinationOrEnd,
+            Open::FurtherGate => Expected::GateOrEnd,
+            Open::Destination => Expected::DestinationOrEnd,
+            Open::Neither => Expected::ScriptEnd,
+        },
+        Stage::Body { .. } => Expected::ScriptEnd,
+        _ => expected_in_live(stage),
     }
 }
 

@@ -3,4 +3,6 @@ mod CommandWordLemmas
 mod ValueWordLemmas
 mod OptionLemmas
 mod LiveWordLemmas
+mod EndpointWordLemmas
+mod ControlWordLemmas
 pub mod NameLemmas

@@ -32,6 +32,7 @@ is_command text name.Load is = ap command_of is
 is_command text name.Live is = ap command_of is
 is_command text name.Filter is = ap command_of is
 is_command text name.Midi is = ap command_of is
+is_command text name.Control is = ap command_of is
 
 some_one : {A : Type 0} {one other : A} → Some one ≡ Some other → one ≡ other
 some_one is = cc
@@ -49,15 +50,17 @@ no_then test one other is = ap (λ (b : Bool). if b then one else other) is
 
 -- the word of no command
 pub is_no_command : (text : List ℕ) → (text ≡ codes "replay" → ⊥) → (text ≡ codes "decode" → ⊥) → (text ≡ codes "load" → ⊥)
-    → (text ≡ codes "live" → ⊥) → (text ≡ codes "filter" → ⊥) → (text ≡ codes "midi" → ⊥) → command_of text ≡ None
+    → (text ≡ codes "live" → ⊥) → (text ≡ codes "filter" → ⊥) → (text ≡ codes "midi" → ⊥) → (text ≡ codes "control" → ⊥)
+    → command_of text ≡ None
 unfolding command_of
-is_no_command text no_replay no_decode no_load no_live no_filter no_midi =
+is_no_command text no_replay no_decode no_load no_live no_filter no_midi no_control =
     no_then (bytes_eq text (codes "replay")) _ _ (apart text (codes "replay") no_replay)
     ∙ no_then (bytes_eq text (codes "decode")) _ _ (apart text (codes "decode") no_decode)
     ∙ no_then (bytes_eq text (codes "load")) _ _ (apart text (codes "load") no_load)
     ∙ no_then (bytes_eq text (codes "live")) _ _ (apart text (codes "live") no_live)
     ∙ no_then (bytes_eq text (codes "filter")) _ _ (apart text (codes "filter") no_filter)
     ∙ no_then (bytes_eq text (codes "midi")) _ _ (apart text (codes "midi") no_midi)
+    ∙ no_then (bytes_eq text (codes "control")) _ _ (apart text (codes "control") no_control)
 
 -- words that begin with a command's word name it
 pub begun_is : (words : List (String Global)) (named : CommandName) → BeginsBy named words → named_by words ≡ Some named
@@ -66,25 +69,27 @@ begun_is [] named (rest, is) = cc
 begun_is (word ∷ words) named (rest, is) = is_command (string_bytes word) named (ap (λ (xs : List (List ℕ)). get_or xs 0 []) is)
 
 -- the command of a text, by which words it is
-of_tests : (text : List ℕ) (replay decode load live filter midi : Bool) (named : CommandName) → bytes_eq text (codes "replay") ≡ replay
+of_tests : (text : List ℕ) (replay decode load live filter midi control : Bool) (named : CommandName) → bytes_eq text (codes "replay") ≡ replay
     → bytes_eq text (codes "decode") ≡ decode → bytes_eq text (codes "load") ≡ load → bytes_eq text (codes "live") ≡ live
-    → bytes_eq text (codes "filter") ≡ filter → bytes_eq text (codes "midi") ≡ midi
+    → bytes_eq text (codes "filter") ≡ filter → bytes_eq text (codes "midi") ≡ midi → bytes_eq text (codes "control") ≡ control
     → (if replay then Some name.Replay else if decode then Some name.Decode else if load then Some name.Load else if live then Some name.Live
-    else if filter then Some name.Filter else if midi then Some name.Midi else None) ≡ Some named
+    else if filter then Some name.Filter else if midi then Some name.Midi else if control then Some name.Control else None) ≡ Some named
     → text ≡ word_of named
-of_tests text true decode load live filter midi named r d l v f m is =
+of_tests text true decode load live filter midi control named r d l v f m c is =
     subst (λ (n : CommandName). text ≡ word_of n) (some_one is) ((bytes_eq-Decides text (codes "replay")).0 r)
-of_tests text false true load live filter midi named r d l v f m is =
+of_tests text false true load live filter midi control named r d l v f m c is =
     subst (λ (n : CommandName). text ≡ word_of n) (some_one is) ((bytes_eq-Decides text (codes "decode")).0 d)
-of_tests text false false true live filter midi named r d l v f m is =
+of_tests text false false true live filter midi control named r d l v f m c is =
     subst (λ (n : CommandName). text ≡ word_of n) (some_one is) ((bytes_eq-Decides text (codes "load")).0 l)
-of_tests text false false false true filter midi named r d l v f m is =
+of_tests text false false false true filter midi control named r d l v f m c is =
     subst (λ (n : CommandName). text ≡ word_of n) (some_one is) ((bytes_eq-Decides text (codes "live")).0 v)
-of_tests text false false false false true midi named r d l v f m is =
+of_tests text false false false false true midi control named r d l v f m c is =
     subst (λ (n : CommandName). text ≡ word_of n) (some_one is) ((bytes_eq-Decides text (codes "filter")).0 f)
-of_tests text false false false false false true named r d l v f m is =
+of_tests text false false false false false true control named r d l v f m c is =
     subst (λ (n : CommandName). text ≡ word_of n) (some_one is) ((bytes_eq-Decides text (codes "midi")).0 m)
-of_tests text false false false false false false named r d l v f m is = cc
+of_tests text false false false false false false true named r d l v f m c is =
+    subst (λ (n : CommandName). text ≡ word_of n) (some_one is) ((bytes_eq-Decides text (codes "control")).0 c)
+of_tests text false false false false false false false named r d l v f m c is = cc
 
 -- and words that name a command begin with its word
 pub begins : (words : List (String Global)) (named : CommandName) → named_by words ≡ Some named → BeginsBy named words
@@ -93,5 +98,5 @@ begins [] named is = cc
 begins (word ∷ words) named is = (
   map string_bytes words,
   ap (λ (text : List ℕ). text ∷ map string_bytes words)
-      (of_tests (string_bytes word) _ _ _ _ _ _ named refl refl refl refl refl refl is),
+      (of_tests (string_bytes word) _ _ _ _ _ _ _ named refl refl refl refl refl refl refl is),
 )

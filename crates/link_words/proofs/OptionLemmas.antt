@@ -1,8 +1,8 @@
--- What clap reads of an option with a default whose values are whole numbers.
+-- Options with a default whose values are whole numbers: what clap reads of them, and what they keep.
 use Rattle.std.proofs.Common.{◌≡◌, ◌<◌, ◌≤◌, ◌∙◌, ℕ, zero, suc, Bool, true, false, List, [], ◌∷◌, length, is_some, Option, Some, None, get_or, refl, sym, ap, subst, inl, inr, arith}
 use Rattle.std.specs.Prelude.{find, option_map, slice_get}
 use Rattle.std.specs.Borrow.{Bor}
-use Rattle.std.specs.List.{All, slice_index_or}
+use Rattle.std.specs.List.{All, IsDistinct, slice_index_or}
 use Rattle.std.specs.Str.{bytes_eq}
 use Rattle.std.proofs.lemmas.List.Elements.{All-get_or}
 use Rattle.std.proofs.lemmas.Slice.Eq.{bytes_eq-Decides}
@@ -23,8 +23,8 @@ use Rattle.clap.specs.declared.parser.matches.Found.{Found}
 use Rattle.clap.specs.declared.parser.matches.MatchedArg.{MatchedArg}
 use Rattle.clap.proofs.CallerLemmas.{default_present, entry_by_id, same_rules_by_id}
 use Rattle.link_words.specs.CommandWords.{HasNumber}
-use Rattle.link_words.specs.LiveCommand.{IsOptionArg}
-use Rattle.link_words.proofs.CommandWordLemmas.{named, own}
+use Rattle.link_words.specs.OptionWords.{IsLocalArg, IsOptionArg}
+use Rattle.link_words.proofs.CommandWordLemmas.{letter, named, only_one, own, same_id}
 
 -- ---- the entry
 
@@ -128,23 +128,48 @@ module _ (c : Command) (a : Arg) (id : List ℕ) (least most : ℕ) (groups : gr
 
 -- ---- the option
 
--- an option of the command has a number in its range
+-- an option of a command whose arguments' names differ has a number in its range
 pub option_read : (c : Command) (m : ArgMatches) → IsParsedFrom c m → IsPlain c → (out-Command c).has_globals ≡ false
-    → (k : ℕ) (a : Arg) (id : List ℕ) (least most : ℕ) → k < length (args_of c) → slice_index_or (args_of c) k a ≡ a
-    → IsOptionArg a id least most
-    → ((j : ℕ) (e : Arg) → j < length (args_of c) → bytes_eq (slice_index_or (args_of c) j e).id.now a.id.now ≡ true → j ≡ k)
-    → (first : ℕ) → get_or a.id.now 0 0 ≡ first → 1 ≤ first → (first ≡ 104 → ⊥) → (first ≡ 118 → ⊥)
+    → (xs : List Arg) → args_of c ≡ xs → IsDistinct same_id xs
+    → (k : ℕ) (a : Arg) (id : List ℕ) (least most : ℕ) → k < length xs → slice_index_or xs k a ≡ a → IsOptionArg a id least most
+    → 1 ≤ get_or id 0 0 → (get_or id 0 0 ≡ 104 → ⊥) → (get_or id 0 0 ≡ 118 → ⊥)
     → HasNumber m id least most
-option_read c m p plain local k a id least most low at is unique first letter some no_help no_version =
+option_read c m p plain local xs args distinct k a id least most low at is some no_help no_version =
     let parsed = p.parsed (p.from.globals ∙ local) in
+    let first : get_or a.id.now 0 0 ≡ get_or id 0 0 = letter a id is.id_is in
+    let lt : k < length (args_of c) = subst (λ (ys : List Arg). k < length ys) (sym args) low in
+    let at_c : slice_index_or (args_of c) k a ≡ a = ap (λ (ys : List Arg). slice_index_or ys k a) args ∙ at in
     let there : HasId (found_of m) a.id.now =
-    subst (λ (x : Arg). HasId (found_of m) x.id.now) at (default_present c m p local k a low (subst WantsDefault (sym at) is.defaulted)) in
+    subst (λ (x : Arg). HasId (found_of m) x.id.now) at_c (default_present c m p local k a lt (subst WantsDefault (sym at_c) is.defaulted)) in
     let same : (j : ℕ) (x : Arg) → j < length (args_of p.built) → slice_index_or (args_of p.built) j x ≡ x → bytes_eq x.id.now a.id.now ≡ true
     → SameRules a x =
-    λ j x below at_x hit. subst (λ (y : Arg). SameRules y x) at (same_rules_by_id c m p k a low
-    (λ i e under one. unique i e under (subst (λ (y : Arg). bytes_eq (slice_index_or (args_of c) i e).id.now y.id.now ≡ true) at one))
-    (λ auto. own a first letter no_help no_version (subst IsAuto at auto))
-    j x below at_x (subst (λ (y : Arg). bytes_eq x.id.now y.id.now ≡ true) (sym at) hit)) in
+    λ j x below at_x hit. subst (λ (y : Arg). SameRules y x) at_c (same_rules_by_id c m p k a lt
+    (λ i e under one.
+    only_one (args_of c) (subst (IsDistinct same_id) (sym args) distinct) k a lt at_c i e under
+    (subst (λ (y : Arg). bytes_eq (slice_index_or (args_of c) i e).id.now y.id.now ≡ true) at_c one))
+    (λ auto. own a (get_or id 0 0) first no_help no_version (subst IsAuto at_c auto))
+    j x below at_x (subst (λ (y : Arg). bytes_eq x.id.now y.id.now ≡ true) (sym at_c) hit)) in
     subst (λ (w : List ℕ). HasNumber m w least most) is.id_is
-    (found_read p.built a a.id.now least most (p.from.plain plain).1 (named a.id.now first letter some) same is.kept is.whole is.least_one is.parsed
-    (found_of m) parsed.values there)
+    (found_read p.built a a.id.now least most (p.from.plain plain).1 (named a.id.now (get_or id 0 0) first some) same
+    is.kept is.whole is.least_one is.parsed (found_of m) parsed.values there)
+
+-- ---- arguments keep what they are where they are added
+
+pub option_added : (a b : Arg) (id : List ℕ) (least most : ℕ) → SameRules a b → IsOptionArg a id least most → IsOptionArg b id least most
+option_added a b id least most same is = record {
+  id_is = ap (λ x. x.now) same.id ∙ is.id_is;
+  plain = (same.exclusive ∙ is.plain.0, same.conflicts ∙ is.plain.1, same.overrides ∙ is.plain.2, same.groups ∙ is.plain.3);
+  local = same.global ∙ is.local;
+  defaulted = (same.ifs ∙ is.defaulted.0, rw (same.defaults is.defaulted.1) is.defaulted.1);
+  kept = same.action Set is.kept;
+  whole = same.val_delim ∙ is.whole;
+  least_one = same.least is.kept is.least_one;
+  parsed = same.parser (parser.Unsigned least most) is.parsed;
+}
+
+pub local_added : (a b : Arg) (id : List ℕ) → SameRules a b → IsLocalArg a id → IsLocalArg b id
+local_added a b id same is = record {
+  id_is = ap (λ x. x.now) same.id ∙ is.id_is;
+  plain = (same.exclusive ∙ is.plain.0, same.conflicts ∙ is.plain.1, same.overrides ∙ is.plain.2, same.groups ∙ is.plain.3);
+  local = same.global ∙ is.local;
+}

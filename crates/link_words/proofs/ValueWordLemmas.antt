@@ -1,10 +1,9 @@
 -- What clap read of the words of a command with two values.
-use Rattle.std.proofs.Common.{◌≡◌, ◌<◌, ◌≤◌, ◌∙◌, ℕ, zero, suc, ◌++◌, List, [], ◌∷◌, Some, true, false, length, get_or, refl, sym, ap, ap₂, subst, ◌||◌, arith}
-use Rattle.std.specs.List.{All, slice_index_or}
+use Rattle.std.proofs.Common.{◌≡◌, ◌<◌, ◌≤◌, ◌∙◌, ℕ, zero, suc, List, [], ◌∷◌, Some, true, false, length, get_or, refl, sym, ap, subst, arith}
+use Rattle.std.specs.List.{slice_index_or}
 use Rattle.std.specs.Str.{bytes_eq}
-use Rattle.std.proofs.lemmas.List.Elements.{All-nil}
 use Rattle.clap.specs.Facts.{least_values}
-use Rattle.clap.specs.Words.{IsParsedFrom, IsPlain, IsPlainArg, rule_of, with_rule, args_of, found_of, one_text}
+use Rattle.clap.specs.Words.{IsParsedFrom, IsPlain, rule_of, args_of, found_of, one_text}
 use Rattle.clap.specs.Built.{AddsArg, IsAuto, SameRules}
 use Rattle.clap.specs.declared.builder.action.ArgAction.TheVariants.{Set}
 use Rattle.clap.specs.declared.builder.arg.Arg.{Arg}
@@ -12,17 +11,13 @@ use Rattle.clap.specs.declared.builder.command.Command.{Command}
 use Rattle.clap.specs.declared.builder.command.Command.TheViews.{out-Command}
 use Rattle.clap.specs.declared.builder.value_parser.ValueParser.TheVariants as parser
 use Rattle.clap.specs.declared.parser.matches.ArgMatches.{ArgMatches}
-use Rattle.clap.proofs.CallerLemmas.{added_plain}
 use Rattle.clap.proofs.CallerReads.{required_reads}
 use Rattle.link_words.specs.CommandWords.{HasNumber}
 use Rattle.link_words.specs.ValueCommand.{IsNumberArg, IsValuesCommand}
 use Rattle.link_words.specs.ValueWords.{number_rule}
-use Rattle.link_words.proofs.CommandWordLemmas.{IsBare, named, own, same_first}
+use Rattle.link_words.proofs.CommandWordLemmas.{IsBare, letter, named, none_yet, one_more, own, same_first}
 
 -- ---- the two values
-
-letter : (a : Arg) (id : List ℕ) → a.id.now ≡ id → get_or a.id.now 0 0 ≡ get_or id 0 0
-letter a id is = ap (λ (xs : List ℕ). get_or xs 0 0) is
 
 -- the two names begin with different letters
 module _ (a b : Arg) (one other : List ℕ) (a_is : a.id.now ≡ one) (b_is : b.id.now ≡ other) (apart : get_or one 0 0 ≡ get_or other 0 0 → ⊥) where
@@ -112,15 +107,16 @@ pub whole_command : (name one : List ℕ) (least most : ℕ) (other : List ℕ) 
     → rule_of a ≡ number_rule one least most → IsNumberArg a one least most
     → rule_of b ≡ number_rule other least' most' → IsNumberArg b other least' most'
     → IsValuesCommand name one least most other least' most' end
-whole_command name one least most other least' most' c mid end a b bare to_mid to_end a_rule a_is b_rule b_is = record {
-  app = to_end.shape b_is.local ∙ ap₂ with_rule (to_mid.shape a_is.local ∙ ap₂ with_rule bare.app a_rule) b_rule;
-  first = to_mid.arg;
-  second = to_end.arg;
-  args = to_end.args ∙ ap (λ (xs : List Arg). xs ++ to_end.arg ∷ []) (to_mid.args ∙ ap (λ (xs : List Arg). xs ++ to_mid.arg ∷ []) bare.none);
-  first_is = number_added a to_mid.arg one least most to_mid.rules a_is;
-  second_is = number_added b to_end.arg other least' most' to_end.rules b_is;
-  plain = added_plain mid end b to_end
-      (added_plain c mid a to_mid (subst (All IsPlainArg) (sym bare.none) (All-nil IsPlainArg), bare.groups) a_is.plain) b_is.plain;
-  local = to_end.globals ∙ ap₂ (λ x y. x || y) (to_mid.globals ∙ ap₂ (λ x y. x || y) bare.local a_is.local) b_is.local;
-  negates = to_end.negates ∙ (to_mid.negates ∙ bare.negates);
-}
+whole_command name one least most other least' most' c mid end a b bare to_mid to_end a_rule a_is b_rule b_is =
+    let with_first = one_more _ _ c mid a _ (none_yet name c bare) to_mid a_rule a_is.plain a_is.local in
+    let whole = one_more _ _ mid end b _ with_first to_end b_rule b_is.plain b_is.local in record {
+      app = whole.app;
+      first = to_mid.arg;
+      second = to_end.arg;
+      args = whole.args;
+      first_is = number_added a to_mid.arg one least most to_mid.rules a_is;
+      second_is = number_added b to_end.arg other least' most' to_end.rules b_is;
+      plain = whole.plain;
+      local = whole.local;
+      negates = to_end.negates ∙ (to_mid.negates ∙ bare.negates);
+    }

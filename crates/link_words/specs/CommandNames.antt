@@ -15,6 +15,7 @@ word_of name.Load = codes "load"
 word_of name.Live = codes "live"
 word_of name.Filter = codes "filter"
 word_of name.Midi = codes "midi"
+word_of name.Control = codes "control"
 
 -- the command of a word, if it is one
 unfoldable pub command_of : List ℕ → Option CommandName
@@ -25,6 +26,7 @@ command_of word =
     else if bytes_eq word (word_of name.Live) then Some name.Live
     else if bytes_eq word (word_of name.Filter) then Some name.Filter
     else if bytes_eq word (word_of name.Midi) then Some name.Midi
+    else if bytes_eq word (word_of name.Control) then Some name.Control
     else None
 
 -- the command that the first of the words names; none where there is no word, or another one

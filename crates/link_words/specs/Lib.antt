@@ -4,5 +4,9 @@ pub mod ValueWords
 pub mod ValueCommand
 pub mod LoadWords
 pub mod MidiWords
+pub mod OptionWords
 pub mod LiveWords
 pub mod LiveCommand
+pub mod EndpointWords
+pub mod ControlWords
+pub mod ControlCommand

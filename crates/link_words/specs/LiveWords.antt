@@ -1,29 +1,14 @@
 -- The words of `live`: those that a simple command of clap takes, which has four options with defaults and a flag.
-use Rattle.std.specs.Prelude.{◌≡◌, ◌↔◌, ◌^◌, ℕ, pos, true, List, [], ◌∷◌, Some, map, codes}
+use Rattle.std.specs.Prelude.{◌≡◌, ◌↔◌, ◌^◌, ℕ, pos, true, List, [], Some, map, codes}
 use Rattle.std.specs.String.{string_bytes}
 use Rattle.std.specs.declared.alloc.Global.{Global}
 use Rattle.std.specs.declared.string.String.{String}
-use Rattle.clap.specs.Words.{App, Rule, fault_of, matches_of, new_rule, one_of, with_rule}
-use Rattle.clap.specs.declared.builder.action.ArgAction.TheVariants.{Set, SetTrue}
-use Rattle.clap.specs.declared.builder.value_parser.ValueParser.TheVariants as parser
+use Rattle.clap.specs.Words.{App, fault_of, matches_of, one_of, with_rule}
 use Rattle.link_words.specs.CommandNames.{BeginsBy}
 use Rattle.link_words.specs.CommandWords.{Says, bare_app}
+use Rattle.link_words.specs.OptionWords.{flag_rule, option_rule}
 use Rattle.link_words.specs.declared.live_words.LiveOptions.{LiveOptions}
 use Rattle.link_words.specs.declared.command_name.CommandName.TheVariants as name
-
--- an option whose value is a whole number in this range; where the words don't give it, it is the default
-abbrev pub option_rule : List ℕ → ℕ → ℕ → List ℕ → Rule
-option_rule id least most default = record (new_rule id) {
-  long = Some id;
-  action = Some Set;
-  value_names = 1;
-  parser = Some (parser.Unsigned least most);
-  defaults = default ∷ [];
-}
-
--- a flag: `true` where the words give it, and else `false`
-abbrev pub flag_rule : List ℕ → Rule
-flag_rule id = record (new_rule id) { long = Some id; action = Some SetTrue }
 
 abbrev pub live_app : App
 live_app =

@@ -18,6 +18,8 @@ pub enum CommandName {
     Filter,
     /// `midi`
     Midi,
+    /// `control`
+    Control,
 }
 
 impl CommandName {
@@ -32,6 +34,7 @@ impl CommandName {
             CommandName::Live => "live",
             CommandName::Filter => "filter",
             CommandName::Midi => "midi",
+            CommandName::Control => "control",
         }
     }
 }
@@ -50,6 +53,7 @@ pub fn command_named(words: &[String]) -> Option<CommandName>
         "live" => Some(CommandName::Live),
         "filter" => Some(CommandName::Filter),
         "midi" => Some(CommandName::Midi),
+        "control" => Some(CommandName::Control),
         _ => None,
     }
 }

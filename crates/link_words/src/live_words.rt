@@ -1,20 +1,19 @@
 //! The words of `live`.
 
-ghost use Rattle.std.specs.Prelude.{◌≡◌, ◌↔◌, ◌≤◌, ◌^◌, ℕ, List, pos, true, Some, codes, map, IfOk, IsErrOf};
+ghost use Rattle.std.specs.Prelude.{◌≡◌, ◌≤◌, ◌^◌, codes, map, IfOk, IsErrOf};
 ghost use Rattle.std.specs.String.{string_bytes};
-ghost use Rattle.clap.specs.Words.{FailsBy, HasMatchesOf, fault_of, found_of, one_text, rule_of};
-ghost use Rattle.clap.specs.declared.builder.value_parser.ValueParser.TheVariants.{Unsigned};
+ghost use Rattle.clap.specs.Words.{FailsBy, HasMatchesOf, fault_of};
 ghost use Rattle.lk_base.specs.Ranges.{IsQuantum};
-ghost use Rattle.link_words.specs.CommandWords.{HasNumber, IsNumberIn};
-ghost use Rattle.link_words.specs.LiveCommand.{IsLiveCommand, IsLocalArg, IsOptionArg};
-ghost use Rattle.link_words.specs.LiveWords.{BeginsLive, IsLive, NamesLive, flag_rule, live_app, option_rule};
+ghost use Rattle.link_words.specs.CommandWords.{HasNumber};
+ghost use Rattle.link_words.specs.LiveCommand.{IsLiveCommand};
+ghost use Rattle.link_words.specs.LiveWords.{BeginsLive, IsLive, NamesLive, live_app};
 
 use crate::command_line::begins_with;
 use crate::command_name::CommandName;
 use crate::command_words::{WordsFault, number_in};
-use clap::builder::ValueParser;
+use crate::option_words::{flag, flag_in, group_in, microbeats_in, option};
 use clap::error::ErrorKind;
-use clap::{Arg, ArgAction, ArgMatches, Command, Error, value_parser};
+use clap::{ArgMatches, Command, Error, value_parser};
 use std::alloc::{AllocError, Global};
 
 /// How a live run is set up by its words.
@@ -57,30 +56,6 @@ pub fn live_options(alloc: Global, words: &[String]) -> Result<LiveOptions, Word
         Err(error) if error.kind() == ErrorKind::OutOfMemory => Err(WordsFault::Memory),
         Err(_) => Err(WordsFault::NotTaken),
     }
-}
-
-// The number of microbeats of this name.
-fn microbeats_in(matches: &ArgMatches<'_>, id: &str) -> i64
-    requires some { HasNumber matches.now id.now 0 (2 ^ 40) }
-    ensures is { (number : ℕ) × IsNumberIn matches.now id.now number × (result ≡ pos number) }
-    ensures range { IsQuantum result }
-{
-    number_in(matches, id) as i64
-}
-
-// The group of this name.
-fn group_in(matches: &ArgMatches<'_>, id: &str) -> u16
-    requires some { HasNumber matches.now id.now 0 65_535 }
-    ensures { IsNumberIn matches.now id.now result }
-{
-    number_in(matches, id) as u16
-}
-
-// Whether the flag of this name was given.
-fn flag_in(matches: &ArgMatches<'_>, id: &str) -> bool
-    ensures { (result ≡ true) ↔ (one_text (found_of matches.now) id.now ≡ Some (codes "true")) }
-{
-    matches.get_one::<bool>(id).unwrap_or(false)
 }
 
 /// What clap makes of the words.
@@ -137,36 +112,4 @@ pub fn live_command<'a>(alloc: Global) -> Result<Command<'a>, AllocError>
         .arg(quantum)?
         .arg(group)?
         .arg(flag(alloc, "record", "also writes the run's replay script"))
-}
-
-// An option with a default, whose value is a whole number in the parser's range.
-fn option<'a>(
-    alloc: Global,
-    id: &'a str,
-    default: &'a str,
-    help: &'a str,
-    parser: ValueParser<'a>,
-) -> Arg<'a>
-    ensures rule { (least most : ℕ) → parser.entry ≡ Unsigned least most
-        → rule_of result ≡ option_rule id.entry.now least most default.entry.now }
-    ensures kept { (least most : ℕ) → parser.entry ≡ Unsigned least most → IsOptionArg result id.entry.now least most }
-{
-    Arg::new(alloc, id)
-        .long(id)
-        .action(ArgAction::Set)
-        .value_name("N")
-        .value_parser(parser)
-        .default_value(default)
-        .help(help)
-}
-
-// A flag.
-fn flag<'a>(alloc: Global, id: &'a str, help: &'a str) -> Arg<'a>
-    ensures rule { rule_of result ≡ flag_rule id.entry.now }
-    ensures kept { IsLocalArg result id.entry.now }
-{
-    Arg::new(alloc, id)
-        .long(id)
-        .action(ArgAction::SetTrue)
-        .help(help)
 }

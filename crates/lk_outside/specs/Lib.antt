@@ -6,6 +6,7 @@ pub mod Arrivals
 pub mod Port
 pub mod Audio
 pub mod Pace
+pub mod Talk
 pub mod Failing
 pub mod BytesSource
 pub mod BytesSink
@@ -13,5 +14,6 @@ pub mod Coming
 pub mod ListPort
 pub mod ListAudio
 pub mod ListPace
+pub mod ListTalk
 pub mod Transfer
 pub use Rattle.lk_base.specs.Ranges

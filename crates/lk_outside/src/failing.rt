@@ -25,6 +25,15 @@ pub const NEXT: u8 = 0;
 /// The kind of an audio device's plays.
 pub const PLAY: u8 = 1;
 
+/// The kind of a talk's calls to listen.
+pub const LISTEN: u8 = 0;
+
+/// The kind of a talk's reads.
+pub const HEAR: u8 = 1;
+
+/// The kind of a talk's writes.
+pub const SAY: u8 = 2;
+
 // Whether the list has the call of this number among those of its kind.
 pub(crate) fn fails_at(failing: &[(u8, u64)], kind: u8, call: u64) -> bool
     ensures { IsTrue result ↔ FailsAt failing.now kind call }

@@ -4,3 +4,4 @@ mod devices;
 mod ports;
 mod sinks;
 mod sources;
+mod talks;

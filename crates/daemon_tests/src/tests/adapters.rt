@@ -3,5 +3,6 @@
 mod devices;
 mod refusals;
 mod streams;
+mod tcp;
 mod told;
 mod udp;

@@ -668,8 +668,8 @@ fn is_as_told<R: Threads + Wait + Sync>(
     Ok(status.number() == row.status && line_of(status) == row.line && texts.out.bytes() == wanted)
 }
 
-// The line at fault that a status tells, 0 for none.
-fn line_of(status: Status) -> u32 {
+/// The line at fault that a status tells, 0 for none.
+pub fn line_of(status: Status) -> u32 {
     match status {
         Status::Script { line, .. } => line,
         _ => 0,

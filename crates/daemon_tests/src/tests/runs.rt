@@ -2,9 +2,9 @@
 
 ghost use Rattle.std.specs.Prelude.{◌<◌};
 
-use link_daemon::{Status, link_main};
+use link_daemon::{SessionLog, Status, link_main};
 use link_live::Report;
-use lk_outside::{BytesSink, BytesSource, ListAudio, ListPace, ListPort, Sink, Source};
+use lk_outside::{BytesSink, BytesSource, ListAudio, ListPace, ListPort, ListTalk, Sink, Source};
 use std::alloc::{AllocError, Global};
 use std::slice;
 use std::sync::Wait;
@@ -84,7 +84,19 @@ fn no_devices(alloc: Global) -> Result<Devices, AllocError> {
     })
 }
 
-/// Runs the program on these words, over a port and a device without contents.
+/// A talk whose client says nothing, with no room for an answer.
+pub fn silent_talk(alloc: Global) -> Result<ListTalk, AllocError> {
+    ListTalk::new(alloc, Vec::new(alloc), 1, 0, Vec::new(alloc))
+}
+
+/// A log of no run, without room.
+pub fn empty_log(alloc: Global) -> SessionLog {
+    SessionLog {
+        lines: Vec::new(alloc),
+    }
+}
+
+/// Runs the program on these words, over a port, a device and a talk without contents.
 pub fn run<R: Threads + Wait + Sync, S: Source, K: Sink>(
     rt: &R,
     alloc: Global,
@@ -93,6 +105,7 @@ pub fn run<R: Threads + Wait + Sync, S: Source, K: Sink>(
     out: &mut K,
 ) -> Result<Status, AllocError> {
     let words = spelled(alloc, words)?;
+    let mut talk = silent_talk(alloc)?;
     let mut devices = no_devices(alloc)?;
     Ok(link_main(
         rt,
@@ -102,9 +115,11 @@ pub fn run<R: Threads + Wait + Sync, S: Source, K: Sink>(
         input,
         &mut devices.port,
         &mut devices.audio,
+        &mut talk,
         &mut ListPace::new(0),
         out,
         &mut devices.report,
+        &mut empty_log(alloc),
     ))
 }
 

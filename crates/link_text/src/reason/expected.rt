@@ -44,6 +44,13 @@ pub enum Expected {
     GateOrCommand,
     DestinationOrCommand,
     Command,
+    GateDestinationOrEnd,
+    GateOrEnd,
+    DestinationOrEnd,
+    /// No line behind the gates.
+    ScriptEnd,
+    /// None in a script for a node under control.
+    NoCommand,
     BlockNumber,
     /// What an application does.
     Act,
@@ -109,6 +116,13 @@ impl Expected {
             Expected::DestinationOrCommand =>
                 "`to` or a command, as there are four gates: `at` or `block`",
             Expected::Command => "a command: `at` or `block`",
+            Expected::GateDestinationOrEnd => "`gate`, `to` or the end of the script",
+            Expected::GateOrEnd =>
+                "`gate` or the end of the script, as the gate has 32 destinations",
+            Expected::DestinationOrEnd => "`to` or the end of the script, as there are four gates",
+            Expected::ScriptEnd => "the end of the script",
+            Expected::NoCommand =>
+                "no command: a script for `control` has none, as its client gives them",
             Expected::BlockNumber => "the number of a block from 1 to 524288",
             Expected::Act => "`tempo`, `force`, `request`, `quantum`, `play`, `stop` or `look`",
             Expected::BlockAct => "`tempo`, `quantum`, `play` or `stop`",

@@ -83,7 +83,7 @@ fn version(kind: Kind, line: &[u8]) -> Reason {
     let (word, left) = first_word(line);
     let named = match kind {
         Kind::Replay => is_word(word, b"replay"),
-        Kind::Live => is_word(word, b"link"),
+        Kind::Live | Kind::Head => is_word(word, b"link"),
     };
     if !named {
         return at(0, word, left, expected);
@@ -104,7 +104,7 @@ fn is_version(kind: Kind, number: &[u8]) -> bool {
 fn opening(kind: Kind, line: &[u8]) -> Reason {
     match kind {
         Kind::Replay => node(line),
-        Kind::Live => setup(line),
+        Kind::Live | Kind::Head => setup(line),
     }
 }
 
@@ -181,6 +181,7 @@ fn body(kind: Kind, line: &[u8], stage: Stage, before: Before) -> Reason {
     match kind {
         Kind::Replay => event(line, stage, before),
         Kind::Live => command(line, stage, before.gates),
+        Kind::Head => end(line, stage, before.gates),
     }
 }
 
@@ -355,4 +356,14 @@ fn shared_act(line: &[u8], left: &[u8], expected: Expected) -> Reason {
         return behind(line, rest, Expected::LineEnd);
     }
     behind(line, left, expected)
+}
+
+// Behind the gates, where there is no command.
+fn end(line: &[u8], stage: Stage, gates: u8) -> Reason {
+    let (word, left) = first_word(line);
+    let command = is_word(word, b"at") || is_word(word, b"block");
+    if gates > 0 && command {
+        return at(0, word, left, Expected::NoCommand);
+    }
+    at(0, word, left, expected_at(Kind::Head, stage))
 }

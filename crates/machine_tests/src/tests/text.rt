@@ -1,7 +1,9 @@
 //! Texts of `link_text`: lines as they are written, scripts as they are read.
 
 mod commands;
+mod control;
 mod explanations;
+mod head;
 mod lines;
 mod live;
 mod load;

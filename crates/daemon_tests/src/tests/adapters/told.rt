@@ -80,13 +80,22 @@ const ABOUTS: &[(u64, u64, u64, u16, &str)] = &[
 fn it_is_told_how_a_run_was_set_up(rt: HostRuntime) -> Result<(), Fail> {
     for (blocks, events, quantum, group, told) in ABOUTS {
         let about = About {
-            blocks: *blocks,
+            command: "live",
+            blocks: Some(*blocks),
             events: *events,
             quantum: *quantum,
             group: *group,
         };
         assert!(rt; tells(rt.alloc(), about, told)?, "{told}");
     }
+    let about = About {
+        command: "control",
+        blocks: None,
+        events: 1,
+        quantum: 0,
+        group: 0,
+    };
+    assert!(rt; tells(rt.alloc(), about, "room for 1 event, no bars")?);
     Ok(())
 }
 

@@ -30,7 +30,8 @@ const SOON: i64 = 20_000_000;
 
 /// What is told of a run where a port is bound.
 const ABOUT: About = About {
-    blocks: 0,
+    command: "live",
+    blocks: Some(0),
     events: 1,
     quantum: 0,
     group: 0,

@@ -1,4 +1,4 @@
-//! A port that tells when it is over, and a pace that holds commands until then.
+//! A port that tells when it is over and when it sends, and a pace that holds commands until it is over.
 
 ghost use Rattle.std.specs.Prelude.{None};
 ghost use Rattle.lk_outside.specs.ListPort.{told_of, bound_of, faults_of};
@@ -11,11 +11,12 @@ use std::sync::atomic::AtomicU64;
 /// How often the pace looks whether the port is over, in a call at most.
 const LOOKS: u64 = 2_000_000_000;
 
-/// A port in memory that raises a count once it is closed or one of its calls has failed.
+/// A port in memory that raises a count once it is closed or one of its calls has failed, and another one at each send.
 #[derive(Drop)]
 pub struct Telling<'a> {
     pub port: ListPort,
     pub over: &'a AtomicU64,
+    pub sent: &'a AtomicU64,
 }
 
 impl<'a> Port for Telling<'a> {
@@ -43,6 +44,7 @@ impl<'a> Port for Telling<'a> {
     fn send(&mut self, gate: Gate, to: Endpoint, bytes: &[u8]) -> Posted {
         let posted = self.port.send(gate, to, bytes);
         raise_where(self.over, matches!(posted, Posted::Failed));
+        raise(self.sent);
         posted
     }
 }

@@ -7,7 +7,7 @@
 ghost use Rattle.std.specs.Prelude.{None};
 ghost use Rattle.lk_outside.specs.ListPort.{bound_of, faults_of};
 
-use super::super::runs::spelled;
+use super::super::runs::{empty_log, silent_talk, spelled};
 use super::blocks::block_after;
 use super::events::count_of;
 use super::flags::{has_come, raise};
@@ -18,7 +18,7 @@ use link_daemon::{Status, link_main};
 use link_live::Report;
 use link_shared::Capture;
 use lk_base::{Clicks, Endpoint, Gate, NodeId};
-use lk_outside::{Arrival, Audio, Bound, ListPort, Next, Pace, Played, Port, Posted};
+use lk_outside::{Arrival, Audio, Bound, ListPort, ListTalk, Next, Pace, Played, Port, Posted};
 use std::alloc::{AllocError, Global};
 use std::sync::Wait;
 use std::sync::atomic::AtomicU64;
@@ -185,8 +185,9 @@ fn the_loops_overlap(rt: HostRuntime) -> Result<(), Fail> {
     let script = script_of(rt.alloc())?;
     let mut sides = sides_over(rt.alloc(), &script, 0)?;
     let inner = quiet_port(rt.alloc(), 200)?;
+    let talk = silent_talk(rt.alloc())?;
     let words = spelled(rt.alloc(), "live")?;
-    assert!(rt; go_on_together(&rt, rt.alloc(), &words, &mut sides, inner));
+    assert!(rt; go_on_together(&rt, rt.alloc(), &words, &mut sides, inner, talk));
     assert!(rt; are_rounds(&sides.report));
     Ok(())
 }
@@ -198,6 +199,7 @@ fn go_on_together<R: Threads + Wait + Sync>(
     words: &[String],
     sides: &mut Sides,
     inner: ListPort,
+    mut talk: ListTalk,
 ) -> bool {
     let marks = Marks::new();
     let mut port = Peers::new(&marks, inner);
@@ -210,9 +212,11 @@ fn go_on_together<R: Threads + Wait + Sync>(
         &mut sides.input,
         &mut port,
         &mut audio,
+        &mut talk,
         &mut Lines::new(&marks),
         &mut sides.out,
         &mut sides.report,
+        &mut empty_log(alloc),
     );
     status == Status::Done && audio.given == ROUNDS + 1 && port.given == ROUNDS
 }

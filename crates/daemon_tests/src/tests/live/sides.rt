@@ -1,11 +1,11 @@
 //! What a live run is given and what it leaves, in memory.
 
-use super::super::runs::spelled;
+use super::super::runs::{empty_log, silent_talk, spelled};
 use super::blocks::blocks_of;
 use super::held::{Holding, Telling};
-use link_daemon::{Status, link_main};
+use link_daemon::{SessionLog, Status, link_main};
 use link_live::Report;
-use lk_outside::{BytesSink, BytesSource, ListAudio, ListPort, Pace, Port};
+use lk_outside::{BytesSink, BytesSource, ListAudio, ListPort, Pace, Port, Talk};
 use std::alloc::{AllocError, Global};
 use std::sync::Wait;
 use std::sync::atomic::AtomicU64;
@@ -17,7 +17,7 @@ pub const SEED: u64 = 7;
 /// The first id that the seed gives.
 pub const OWN: &[u8; 8] = b"-ke:4:.`";
 
-/// What a run is given besides its port and its pace, and what it leaves.
+/// What a run is given besides its port, its talk and its pace, and what it leaves.
 #[derive(Drop)]
 pub struct Sides {
     pub input: BytesSource,
@@ -45,7 +45,7 @@ pub fn quiet_port(alloc: Global, room: usize) -> Result<ListPort, AllocError> {
 }
 
 impl Sides {
-    /// Runs the program on these words.
+    /// Runs the program on these words, over a talk without contents.
     pub fn run<R: Threads + Wait + Sync, P: Port + Send, T: Pace + Send>(
         &mut self,
         rt: &R,
@@ -54,19 +54,16 @@ impl Sides {
         port: &mut P,
         pace: &mut T,
     ) -> Result<Status, AllocError> {
-        let words = spelled(alloc, words)?;
-        Ok(link_main(
+        let mut talk = silent_talk(alloc)?;
+        self.run_talking(
             rt,
             alloc,
-            &words,
-            SEED,
-            &mut self.input,
+            words,
             port,
-            &mut self.audio,
+            &mut talk,
             pace,
-            &mut self.out,
-            &mut self.report,
-        ))
+            &mut empty_log(alloc),
+        )
     }
 
     /// The same with a pace that holds the commands until the port is over, which it gives back.
@@ -77,9 +74,41 @@ impl Sides {
         words: &str,
         port: ListPort,
     ) -> Result<(Status, ListPort), AllocError> {
-        let over = AtomicU64::new(0);
-        let mut telling = Telling { port, over: &over };
+        let (over, sent) = (AtomicU64::new(0), AtomicU64::new(0));
+        let mut telling = Telling {
+            port,
+            over: &over,
+            sent: &sent,
+        };
         let status = self.run(rt, alloc, words, &mut telling, &mut Holding::new(&over))?;
         Ok((status, telling.port))
+    }
+
+    /// Runs the program on these words, over a talk.
+    pub fn run_talking<R: Threads + Wait + Sync, P: Port + Send, L: Talk + Send, T: Pace + Send>(
+        &mut self,
+        rt: &R,
+        alloc: Global,
+        words: &str,
+        port: &mut P,
+        talk: &mut L,
+        pace: &mut T,
+        log: &mut SessionLog,
+    ) -> Result<Status, AllocError> {
+        let words = spelled(alloc, words)?;
+        Ok(link_main(
+            rt,
+            alloc,
+            &words,
+            SEED,
+            &mut self.input,
+            port,
+            &mut self.audio,
+            talk,
+            pace,
+            &mut self.out,
+            &mut self.report,
+            log,
+        ))
     }
 }

@@ -8,8 +8,8 @@ use Rattle.link_text.specs.declared.live_script.AppCommand.{AppCommand}
 use Rattle.link_text.specs.declared.live_script.BlockCommand.{BlockCommand}
 use Rattle.link_live.specs.LiveRun.{told_of}
 use Rattle.link_live.specs.Report.{ReportValue, report_value}
-use Rattle.link_daemon.proofs.CourseLemmas.{has_published}
-use Rattle.link_daemon.proofs.LiveLemmas.{moment_fits, replays, run_of_script, where_done, where_failed}
+use Rattle.link_daemon.proofs.LiveLemmas.{replays, run_of_script}
+use Rattle.link_daemon.proofs.RunLemmas.{has_published, moment_fits, wrote_part, wrote_whole}
 use Rattle.link_daemon.proofs.live.run_script.Goals as goal
 
 pub new-requires-2-clause-apps : goal.new-requires-2-clause-apps
@@ -42,14 +42,8 @@ returns g c =
           c.until-now.result c.in-Ok.parts.opened_at c.in-Ok.parts.most _ _ _ _ _ _ _ _ _ _ _ c.live_run-run.result c.is_ok.result _
           c.config_of-config.ensures.config c.config_of-config.ensures.apps c.config_of-config.ensures.blocks (given.0, given.1 ∙ stored, given.2)
           c.until-now.ensures.late c.live_run-run.ensures.ends kept
-          (λ yes. record {
-            whole = where_done c.write_report-written.result c.write_report-written.ensures.whole (sym c.is_ok.ensures.value ∙ yes);
-            quiet = where_done c.write_report-written.result c.write_report-written.ensures.quiet (sym c.is_ok.ensures.value ∙ yes);
-          })
-          (λ not. record {
-            part = where_failed c.write_report-written.result c.write_report-written.ensures.part (sym c.is_ok.ensures.value ∙ not);
-            rose = where_failed c.write_report-written.result c.write_report-written.ensures.cause (sym c.is_ok.ensures.value ∙ not);
-          })
+          (wrote_whole c.write_report-written.result c.is_ok.result _ _ _ c.is_ok.ensures.value c.write_report-written.ensures.whole c.write_report-written.ensures.quiet)
+          (wrote_part c.write_report-written.result c.is_ok.result _ _ _ c.is_ok.ensures.value c.write_report-written.ensures.part c.write_report-written.ensures.cause)
           (let say = c.are_sayable.ensures in
           replays c.written_scripts_are_read.ensures c.requires.script.0 c.args.seed c.args.options.now c.args.script (config_value c.config_of-config.result) c.in-Ok.parts.config
           c.until-now.result c.live_run-run.result (report_value c.keep.new.self)
@@ -58,6 +52,6 @@ returns g c =
           c.live_run-run.ensures.fitting (rw c.deref.ensures.value at say) kept)
           c.status_of.ensures;
       unbegun = λ memory none.
-          absurd (has_published c.live_run-run.result.end c.live_run-run.ensures.ends
+          absurd (has_published c.live_run-run.ensures.ends.run.recorded
           (sym (ap (λ (report : ReportValue). report.published) c.keep.ensures) ∙ none));
     }

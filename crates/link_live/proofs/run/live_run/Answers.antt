@@ -5,7 +5,8 @@ use Rattle.link_live.specs.LiveRun.{EndsLiveRun, setup_of, told_of}
 use Rattle.link_live.specs.Network.{locals_of}
 use Rattle.link_live.specs.declared.run.LiveEnd.{LiveEnd}
 use Rattle.link_live.proofs.AskLemmas.{moment_fits}
-use Rattle.link_live.proofs.CloseLemmas.{all_fit, can_play, can_run, can_take, last_on_gates, plays_few, run_ends, still_bound}
+use Rattle.link_live.proofs.CloseLemmas.{can_play, can_take, plays_few, run_ends}
+use Rattle.link_live.proofs.NetworkLemmas.{all_fit, can_run, last_on_gates, still_bound}
 use Rattle.link_live.proofs.run.live_run.Goals as goal
 
 pub run_loops-ends-requires-clause-network : goal.run_loops-ends-requires-clause-network

@@ -10,17 +10,18 @@ use Rattle.link_text.specs.Places.{counting_from}
 use Rattle.link_text.specs.ReplayScript.{gate_lines}
 use Rattle.link_text.specs.LiveScript.{live_version_line, setup_line}
 use Rattle.link_text.proofs.NumberLemmas.{stored}
-use Rattle.link_text.proofs.LiveLemmas.{fault_here, starts_none, starts_version, starts_setup, no_version, no_setup, no_gate, start_said}
+use Rattle.link_text.proofs.LiveLemmas.{no_version, no_setup, no_gate, start_said}
+use Rattle.link_text.proofs.LiveHeadLemmas.{start_fault, starts_none, starts_version, starts_setup}
 use Rattle.link_text.proofs.live_script.start_of.Goals as goal
 
 pub returns-in_default-clause-fault : goal.returns-in_default-clause-fault
 returns-in_default-clause-fault c =
-    fault_here c.args.text.now c.first_place-first.result [] c.requires c.first_place-first.ensures.ahead c.first_place-first.ensures.counting starts_none
+    start_fault c.args.text.now c.first_place-first.result [] c.requires c.first_place-first.ensures.ahead c.first_place-first.ensures.counting starts_none
     (no_version _ c.in_default.ensures.none)
 
 pub returns-in_default-setup_from-clause-fault : goal.returns-in_default-setup_from-clause-fault
 returns-in_default-setup_from-clause-fault c =
-    fault_here c.args.text.now c.in-Some.second (live_version_line ∷ []) c.requires c.in-Some.ensures.ahead (c.first_place-first.ensures.counting ∙ c.in-Some.ensures.some)
+    start_fault c.args.text.now c.in-Some.second (live_version_line ∷ []) c.requires c.in-Some.ensures.ahead (c.first_place-first.ensures.counting ∙ c.in-Some.ensures.some)
     starts_version (no_setup _ c.in_default-setup_from.ensures.none)
 
 pub returns-then-is_empty-clause-fault : goal.returns-then-is_empty-clause-fault
@@ -30,7 +31,7 @@ returns-then-is_empty-clause-fault c =
     let none : length c.gates_from-gates.result.0.items ≡ 0 = grind (arith, nat_tests) in
     let nothing : map gate_value c.gates_from-gates.result.0.items ≡ [] = ap (λ (xs : List GateSetup). map gate_value xs) (nil_from_length c.gates_from-gates.result.0.items none) in
     let said = c.gates_from-gates.ensures.gates.said ∙ ap (λ (gs : List GateValue). flat_map gate_lines gs ++ counting_from c.args.text.now c.gates_from-gates.result.1.at) nothing in
-    fault_here c.args.text.now c.in-Some-setup_from.third (live_version_line ∷ setup_line mpb sync ∷ []) c.requires c.in-Some-setup_from.ensures.ahead
+    start_fault c.args.text.now c.in-Some-setup_from.third (live_version_line ∷ setup_line mpb sync ∷ []) c.requires c.in-Some-setup_from.ensures.ahead
     (c.first_place-first.ensures.counting ∙ c.in-Some.ensures.some ∙ ap (λ (ls : List (List ℕ)). live_version_line ∷ ls) c.in-Some-setup_from.ensures.some.1)
     (starts_setup mpb sync c.in-Some-setup_from.ensures.some.0)
     (no_gate _ mpb sync (subst (λ (n : ℕ). LacksGate n (counting_from c.args.text.now c.in-Some-setup_from.third.at)) none (subst (λ (ls : List (List ℕ)). LacksGate (length c.gates_from-gates.result.0.items) ls) (sym said) c.gates_from-gates.ensures.all)))

@@ -37,10 +37,15 @@ returns-in-midi c =
     by_first c.args.words.now c.first-item.result (Some name.Midi) c.in-len1-up.len_at_least c.first-item.is
     (is_command (string_bytes c.first-item.result) name.Midi (rw c.as_str.ensures.value at c.in-midi.is))
 
+pub returns-in-control : goal.returns-in-control
+returns-in-control c =
+    by_first c.args.words.now c.first-item.result (Some name.Control) c.in-len1-up.len_at_least c.first-item.is
+    (is_command (string_bytes c.first-item.result) name.Control (rw c.as_str.ensures.value at c.in-control.is))
+
 pub returns-in_default-as_str : goal.returns-in_default-as_str
 returns-in_default-as_str c =
     by_first c.args.words.now c.first-item.result None c.in-len1-up.len_at_least c.first-item.is
     (is_no_command (string_bytes c.first-item.result) (rw c.as_str.ensures.value at c.in_default-as_str.not-replay)
     (rw c.as_str.ensures.value at c.in_default-as_str.not-decode) (rw c.as_str.ensures.value at c.in_default-as_str.not-load)
     (rw c.as_str.ensures.value at c.in_default-as_str.not-live) (rw c.as_str.ensures.value at c.in_default-as_str.not-filter)
-    (rw c.as_str.ensures.value at c.in_default-as_str.not-midi))
+    (rw c.as_str.ensures.value at c.in_default-as_str.not-midi) (rw c.as_str.ensures.value at c.in_default-as_str.not-control))

@@ -4,7 +4,7 @@ ghost use Rattle.std.specs.Prelude.{◌≤◌, ◌-◌, ◌^◌, length};
 
 use super::script::{Kind, LIVE, NODE_OF_VERSION_2, REPLAY, REPLAY_OF_VERSION_2, joined};
 use crate::tests::expect;
-use link_text::{Reason, explain, explain_live};
+use link_text::{Reason, explain, explain_head, explain_live};
 use std::alloc::{AllocError, Global};
 use std::process::Abort;
 
@@ -14,6 +14,7 @@ fn reason_in(kind: Kind, text: &[u8], line: u32) -> Reason
     match kind {
         Kind::Replay => explain(text, line),
         Kind::Live => explain_live(text, line),
+        Kind::Head => explain_head(text, line),
     }
 }
 
@@ -494,6 +495,61 @@ fn what_a_block_lacks_is_told(rt: HostRuntime) {
                 b"gate 1.2.3.4:5\ngate 1.2.3.4:5\ngate 1.2.3.4:5\ngate 1.2.3.4:5",
                 7,
                 "column 1: expected `to` or a command, as there are four gates: `at` or `block`, found \"gate\"",
+            ),
+        ],
+    );
+}
+
+#[test]
+fn what_stands_behind_a_head_is_told(rt: HostRuntime) {
+    expect_told(
+        &rt,
+        rt.alloc(),
+        Kind::Head,
+        LIVE,
+        &[
+            (
+                b"at 0 look",
+                4,
+                "column 1: expected no command: a script for `control` has none, as its client gives them, found \"at\"",
+            ),
+            (
+                b"to 1.2.3.4:5\n#\nblock 1 play",
+                6,
+                "column 1: expected no command: a script for `control` has none, as its client gives them, found \"block\"",
+            ),
+            (
+                b"tick 0",
+                4,
+                "column 1: expected `gate`, `to` or the end of the script, found \"tick\"",
+            ),
+            (
+                b"to 1.2.3.4",
+                4,
+                "column 4: expected an endpoint as in 127.0.0.1:20808, found \"1.2.3.4\"",
+            ),
+            (
+                b"gate 1.2.3.4:5\ngate 1.2.3.4:5\ngate 1.2.3.4:5\ngate 1.2.3.4:5",
+                7,
+                "column 1: expected `to` or the end of the script, as there are four gates, found \"gate\"",
+            ),
+        ],
+    );
+    expect_told(
+        &rt,
+        rt.alloc(),
+        Kind::Head,
+        b"link 1\nsetup 500000 1\n",
+        &[
+            (
+                b"at 0 look",
+                3,
+                "column 1: expected `gate` and the endpoint of the node's first gate, found \"at\"",
+            ),
+            (
+                b"#",
+                4,
+                "column 1: expected `gate` and the endpoint of the node's first gate, found the end of the text",
             ),
         ],
     );

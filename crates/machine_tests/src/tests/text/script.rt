@@ -4,7 +4,7 @@ ghost use Rattle.std.specs.Prelude.{◌≤◌, ◌-◌, ◌^◌, length};
 
 use crate::tests::expect;
 use arrayvec::ArrayVec;
-use link_text::{LiveFault, check_replay, read_live};
+use link_text::{HeadFault, LiveFault, check_replay, read_live, read_live_head};
 use std::alloc::Global;
 use std::process::Abort;
 
@@ -13,6 +13,8 @@ use std::process::Abort;
 pub enum Kind {
     Replay,
     Live,
+    /// A live script without commands.
+    Head,
 }
 
 /// The head of a replay script of one gate: three lines.
@@ -57,6 +59,11 @@ fn fault_in(alloc: Global, kind: Kind, text: &[u8]) -> u32
             Err(bad) => bad.line,
         },
         Kind::Live => live_fault_in(alloc, text),
+        Kind::Head => match read_live_head(text) {
+            Ok(_head) => 0,
+            Err(HeadFault::Bad(bad)) => bad.line,
+            Err(HeadFault::TooMany) => TOO_MANY,
+        },
     }
 }
 

@@ -5,7 +5,7 @@ ghost use Rattle.std.specs.Prelude.{◌≤◌, ◌-◌, ◌^◌, length};
 use super::script::{NODE_OF_VERSION_2, REPLAY, REPLAY_OF_VERSION_2, Text, joined};
 use crate::tests::expect;
 use link_node::{Config, Event};
-use link_text::{check_replay, next_event};
+use link_text::{check_replay, endpoint_of, next_event};
 use lk_base::{Endpoint, NodeId};
 use std::process::Abort;
 
@@ -259,6 +259,31 @@ fn an_endpoint_has_four_numbers_parted_by_dots_a_colon_and_a_port(rt: HostRuntim
             (b"to 1.2.3.4.5:6", Err(4)),
         ],
     );
+}
+
+// Words that an endpoint doesn't fill.
+const NO_ENDPOINTS: &[&[u8]] = &[
+    b"",
+    b" 1.2.3.4:5",
+    b"1.2.3.4:5 ",
+    b"1.2.3.4:5\r",
+    b"1.2.3.4:05",
+    b"1.2.3.4:+5",
+    b"1..3.4:5",
+    b"1.2.3.4:5:6",
+    b"localhost:5",
+];
+
+#[test]
+fn an_endpoint_fills_a_word(rt: HostRuntime) {
+    let wanted = Endpoint {
+        addr: 0x7f00_0001,
+        port: 20_808,
+    };
+    expect(&rt, 0, &endpoint_of(b"127.0.0.1:20808"), &Some(wanted));
+    for (row, word) in NO_ENDPOINTS.iter().enumerate() {
+        expect(&rt, row, &endpoint_of(word), &None);
+    }
 }
 
 // The event that the text says.

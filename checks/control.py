@@ -1,0 +1,757 @@
+#!/usr/bin/env python3
+"""Runs the built program's `control` over the loopback interface, and is its client: checks/control.py PROGRAM [SEED].
+
+Beside a `live` run, lines that are drawn from the seed (1 where not given) are sent in pieces that are drawn too: right ones, numbers at
+and past their ranges, spellings that are none, and lines with a byte changed. Each answer is held against a reading of its own of the table
+in docs/CONTROL.md, and against the states: where two answers to `status` tell one timeline, and nothing was committed in between, each
+beat and each time between them is by it. What is committed shows in the next status, and the other run hears the tempo and the start.
+Then runs of a node alone: its first timeline, a change of tempo and a start against the clock of this machine; the same bytes in one piece,
+in drawn ones and byte by byte; a client that goes away in mid-line, in several ways; lines of 64, of 65 and of 100,000 bytes, with and
+without a line feed; 4,096 lines and one more; no client, and a second one; and each status that a run can end with, but for 9. The
+summaries count what was sent. Last, what tools/control.py tells through a pipe, of a run and of what is no run. No run is left behind.
+The last line is 'N passed, N failed'.
+"""
+import os
+import random
+import re
+import socket
+import struct
+import subprocess
+import sys
+import tempfile
+import threading
+import time
+
+sys.dont_write_bytecode = True
+import node  # noqa: E402
+from live import COUNTS, STATE, Differs, free_ports, numbers, want  # noqa: E402
+
+TOOL = os.path.join(os.path.dirname(os.path.dirname(os.path.realpath(__file__))), "tools", "control.py")
+LIMIT, LEAST_MPB, MOST_MPB, MOST_LINES = 2**60, 60_060, 3_000_000, 4096
+RANGES = {b"tempo": (LEAST_MPB, MOST_MPB), b"beat": (-LIMIT, LIMIT), b"time": (-LIMIT, LIMIT)}
+COMMITS = ("tempo", "play", "stop")
+# How long the run beside the node under control lives, in microseconds, and how many lines are drawn for that one.
+BESIDE, DRAWN = 5_000_000, 1500
+# Seconds until which something has to happen, wherever it is waited for.
+PATIENCE = 30
+LISTENS = re.compile(r"^jorazhil: listening for a client at (127\.0\.0\.1:[0-9]+)$", re.M)
+COMMENT = "# a node under control\n\n"
+
+# Every process that was started.
+CHILDREN = []
+
+
+def started(words, **streams):
+    CHILDREN.append(subprocess.Popen(words, **streams))
+    return CHILDREN[-1]
+
+
+# Reading the table.
+
+
+def asked(line):
+    """What a line asks for: a word, and a number or None. None for a line that is answered `bad`."""
+    if line in (b"status", b"play", b"stop"):
+        return line.decode(), None
+    word, _, digits = line.partition(b" ")
+    if word not in RANGES or len(digits) > 20:
+        return None
+    try:
+        number = int(digits)
+    except ValueError:
+        return None
+    least, most = RANGES[word]
+    return (word.decode(), number) if str(number).encode() == digits and least <= number <= most else None
+
+
+def told(answer):
+    """The word of an answer and its numbers, each spelled as it has to be."""
+    word, *digits = answer.split(" ")
+    values = [int(one) for one in digits if re.fullmatch("-?[0-9]{1,20}", one)]
+    if [str(value) for value in values] != digits:
+        raise Differs(f"an answer is not spelled so: {answer!r}")
+    return word, values
+
+
+def want_form(line, answer, commits):
+    """The answer to a line has the form of the table, and its numbers their ranges. Answers how many commits there were with it."""
+    ask = asked(line)
+    if ask is None:
+        want(f"the answer to {line[:40]!r}", answer, "bad")
+        return commits
+    if ask[0] in COMMITS:
+        want(f"the answer to {line!r}", answer, f"ok {commits + 1}")
+        return commits + 1
+    word, values = told(answer)
+    ranges = [(-LIMIT, LIMIT)]
+    if ask[0] == "status":
+        ranges = [(LEAST_MPB, MOST_MPB), (-LIMIT, LIMIT), (-LIMIT, LIMIT), (0, 1), (0, 2**32 - 1)]
+    want(f"the word and the numbers of the answer {answer!r} to {line!r}", (word, len(values)), (ask[0], len(ranges)))
+    want(f"whether {answer!r} is in range", [least <= value <= most for value, (least, most) in zip(values, ranges)], [True] * len(values))
+    return commits
+
+
+def by_timeline(line, status):
+    """What a line about beats or times is answered by the timeline of a status."""
+    (word, number), timeline = asked(line), node.Timeline(*status[:3])
+    return f"{word} {(node.beat_at if word == 'beat' else node.time_at)(timeline, number)}"
+
+
+def want_answers(lines, answers, commits=0):
+    """All answers have their forms, and those between two statuses fit them. Answers how many were compared by a timeline."""
+    want("how many lines are answered", len(answers), len(lines))
+    last, since, compared = None, [], 0
+    for line, answer in zip(lines, answers):
+        commits = want_form(line, answer, commits)
+        ask = asked(line)
+        if ask is None:
+            continue
+        if ask[0] != "status":
+            since.append((line, answer))
+            continue
+        status = told(answer)[1]
+        if last is not None:
+            compared += want_between(last, since, status)
+        last, since = status, []
+    return compared
+
+
+def want_between(last, between, status):
+    """The lines between two statuses, each with its answer: what was committed shows, and all else is by the timeline that both tell."""
+    made = [asked(line) for line, _ in between if asked(line)[0] in COMMITS]
+    tempos, starts = [number for word, number in made if word == "tempo"], [word for word, _ in made if word != "tempo"]
+    want(f"the tempo behind {made}", status[0], (tempos or [last[0]])[-1])
+    want(f"whether it plays behind {made}", status[3], int(starts[-1] == "play") if starts else last[3])
+    if made or status[:3] != last[:3]:
+        return 0
+    for line, answer in between:
+        want(f"the answer to {line!r} by {status[:3]}", answer, by_timeline(line, status))
+    return len(between)
+
+
+# Lines to send.
+
+EDGES = sorted({edge + step for edge in (0, LEAST_MPB, MOST_MPB, 500_000, LIMIT, 2**63, 2**64, 10**18) for step in (-2, -1, 0, 1, 2)})
+AT_EDGES = [b"%s %d" % (word, sign * edge) for word in RANGES for edge in EDGES for sign in (1, -1)]
+WRONG = [
+    *(b"", b" ", b"\r", b"\0", b"#", b"# status", b"nope", b"bad", b"ok 1", b"quit", b"stat", b"statuss", b"Status", b"STATUS", b" status"),
+    *(b"status ", b"status\r", b"status 1", b"status\0", b"play 1", b"play ", b"stop\t", b"play stop", b"stop\r", b"tempo", b"tempo ", b"beat"),
+    *(b"time", b"time ", b"tempo  500000", b"tempo 500000 ", b" tempo 500000", b"tempo\t500000", b"tempo 500000\r", b"tempo 0500000"),
+    *(b"tempo +500000", b"tempo 5e5", b"tempo 500_000", b"tempo 500,000", b"tempo 500000.0", b"tempo 0x7a120", b"tempo -500000", b"beat -0"),
+    *(b"beat 00", b"beat 01", b"beat -01", b"beat +1", b"beat 1.0", b"beat - 1", b"beat --1", b"beat -", b"beat 1 2", b"beat 1\r", b"beat\xa01"),
+    *(b"time -0", b"time 07", b"time +0", b"time 1_0", b"time 1 ", b"beat \xd9\xa1", b"\xff\xfe", b"tempo 120", b"look", b"force 0", b"quantum 4"),
+    *(b"at 0 tempo 500000", b"x" * 25, b"x" * 64, b"x" * 65, b"x" * 66, b"beat " + b"1" * 59, b"beat " + b"1" * 60, b"status" + b" " * 59, b"y" * 600),
+]
+
+
+def drawn_number(draw):
+    if draw.random() < 0.3:
+        return draw.choice(EDGES) * draw.choice((1, -1))
+    return draw.randrange(-(2 ** draw.randrange(1, 62)), 2 ** draw.randrange(1, 62))
+
+
+def drawn_line(draw):
+    kind = draw.random()
+    if kind < 0.25:
+        return b"status"
+    if kind < 0.6:
+        return b"%s %d" % (draw.choice((b"beat", b"time")), drawn_number(draw))
+    if kind < 0.65:
+        # By the one of both every other beat is a half, which is rounded.
+        mpb = draw.choice((2_000_000, draw.randrange(LEAST_MPB, MOST_MPB + 1)))
+        return draw.choice((b"play", b"stop", b"tempo %d" % mpb))
+    if kind < 0.85:
+        return draw.choice(WRONG)
+    line = bytearray(draw.choice((b"status", b"play", b"stop", b"tempo 500000", b"beat %d" % drawn_number(draw), b"time %d" % drawn_number(draw))))
+    at = draw.randrange(len(line))
+    line[at : at + draw.randrange(2)] = draw.choice((b"", b" ", b"0", b"-", b"+", b"1", b"\r", bytes([draw.randrange(11, 256)])))
+    return bytes(line)
+
+
+def drawn_lines(draw, count):
+    """So many, and in between all wrong ones and all at the edges."""
+    lines = [drawn_line(draw) for _ in range(count)] + WRONG + AT_EDGES
+    draw.shuffle(lines)
+    return lines
+
+
+def text_of(lines):
+    return b"".join(line + b"\n" for line in lines)
+
+
+def pieces_of(draw, text):
+    at = 0
+    while at < len(text):
+        size = draw.choice((1, 1, 2, draw.randrange(1, 9), draw.randrange(1, 90), 511, 512, 513, draw.randrange(1, 3000)))
+        yield text[at : at + size]
+        at += size
+
+
+# A run, and its client.
+
+
+class Run:
+    """A run under control, which listens where it was told to or can't."""
+
+    def __init__(self, program, words=(), at="127.0.0.1:0", more="gate 127.0.0.1:0\n", out=subprocess.PIPE):
+        self.error, self.out = tempfile.TemporaryFile(), out
+        self.before = time.monotonic_ns() // 1000
+        self.child = started([program, "control", at, *words], stdin=subprocess.PIPE, stdout=out, stderr=self.error)
+        self.child.stdin.write((COMMENT + "link 1\nsetup 500000 1\n" + more).encode())
+        self.child.stdin.close()
+        # So that nothing is written there any more when its end is waited for.
+        self.child.stdin = None
+
+    def told(self):
+        self.error.seek(0)
+        return self.error.read().decode()
+
+    def listens(self):
+        """Where it does. Notes the moment of this machine before which it began to."""
+        end = time.monotonic() + PATIENCE
+        while not (found := LISTENS.search(self.told())):
+            if self.child.poll() is not None or time.monotonic() > end:
+                raise Differs(f"it doesn't say where it listens: {self.told()!r}")
+            time.sleep(0.001)
+        self.behind = time.monotonic_ns() // 1000
+        host, port = found[1].split(":")
+        return host, int(port)
+
+    def client(self):
+        return Client(self.listens())
+
+    def end(self, status, lines, commits):
+        """It ends with this status, and its summary has so many lines logged, or any number for None, and so many commits."""
+        out, _ = self.child.communicate(timeout=PATIENCE)
+        want("the status, and where it isn't 0 what was told", (self.child.returncode, ""), (status, "" if self.child.returncode == status else self.told()))
+        if self.out != subprocess.PIPE:
+            return
+        summary = out.decode().split("\n")
+        self.counts, self.state = numbers(summary[0], "# live", COUNTS), numbers(summary[1], "# state", STATE)
+        want("what is behind the summary", summary[2:], [""])
+        lines = self.counts["captures"] if lines is None else lines
+        wanted = {"reads": 0, "captures": lines, "app": commits, "audio": 0, "plays": 0, "clicks": 0}
+        want("the summary", {name: self.counts[name] for name in wanted}, wanted)
+        # The state has a number, from 0.
+        want("the number of the last state", self.state["number"], self.counts["states"] - 1)
+        if status not in (3, 6):
+            want("the commits that the last state has", (self.state["app"], self.state["audio"]), (commits, 0))
+            # Beside the commits there are the opening tick and the end at the least.
+            want("whether there are as many events", self.counts["events"] >= commits + 2, True)
+
+    def want_told(self, *texts):
+        for text in texts:
+            want(f"whether {text!r} is told in {self.told()!r}", text in self.told(), True)
+
+
+class Client:
+    def __init__(self, address):
+        self.socket, self.bytes, self.asked = socket.create_connection(address, PATIENCE), b"", 0
+        self.socket.setsockopt(socket.IPPROTO_TCP, socket.TCP_NODELAY, 1)
+
+    def send(self, text):
+        self.socket.sendall(text)
+
+    def answers(self, count):
+        """The next answers, which are so many."""
+        while (there := self.bytes.count(b"\n")) < count:
+            part = self.socket.recv(65536)
+            if not part:
+                raise Differs(f"the answers end behind {there} of {count}")
+            self.bytes += part
+        *lines, rest = self.bytes.split(b"\n", count)
+        self.bytes = rest
+        return [line.decode("latin-1") for line in lines]
+
+    def ask(self, *lines):
+        self.send(text_of(lines))
+        self.asked += len(lines)
+        return self.answers(len(lines))
+
+    def by_one_status(self, lines_of):
+        """The answers to lines that a status gives, between two answers that tell it."""
+        while True:
+            status = self.status()
+            *answers, last = self.ask(*lines_of(status), b"status")
+            if told(last)[1] == status:
+                return status, answers
+
+    def status(self):
+        return told(self.ask(b"status")[0])[1]
+
+    def rest(self):
+        """What comes until the run's end. One that ends by itself may break the connection."""
+        try:
+            while part := self.socket.recv(65536):
+                self.bytes += part
+        except ConnectionResetError:
+            pass
+        return self.bytes
+
+    def ends(self):
+        """Says that no more comes, and nothing comes any more."""
+        self.socket.shutdown(socket.SHUT_WR)
+        want("what comes behind the answers", self.rest(), b"")
+        self.socket.close()
+
+    def breaks(self):
+        """Goes away so that the connection breaks."""
+        self.socket.setsockopt(socket.SOL_SOCKET, socket.SO_LINGER, struct.pack("ii", 1, 0))
+        self.socket.close()
+
+
+# The checks of a run.
+
+
+class Beside:
+    """A run under control beside a live one, which ends when its time is over."""
+
+    def __init__(self, program, seed):
+        self.program, self.draw, self.lines, self.compared = program, random.Random(seed), [], 0
+        self.other = self.run = self.client = None
+
+    def begin(self):
+        own, other = free_ports(2)
+        words = [self.program, "live", "--blocks", "0", "--group", "7"]
+        self.other = started(words, stdin=subprocess.PIPE, stdout=subprocess.PIPE, stderr=subprocess.DEVNULL)
+        script = f"link 1\nsetup 500000 1\ngate 127.0.0.1:{other}\nto 127.0.0.1:{own}\nat {BESIDE} look\n"
+        self.other.stdin.write(script.encode())
+        self.other.stdin.close()
+        self.other.stdin = None
+        self.run = Run(self.program, ["--group", "7"], more=f"gate 127.0.0.1:{own}\nto 127.0.0.1:{other}\n")
+        self.client = self.run.client()
+
+    def ask(self, *lines):
+        self.lines += lines
+        return self.client.ask(*lines)
+
+    def until_peers(self, count):
+        """The first status that tells so many peers."""
+        end = time.monotonic() + PATIENCE
+        while (status := told(self.ask(b"status")[0])[1])[4] != count:
+            if time.monotonic() > end:
+                raise Differs(f"there are never {count} peers")
+            time.sleep(0.02)
+        return status
+
+    def drawn(self):
+        """Nothing is committed before both are in one session."""
+        self.begin()
+        self.until_peers(1)
+        want("the answer to the first commit", self.ask(b"tempo 300000"), ["ok 1"])
+        lines = drawn_lines(self.draw, DRAWN)
+        for piece in pieces_of(self.draw, text_of(lines)):
+            self.client.send(piece)
+            if self.draw.random() < 0.3:
+                time.sleep(self.draw.uniform(0, 0.002))
+        self.lines += lines
+        self.compared = want_answers(lines, self.client.answers(len(lines)), 1)
+        want(f"whether 200 lines were compared by a timeline, which it is for {self.compared}", self.compared >= 200, True)
+        made = self.commits()
+        want("the last answers", self.ask(b"stop", b"tempo 400000", b"play"), [f"ok {made + k}" for k in (1, 2, 3)])
+        want("whether the live run goes on meanwhile", self.other.poll(), None)
+
+    def commits(self):
+        return sum((asked(line) or ("",))[0] in COMMITS for line in self.lines)
+
+    def heard(self):
+        """The live run tells its last state, and after that the one under control ends."""
+        if self.client is None:
+            raise Differs("no run under control was there")
+        out, _ = self.other.communicate(timeout=PATIENCE)
+        want("the live run's status", self.other.returncode, 0)
+        other = numbers(out.decode().split("\n")[1], "# state", STATE)
+        want("what the live run heard: tempo, playing, peers", [other[name] for name in ("mpb", "playing", "peers")], [400_000, 1, 1])
+        mpb, _, _, playing, _ = self.until_peers(0)
+        want("the last status", (mpb, playing), (400_000, 1))
+        self.client.ends()
+        self.run.end(0, len(self.lines), self.commits())
+        want("the last state", [self.run.state[name] for name in ("mpb", "playing", "peers", "sync")], [400_000, 1, 0, 1])
+        want("whether it has left their session", self.run.state["session"] != other["session"], True)
+
+
+def own_time():
+    return time.monotonic_ns() // 1000
+
+
+def by_the_clock(program):
+    """The node's clock began between the start of the process and the line that says where it listens."""
+    run = Run(program, ["--quantum", "3000000"])
+    client = run.client()
+    mpb, beat, origin, playing, peers = client.status()
+    want("the first status, without its time", (mpb, beat, playing, peers), (500_000, 0, 0, 0))
+    want(f"whether the node opened at {origin}, of {run.behind - run.before} since it was started", 0 <= origin <= run.behind - run.before, True)
+    asks = [b"beat %d" % (origin + t) for t in (-1, 0, 1_000_000)] + [b"time %d" % beat for beat in (-1, 0, 1, 4_000_000)]
+    times = [f"time {origin + t}" for t in (-1, 0, 1, 2_000_000)]
+    want("beats and times beside the origin", client.ask(*asks), ["beat -2", "beat 0", "beat 2000000", *times])
+    sent = own_time()
+    want("the answer to a tempo", client.ask(b"tempo 250000"), ["ok 1"])
+    came = own_time()
+    mpb, beat, later, _, _ = client.status()
+    want(f"whether the tempo is another, and the origin as it was but for a rounding: {mpb}, {beat}", (mpb, abs(beat) <= 2), (250_000, True))
+    # Both timelines have the same beat at the moment of the change, so that its distance from the origins is as the tempos are.
+    moment = 2 * later - origin
+    want(f"whether it was set at {moment}", sent - run.behind - 10 <= moment <= came - run.before + 10, True)
+    want("the answers to starts", client.ask(b"play", b"play", b"stop"), ["ok 2", "ok 3", "ok 4"])
+    want("whether it plays", client.status()[3], 0)
+    sent = own_time()
+    want("the answer to a start", client.ask(b"play"), ["ok 5"])
+    came = own_time()
+    want("whether it plays", client.status()[3], 1)
+    # A beat of two seconds, of which a microsecond is half a microbeat.
+    want("the answer to a slow tempo", client.ask(b"tempo 2000000"), ["ok 6"])
+    (_, beat, *_), answers = client.by_one_status(lambda status: [b"beat %d" % (status[2] + t) for t in range(-3, 4)])
+    want("halves, which go away from the origin", answers, [f"beat {beat + t}" for t in (-2, -1, -1, 0, 1, 1, 2)])
+    client.ends()
+    run.end(0, client.asked, 6)
+    want("the quantum of its words", run.state["quantum"], 3_000_000)
+    want(f"whether it was started at {run.state['start']}", sent - run.behind - 10 <= run.state["start"] <= came - run.before + 10, True)
+    run.want_told("jorazhil: the journal took ")
+
+
+def cut_in_any_way(program, seed):
+    """Without commits and peers no answer changes."""
+    draw, run = random.Random(seed), Run(program)
+    client = run.client()
+    lines = [line for line in drawn_lines(draw, 150) if (asked(line) or ("",))[0] not in COMMITS]
+    text = text_of(lines)
+    found = []
+    for pieces in ([text], pieces_of(draw, text), (text[at : at + 1] for at in range(len(text)))):
+        for piece in pieces:
+            client.send(piece)
+        found.append(client.answers(len(lines)))
+    want_answers(lines, found[0])
+    want("the answers to the bytes in drawn pieces", found[1], found[0])
+    want("the answers to the bytes one by one", found[2], found[0])
+    client.ends()
+    run.end(0, 3 * len(lines), 0)
+
+
+def goes_away(program):
+    """In mid-line, with and without the last answers read."""
+    rests = (b"", b"tempo 4000", b"status", b"x" * 64, b"x" * 65, b"x" * 100_000, b"\r")
+    runs = [Run(program) for _ in range(2 * len(rests) + 3)]
+    for run, rest in zip(runs, 2 * rests):
+        client = run.client()
+        client.status()
+        client.send(rest)
+        if run in runs[: len(rests)]:
+            client.ends()
+        else:
+            client.socket.close()
+        run.end(0, 1, 0)
+    nothing, in_a_read, in_an_answer = runs[2 * len(rests) :]
+    nothing.client().ends()
+    nothing.end(0, 0, 0)
+    client = in_a_read.client()
+    client.status()
+    client.send(b"tempo 4000")
+    client.breaks()
+    in_a_read.end(11, 1, 0)
+    client = in_an_answer.client()
+    client.send(b"beat 1\n" * 3000)
+    client.breaks()
+    in_an_answer.end(11, None, 0)
+    for run in (in_a_read, in_an_answer):
+        run.want_told("jorazhil: the client could not be served: ")
+
+
+def long_lines(program):
+    run = Run(program)
+    client, count = run.client(), 0
+    for size in (63, 64, 65, 66, 511, 512, 513, 1024, 100_000):
+        for filler in (b"x", b" ", b"status", b"beat 1"):
+            line = (filler * size)[:size]
+            want(f"the answer to {size} bytes", client.ask(line)[0], "bad")
+            count += 1
+        want(f"the word behind {size} bytes", client.ask(b"status")[0].split(" ")[0], "status")
+        count += 1
+    client.ends()
+    run.end(0, count, 0)
+
+
+def most_lines(program):
+    """So many as are answered, a rest behind them, and one more."""
+    lines = [(b"beat 1", b"nope", b"time -1", b"status")[k % 4] for k in range(MOST_LINES)]
+    runs = [Run(program) for _ in range(3)]
+    for run, more, status in zip(runs, (b"", b"tempo 400000", b"tempo 400000\n"), (0, 0, 12)):
+        client = run.client()
+        client.send(text_of(lines) + more)
+        want_answers(lines, client.answers(MOST_LINES))
+        if status:
+            want("what comes behind the answers", client.rest(), b"")
+        else:
+            client.ends()
+        run.end(status, MOST_LINES, 0)
+    run.want_told("jorazhil: the client sent more than 4096 lines")
+
+
+def without_a_client(program):
+    """The node plays with its peers before there is a client, and says goodbye behind it."""
+    with socket.socket(socket.AF_INET, socket.SOCK_DGRAM) as peer:
+        peer.bind(("127.0.0.1", 0))
+        peer.settimeout(PATIENCE)
+        run = Run(program, more=f"gate 127.0.0.1:0\nto 127.0.0.1:{peer.getsockname()[1]}\n")
+        alive, bye = b"_asdp_v\x01\x01", b"_asdp_v\x01\x03"
+        heard = [peer.recv(513)[:9] for _ in range(2)]
+        want("what is heard before there is a client", heard, [alive, alive])
+        run.client().ends()
+        run.end(0, 0, 0)
+        while (kind := peer.recv(513)[:9]) == alive:
+            pass
+        want("what is heard at the end", kind, bye)
+
+
+def second_client(program):
+    run = Run(program)
+    client = run.client()
+    first = client.status()
+    try:
+        Client(run.listens()).ask(b"status")
+    except ConnectionRefusedError:
+        pass
+    else:
+        raise Differs("a second client was taken")
+    want("the status behind the other's", client.status(), first)
+    client.ends()
+    run.end(0, 2, 0)
+
+
+def ended(program, words, script=b""):
+    """Status, standard output and standard error of a run that never waits for a client."""
+    child = started([program, "control", *words], stdin=subprocess.PIPE, stdout=subprocess.PIPE, stderr=subprocess.PIPE)
+    out, error = child.communicate(script, timeout=PATIENCE)
+    return child.returncode, out.decode(), error.decode()
+
+
+def before_a_run(program):
+    """Without an endpoint, and with a script that has a command. Words and heads at fault are in checks/statuses.py with their texts."""
+    status, out, error = ended(program, [])
+    want("a run without an endpoint", (status, out, error[:10], "Usage: jorazhil " in error), (2, "", "jorazhil: ", True))
+    status, out, error = ended(program, ["127.0.0.1:0"], b"link 1\nsetup 500000 1\ngate 127.0.0.1:0\nat 0 look\n")
+    want("a script with a command", (status, out, error.split(", ")[0]), (8, "", "jorazhil: line 4"))
+
+
+def endpoint_in_use(program):
+    """No line is served, and the run ends."""
+    with socket.create_server(("127.0.0.1", 0)) as held:
+        at = f"127.0.0.1:{held.getsockname()[1]}"
+        run = Run(program, at=at)
+        run.end(11, 0, 0)
+        run.want_told(f"jorazhil: listening for a client at {at} failed: Address already in use (os error 98)")
+    run = Run(program, at="192.0.2.1:20900")
+    run.end(11, 0, 0)
+    run.want_told("Cannot assign requested address (os error 99)")
+
+
+def other_faults(program):
+    """A client is served without the network, and with a full journal; of two faults the status is that of the first in the order."""
+    with socket.socket(socket.AF_INET, socket.SOCK_DGRAM) as held, socket.create_server(("127.0.0.1", 0)) as heard:
+        held.bind(("127.0.0.1", 0))
+        gate = f"gate 127.0.0.1:{held.getsockname()[1]}\n"
+        run = Run(program, more=gate)
+        client = run.client()
+        want("the answers without the network", client.ask(b"tempo 400000", b"nope"), ["ok 1", "bad"])
+        want("the tempo without the network", client.status()[0], 400_000)
+        client.ends()
+        run.end(3, 3, 1)
+        Run(program, more=gate, at=f"127.0.0.1:{heard.getsockname()[1]}").end(3, 0, 0)
+    run = Run(program, ["--events", "1"])
+    client = run.client()
+    want("the answers with a full journal", client.ask(b"tempo 400000", b"nope"), ["ok 1", "bad"])
+    want("the tempo with a full journal", client.status()[0], 400_000)
+    client.ends()
+    run.end(6, 3, 1)
+    want("the events of a full journal", run.counts["events"], 1)
+    run = Run(program, ["--events", "1"])
+    client = run.client()
+    client.send(b"nope\n" * (MOST_LINES + 1))
+    want("the answers with a full journal", set(client.answers(MOST_LINES)), {"bad"})
+    run.end(6, MOST_LINES, 0)
+    if os.path.exists("/dev/full"):
+        with open("/dev/full", "wb") as full:
+            run = Run(program, out=full)
+            run.client().ends()
+            run.end(7, 0, 0)
+            run.want_told("jorazhil: standard output could not be written: No space left on device (os error 28)")
+
+
+# What tools/control.py tells.
+
+TYPED = """\
+# a comment, and an empty line
+
+status
+beat
+tempo 120.5
+tempo 250000 us
+play
+watch 0.3
+status
+stop
+beat 1:30.25
+beat -1
+time 16.25
+beat
+tempo 19
+tempo 60059 us
+tmpo 120
+status now
+time
+beat soon
+quit
+status
+"""
+BPM_240 = "240.00 beats per minute, 250000 microseconds per beat"
+# What stands in the place of each command's answer.
+ANSWERED = [
+    r"120.00 beats per minute, 500000 microseconds per beat, beat 0.000000 is at 0:0[0-9].[0-9]{6}, not playing, no peer, bar and beat aren't known",
+    "commit 1: 120.50 beats per minute, 497925 microseconds per beat",
+    f"commit 2: {BPM_240}",
+    "commit 3: playing",
+    r"240.00 beats per minute  bar [0-9]+\.[1-3]  playing  no peer",
+    rf"{BPM_240}, beat (-?[0-9.]+) is at 0:([0-9.]+), playing, no peer, bar [0-9]+\.[1-3]",
+    "commit 4: not playing",
+    r"beat (-?[0-9.]+) is at 1:30\.250000",
+    r"beat (-?[0-9.]+) is at -0:01\.000000",
+    r"beat 16\.250000 is at 0:([0-9.]+)",
+    r"beat [0-9.]+ is at 0:([0-9.]+), which is now, to ([0-9.]+) milliseconds",
+]
+RIGHT_TEMPO = "a tempo is from 20 to 999 beats per minute, as in `tempo 120`, or from 60060 to 3000000 microseconds per beat, as in `tempo 500000 us`, found"
+AT_FAULT = f"""\
+control: line 4: which time it is isn't known: --began tells it, or a `tempo` that changes the tempo; `beat 90.25` needs neither
+control: line 15: {RIGHT_TEMPO} "19"
+control: line 16: {RIGHT_TEMPO} "60059 us"
+control: line 17: "tmpo" is no command; the nearest is `tempo`; `help` tells all
+control: line 18: `status` takes no word behind it, found "now"
+control: line 19: `time` takes a beat, as in `time 16` or `time 16.25`, found none
+control: line 20: a time is in seconds, as in `beat 90.25` or `beat 1:30.25`, with at most six digits behind the point, and at most \
+1,152,921,504,606, found "soon"
+"""
+
+
+def tell(words, text=""):
+    """Status, standard output and standard error of the tool."""
+    child = started([sys.executable, TOOL, *words], stdin=subprocess.PIPE, stdout=subprocess.PIPE, stderr=subprocess.PIPE, text=True)
+    out, error = child.communicate(text, timeout=PATIENCE)
+    return child.returncode, out, error
+
+
+def millionths(text):
+    return int(text.replace(".", ""))
+
+
+def tool_in_a_pipe(program):
+    run = Run(program)
+    at = "{}:{}".format(*run.listens())
+    begun = own_time()
+    status, out, error = tell(["--bar", "3", at], TYPED)
+    came = own_time()
+    lines = out.splitlines()
+    want("its status and standard error", (status, error), (2, AT_FAULT))
+    want("how many lines it tells", len(lines), len(ANSWERED))
+    found = [re.fullmatch(form, line) for form, line in zip(ANSWERED, lines)]
+    want("the lines of other forms", [line for line, one in zip(lines, found) if not one], [])
+    # The timeline is that of the second status.
+    line = node.Timeline(250_000, millionths(found[5][1]), millionths(found[5][2]))
+    beats = [node.beat_at(line, 90_250_000), node.beat_at(line, -1_000_000), node.time_at(line, 16_250_000)]
+    want("its beats and its time", [millionths(one[1]) for one in found[7:10]], beats)
+    now, off = millionths(found[10][1]), 1000 * float(found[10][2])
+    want(f"whether it is {now} now, to {off}", begun - run.behind - off <= now <= came - run.before + off, True)
+    # The status is asked for before and behind both tempos, since the first doesn't differ enough to tell the time.
+    run.end(0, 15, 4)
+
+
+def tool_at_its_end(program):
+    """It sends so many lines as are answered, and no more, so that the run ends well."""
+    run = Run(program)
+    at = "{}:{}".format(*run.listens())
+    found = tell([at], "beat 1\n" * (MOST_LINES + 4))
+    want("how many lines it tells", found[1].count("\n"), MOST_LINES)
+    want("its status and standard error", found[::2], (4, "control: the run has answered 4,096 lines, and one run answers no more\n"))
+    run.end(0, MOST_LINES, 0)
+
+
+def tool_without_a_run(_):
+    """Nobody, another program, one that goes away at once or behind an answer, and words at fault."""
+    with socket.create_server(("127.0.0.1", 0)) as server:
+        port = server.getsockname()[1]
+        at, answers = f"127.0.0.1:{port}", (b"hello\n", b"", b"status 500000 0 0 0 0\n")
+
+        def serve():
+            for answer in answers:
+                client, _ = server.accept()
+                with client:
+                    client.recv(100)
+                    if answer:
+                        client.sendall(answer)
+                        # The next line, so that nothing is left that would break the connection.
+                        client.recv(100)
+
+        thread = threading.Thread(target=serve, daemon=True)
+        thread.start()
+        found = [tell([at], "status\nstatus\n") for _ in answers]
+        thread.join(PATIENCE)
+    want("of another program", found[0], (4, "", f'control: `status` was answered "hello". Is it `jorazhil control` that listens at {at}?\n'))
+    gone = f"control: the run at {at} did not answer (it was closed there). It serves another client, or has ended\n"
+    want("of one that goes away at once", found[1], (3, "", gone))
+    gone = "control: the connection ended behind 1 answers (it was closed there). The run's exit status tells why\n"
+    want("of one that goes away behind an answer", (found[2][0], found[2][2]), (4, gone))
+    nobody = f"control: nobody listens at {at}. Is `jorazhil control {at}` running? A run takes one client: it refuses all others, and ends with that one\n"
+    want("of nobody", tell([at], "status\n"), (3, "", nobody))
+    for words, sentence in (
+        ([], "an endpoint is missing: the one at which `jorazhil control` listens, as in 127.0.0.1:20900; --help tells all"),
+        (["here"], 'an endpoint is an IPv4 address and a port, as in 127.0.0.1:20900, found "here"'),
+        (["127.0.0.256:1"], 'an endpoint is an IPv4 address and a port, as in 127.0.0.1:20900, found "127.0.0.256:1"'),
+        (["--every", "0.05", at], '--every is a number of seconds, 0.1 at the least, found "0.05"'),
+        (["--began", "yesterday", at], '--began is a number of seconds, 0 at the least, found "yesterday"'),
+        (["--began", "99999999999", at], "--began is later than it is now"),
+        (["--bogus", at], "unrecognized arguments: --bogus; --help tells all"),
+    ):
+        want(f"{words}", tell(words), (2, "", f"control: {sentence}\n"))
+    status, out, error = tell(["--help"])
+    want("--help", (status, error, [word for word in ("4,096 lines", "Exit status:", "--watch", "tempo BPM") if word not in out]), (0, "", []))
+
+
+def main(program, seed):
+    beside = Beside(program, seed)
+    checks = [
+        ("lines that are drawn, beside a live run", beside.drawn),
+        ("a run by the clock", by_the_clock, program),
+        ("lines that are cut in any way", cut_in_any_way, program, seed),
+        ("clients that go away", goes_away, program),
+        ("long lines", long_lines, program),
+        ("4,096 lines and one more", most_lines, program),
+        ("a node without a client", without_a_client, program),
+        ("a second client", second_client, program),
+        ("words and a script at fault", before_a_run, program),
+        ("an endpoint in use", endpoint_in_use, program),
+        ("other faults", other_faults, program),
+        ("tools/control.py through a pipe", tool_in_a_pipe, program),
+        ("tools/control.py at the end of the lines", tool_at_its_end, program),
+        ("tools/control.py without a run", tool_without_a_run, program),
+        ("what the live run heard", beside.heard),
+    ]
+    failed = 0
+    for name, check, *given in checks:
+        try:
+            check(*given)
+        except (Differs, LookupError, ValueError, OSError, subprocess.TimeoutExpired) as fault:
+            failed += 1
+            print(f"{name}: {type(fault).__name__}: {fault}")
+    print(f"{len(beside.lines)} lines beside a live run, {beside.commits()} of them commits, and {beside.compared} compared by a timeline")
+    print(f"{len(checks) - failed} passed, {failed} failed")
+    return 1 if failed else 0
+
+
+if __name__ == "__main__":
+    if len(sys.argv) not in (2, 3):
+        print(__doc__, file=sys.stderr)
+        sys.exit(2)
+    try:
+        sys.exit(main(os.path.abspath(sys.argv[1]), int(sys.argv[2]) if len(sys.argv) == 3 else 1))
+    finally:
+        for child in CHILDREN:
+            if child.poll() is None:
+                child.kill()
+                child.wait()

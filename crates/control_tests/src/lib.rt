@@ -1,0 +1,5 @@
+//! The tests of `link_control`, over its public calls.
+#![tactic(auto)]
+
+#[cfg(test)]
+mod tests;

@@ -1,0 +1,107 @@
+//! That a client is served while the network's loop runs, in the group of the words.
+
+ghost use Rattle.std.specs.Prelude.{None};
+ghost use Rattle.lk_outside.specs.ListTalk.{written_of, opened_of, faults_of};
+
+use super::super::live::flags::has_come;
+use super::super::live::held::Telling;
+use super::super::live::sides::{Sides, quiet_port, sides_over};
+use super::super::runs::empty_log;
+use super::clients::{OPENING, client};
+use link_daemon::Status;
+use lk_base::Endpoint;
+use lk_outside::{Bound, ListPace, ListPort, ListTalk, Post, Put, Taken, Talk};
+use std::alloc::{AllocError, Global};
+use std::sync::Wait;
+use std::sync::atomic::AtomicU64;
+use std::test::Fail;
+use std::thread::Threads;
+
+/// A node with a destination.
+const SCRIPT: &[u8] = b"link 1\nsetup 500000 1\ngate 127.0.0.1:20808\nto 127.0.0.1:20809\n";
+
+const GROUP_WORDS: &str = "control 127.0.0.1:20900 --group 41153";
+
+/// How often the client looks whether the port has sent, in a read at most.
+const LOOKS: u64 = 10_000_000;
+
+/// A client that sends its bytes once the port has sent, and none at all where that doesn't come.
+#[derive(Drop)]
+struct Patient<'a> {
+    talk: ListTalk,
+    sent: &'a AtomicU64,
+}
+
+impl<'a> Talk for Patient<'a> {
+    ghost left = { λ _. None };
+
+    ghost written = { λ patient. written_of patient.talk };
+
+    ghost opened = { λ patient. opened_of patient.talk };
+
+    ghost faults = { λ patient. faults_of patient.talk };
+
+    fn listen(&mut self, at: Endpoint) -> Bound {
+        self.talk.listen(at)
+    }
+
+    fn read(&mut self, buf: &mut [u8]) -> Taken {
+        if !has_come(self.sent, 1, LOOKS) {
+            return Taken::End;
+        }
+        self.talk.read(buf)
+    }
+
+    fn write(&mut self, bytes: &[u8]) -> Put {
+        self.talk.write(bytes)
+    }
+}
+
+#[test]
+fn a_client_is_served_while_the_network_goes_on(rt: HostRuntime) -> Result<(), Fail> {
+    let mut sides = sides_over(rt.alloc(), SCRIPT, 0)?;
+    let talk = client(rt.alloc(), b"status\n", 4096)?;
+    let port = quiet_port(rt.alloc(), 100)?;
+    assert!(rt; is_served(&rt, rt.alloc(), &mut sides, talk, port)?);
+    Ok(())
+}
+
+// Whether a client is answered that waits for the port to send, and all that is sent is of the group.
+fn is_served<R: Threads + Wait + Sync>(
+    rt: &R,
+    alloc: Global,
+    sides: &mut Sides,
+    talk: ListTalk,
+    port: ListPort,
+) -> Result<bool, AllocError> {
+    let (over, sent) = (AtomicU64::new(0), AtomicU64::new(0));
+    let mut port = Telling {
+        port,
+        over: &over,
+        sent: &sent,
+    };
+    let mut talk = Patient { talk, sent: &sent };
+    let status = sides.run_talking(
+        rt,
+        alloc,
+        GROUP_WORDS,
+        &mut port,
+        &mut talk,
+        &mut ListPace::new(0),
+        &mut empty_log(alloc),
+    )?;
+    let posts = port.port.posts();
+    Ok(
+        status == Status::Done
+            && talk.talk.bytes() == OPENING
+            && !posts.is_empty()
+            && posts.iter().all(|post| is_of_group(post)),
+    )
+}
+
+// Whether it is a message of the group 41153. Behind the eight bytes that all messages begin with stand its kind, its time to live and its
+// group.
+fn is_of_group(post: &Post) -> bool {
+    let bytes = post.bytes.as_slice();
+    bytes.get(10..).unwrap_or(b"").starts_with(&[0xa0, 0xc1])
+}

@@ -1,0 +1,7 @@
+pub mod Lines
+pub mod Log
+pub mod Answers
+pub mod Serving
+pub mod ServingNow
+pub mod Sides
+pub mod ControlRun

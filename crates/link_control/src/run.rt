@@ -1,0 +1,217 @@
+//! A run under control: the loop of the network beside the client's, over one link, and its end.
+
+ghost use Rattle.std.specs.Prelude.{◌≡◌, ◌≤◌, ◌<◌, ◌+◌, ◌++◌, pos, if◌then◌else◌, true, false, Some, [], length, map, vec_capacity, vec_len};
+ghost use Rattle.lk_outside.specs.Faults.{Rose};
+ghost use Rattle.lk_outside.specs.Pace.{IsPaced};
+ghost use Rattle.link_node.specs.Config.{config_value, IsConfig};
+ghost use Rattle.link_node.specs.Event.{event_value};
+ghost use Rattle.link_node.specs.Runs.{AreFitting};
+ghost use Rattle.link_control.specs.ControlRun.{EndsControlRun, EndsTell, IsReady, first_of, told_of};
+ghost use Rattle.link_control.specs.Log.{captures_in, commits_in, put_before};
+ghost use Rattle.link_control.specs.Serving.{seen_talk};
+
+use crate::log::{LineLog, SessionLog};
+use crate::room::ControlRoom;
+use crate::server::Served;
+use crate::sides::run_sides;
+use client_state::{Commit, State};
+use link_live::{bind, post, run_laws};
+use link_node::{
+    Config, Event, best_timelines_are_told, clients_follow_sessions, datagrams_go_out_on_gates,
+};
+use link_shared::{Capture, Link, LinkName, Opened, Parts};
+use lk_base::Endpoint;
+use lk_outside::{Bound, Pace, Port, Talk};
+use std::alloc::Global;
+use std::sync::Wait;
+use std::thread::Threads;
+use triple_buffer::Triple;
+
+/// How a run under control ended: by the first of these that holds.
+#[derive(Clone, Copy, Debug, PartialEq, Eq)]
+pub enum ControlEnd {
+    /// Memory was wanting for a capture.
+    Memory,
+    /// A call of the port failed.
+    Port,
+    /// A call of the talk failed.
+    Talk,
+    /// An event found no room in the journal.
+    Events,
+    /// The client sent more lines than are answered.
+    Lines,
+    /// None of these.
+    Well,
+}
+
+/// What a run under control leaves, beside its log.
+#[derive(Drop)]
+pub struct ControlRun {
+    pub end: ControlEnd,
+    pub events: Vec<Event>,
+    pub published: Vec<State>,
+    /// What was captured, once for each line of the log.
+    pub captures: Vec<Capture>,
+    /// What was committed, in order.
+    pub commits: Vec<Commit>,
+}
+
+/// Makes a link of the parts, binds the port to the config's gates, opens the talk at an endpoint, and runs two threads: the network's
+/// loop, and the one that serves the client and then asks the other to end. Where the talk can't be opened, no line is served. Then it
+/// ends the link.
+///
+/// Waits: for the threads, and in the port, the talk and the pace. Memory: two notes for each capture.
+pub fn control_run<
+    N: LinkName + Send + Sync,
+    P: Port + Send,
+    L: Talk + Send,
+    T: Pace + Send,
+    R: Threads + Wait + Sync,
+>(
+    rt: &R,
+    alloc: Global,
+    parts: Parts<Triple<11>>,
+    config: &Config,
+    at: Endpoint,
+    room: ControlRoom,
+    port: &mut P,
+    talk: &mut L,
+    pace: &mut T,
+    log: &mut SessionLog,
+) -> ControlRun
+    requires cells { (parts.app_states ≡ N.app_states) × (parts.audio_states ≡ N.audio_states) × (parts.audio_commits ≡ N.audio_commits) }
+    requires queue { parts.queue ≡ N.queue }
+    requires ledger { (parts.ledger ≡ N.name) × (parts.shares ≡ N.parts) × (N.whole ≡ N.parts) }
+    requires config { (parts.config ≡ config_value config.now) × IsConfig parts.config }
+    requires opening { IsPaced (T.late pace.old) (pos 0) parts.opened_at }
+    requires ready { IsReady room log.old }
+    ensures ends { EndsControlRun (record { config = parts.config; events = parts.most; at = at }) (T.late pace.old)
+        (P.contents port.old) (P.contents port.new) (P.bound port.new) (P.faults port.old) (P.faults port.new)
+        (seen_talk L.left L.written L.opened L.faults talk.old) (seen_talk L.left L.written L.opened L.faults talk.new)
+        (told_of parts.config parts.opened_at result) log.new.lines.items result.end }
+    ensures fitting { AreFitting (length parts.config.gates) 0 0 (map event_value result.events.items) }
+{
+    // Laws, for the proof.
+    run_laws();
+    best_timelines_are_told();
+    clients_follow_sessions();
+    datagrams_go_out_on_gates();
+    let ControlRoom {
+        mut sends,
+        mut captures,
+        mut commits,
+    } = room;
+    let Opened {
+        link,
+        mut hub,
+        audio: audio_pass,
+        app: mut app_pass,
+    } = Link::<Triple<11>, N>::make(parts);
+    let bound = bind(port, config);
+    let opened = listen(talk, at);
+    let ends = run_sides(
+        rt,
+        alloc,
+        &link,
+        &mut hub,
+        port,
+        bound,
+        &mut sends,
+        &mut app_pass,
+        talk,
+        opened,
+        pace,
+        log,
+    );
+    hub.hand_in(app_pass);
+    let ended = hub.last_turn(rt, link, &(), audio_pass, ends.net.clock, &mut sends);
+    let failed = post(port, sends.list(), ends.net.failed);
+    tell_captures(&log.lines, &mut captures);
+    tell_commits(&log.lines, &mut commits);
+    ControlRun {
+        end: end_of(ends.served, failed, ended.full),
+        events: ended.events,
+        published: ended.published,
+        captures,
+        commits,
+    }
+}
+
+// Opens the talk at an endpoint. Answers whether it is. Waits: in the talk. Memory: none.
+fn listen<L: Talk>(talk: &mut L, at: Endpoint) -> bool
+    ensures opens { result ≡ true → (L.opened talk.new ≡ Some at) × (L.faults talk.new ≡ L.faults talk.old) }
+    ensures fails { result ≡ false → (L.opened talk.new ≡ L.opened talk.old) × Rose (L.faults talk.old) (L.faults talk.new) }
+    ensures left { L.left talk.new ≡ L.left talk.old }
+    ensures written { L.written talk.new ≡ L.written talk.old }
+{
+    match talk.listen(at) {
+        Bound::Ready => true,
+        Bound::Failed => false,
+    }
+}
+
+// Tells what was captured at each line, in order. Memory: none.
+fn tell_captures(lines: &[LineLog], captures: &mut Vec<Capture>)
+    requires few { length lines.now ≤ 4_096 }
+    requires empty { captures.old.items ≡ [] }
+    requires room { 4_096 ≤ vec_capacity captures.old }
+    ensures { captures.new.items ≡ captures_in lines.now }
+{
+    for line in lines {
+        captures.push_reserved(line.capture);
+    }
+}
+
+// Tells what was committed at the lines, in order. Memory: none.
+fn tell_commits(lines: &[LineLog], commits: &mut Vec<Commit>)
+    requires few { length lines.now ≤ 4_096 }
+    requires empty { commits.old.items ≡ [] }
+    requires room { 4_096 ≤ vec_capacity commits.old }
+    ensures { commits.new.items ≡ map (λ commit. commit.1) (commits_in lines.now) }
+{
+    for line in lines {
+        tell_commit(line.commit, commits);
+    }
+}
+
+// Tells what was committed at a line, if anything was. Memory: none.
+fn tell_commit(made: Option<(u64, Commit)>, commits: &mut Vec<Commit>)
+    requires room { vec_len commits.old < vec_capacity commits.old }
+    ensures items { commits.new.items ≡ commits.old.items ++ map (λ commit. commit.1) (put_before made []) }
+    ensures capacity { vec_capacity commits.new ≡ vec_capacity commits.old }
+    ensures len { vec_len commits.new ≤ vec_len commits.old + 1 }
+{
+    if let Some((_, commit)) = made {
+        commits.push_reserved(commit);
+    }
+}
+
+// The first cause that holds.
+fn end_of(served: Served, failed: bool, full: bool) -> ControlEnd
+    ensures { result ≡ first_of served failed full }
+{
+    match served {
+        Served::Memory(_) => ControlEnd::Memory,
+        Served::Failed => end_by(failed, false, ControlEnd::Talk),
+        Served::Ended => end_by(failed, full, ControlEnd::Well),
+        Served::Lines => end_by(failed, full, ControlEnd::Lines),
+    }
+}
+
+// The first cause that holds, where another comes after the port's failure and the full journal.
+fn end_by(failed: bool, full: bool, other: ControlEnd) -> ControlEnd
+    ensures { result ≡ (if failed then ControlEnd.Port else (if full then ControlEnd.Events else other)) }
+{
+    if failed {
+        return ControlEnd::Port;
+    }
+    if full {
+        return ControlEnd::Events;
+    }
+    other
+}
+
+/// A law: by how a run ended, what it met.
+pub fn control_ends_tell()
+    ensures { EndsTell }
+{}
