@@ -111,10 +111,6 @@ abbrev pub IsSomeLiveScript : List (List ℕ) → Type 0
 IsSomeLiveScript lines =
     (mpb : ℤ) × (sync : Bool) × (gates : List GateValue) × (commands : List Command) × IsLiveScript lines mpb sync gates commands
 
--- the text is no live script
-abbrev pub IsNoLiveScript : List ℕ → Type 0
-IsNoLiveScript text = faults.IsNone IsSomeLiveScript text
-
 -- the first line at fault, counted from 1, those passed over among them
 abbrev pub IsFirstLiveFault : List ℕ → ℕ → Type 0
 IsFirstLiveFault text k = faults.IsFirstFault IsSomeLiveScript text k

@@ -165,9 +165,6 @@ IsNoScript text = faults.IsNone IsSomeScript text
 
 -- ---- the first line at fault
 
-abbrev pub BeginsScript : List (List ℕ) → Type 0
-BeginsScript lines = faults.Begins IsSomeScript lines
-
 abbrev pub IsFaultAt : List (List ℕ) → ℕ → Type 0
 IsFaultAt lines k = faults.IsFaultAt IsSomeScript lines k
 
