@@ -3,9 +3,9 @@ use Rattle.std.proofs.Common.{◌≡◌, ◌≢◌, ◌⊎◌, inl, inr, refl, s
 use Rattle.std.specs.List.{All, flat_map}
 use Rattle.std.specs.Fmt.{decimal, signed_decimal}
 use Rattle.std.specs.Int.Signed.{mag}
-use Rattle.std.proofs.lemmas.List.{append_assoc, append-nil, length_push, map-append}
+use Rattle.std.proofs.lemmas.List.{append_assoc, append-nil, length_push}
 use Rattle.std.proofs.lemmas.List.Concat.{flat_map-cons}
-use Rattle.std.proofs.lemmas.List.Elements.{All-head, All-tail, All-push, All-nil}
+use Rattle.std.proofs.lemmas.List.Elements.{All-head, All-tail, All-push}
 use Rattle.std.proofs.lemmas.Grind.{flat_map-append}
 use Rattle.std.proofs.lemmas.Fmt.{decimal_digit, decimal_injective, signed_decimal_injective}
 use Rattle.lk_base.specs.Endpoint.{IsEndpoint}
@@ -156,32 +156,7 @@ lacks_end count lines none = inl (λ e more range same. cc (none, same))
 pub lacks_gate_end : (count : ℕ) (lines : List (List ℕ)) → lines ≡ [] → LacksGate count lines
 lacks_gate_end count lines none = inl (λ e more range same. cc (none, same))
 
-pub lacks_to_line : (count : ℕ) (lines : List (List ℕ)) (line : List ℕ) (rest : List (List ℕ)) → lines ≡ line ∷ rest
-    → ((e : Endpoint) → IsEndpoint e → line ≡ to_line e → ⊥) → LacksTo count lines
-lacks_to_line count lines line rest is none = inl (λ e more range same. none e range (cc (is, same)))
-
-pub lacks_gate_line : (count : ℕ) (lines : List (List ℕ)) (line : List ℕ) (rest : List (List ℕ)) → lines ≡ line ∷ rest
-    → ((e : Endpoint) → IsEndpoint e → line ≡ gate_line e → ⊥) → LacksGate count lines
-lacks_gate_line count lines line rest is none = inl (λ e more range same. none e range (cc (is, same)))
-
-pub destinations_none : (lines : List (List ℕ)) → HasDestinations lines [] lines
-destinations_none lines = record { each = All-nil IsEndpoint; few = omega arith; said = refl }
-
-pub destinations_more : (lines : List (List ℕ)) (ds : List Endpoint) (line : List ℕ) (e : Endpoint) (mid rest : List (List ℕ))
-    → HasDestinations lines ds mid → mid ≡ line ∷ rest → IsEndpoint e → line ≡ to_line e → length ds < 32
-    → HasDestinations lines (ds ++ e ∷ []) rest
-destinations_more lines ds line e mid rest has is range said room = record {
-  each = All-push IsEndpoint ds e has.each range;
-  few = omega (arith, length_push ds e);
-  said = has.said ∙ ap (λ (ls : List (List ℕ)). map (λ to. to_line to) ds ++ ls) (is ∙ ap (λ (l : List ℕ). l ∷ rest) said)
-      ∙ sym (append_assoc (map (λ to. to_line to) ds) (to_line e ∷ []) rest)
-      ∙ ap (λ (ls : List (List ℕ)). ls ++ rest) (sym (map-append (λ (to : Endpoint). to_line to) ds (e ∷ [])));
-}
-
 -- ---- gates
-
-pub gates_none : (lines : List (List ℕ)) → HasGates lines [] lines
-gates_none lines = record { each = All-nil IsGate; few = omega arith; said = refl; full = tt }
 
 flat_push : (gs : List GateValue) (g : GateValue) (rest : List (List ℕ))
     → flat_map gate_lines gs ++ (gate_lines g ++ rest) ≡ flat_map gate_lines (gs ++ g ∷ []) ++ rest
