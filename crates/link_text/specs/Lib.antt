@@ -11,6 +11,8 @@ pub mod ReplayScript
 pub mod LiveScript
 pub mod LiveHead
 pub mod ControlLine
+pub mod HexWord
+pub mod SaidEvent
 pub mod EventDetails
 pub mod Places
 pub mod HeadParts

@@ -1,10 +1,10 @@
 //! The texts that the program reads and writes.
 //!
 //! In reading order: `line` (a line that is put together), `text_line` (the lines of a text), `word`, `number`, `truth`, `node_id`,
-//! `endpoint`, `hex_word` (what a word says), `words`, `values` (a line word by word), `pair` (a line of two numbers), `place` (the lines
-//! that count), `commit_read`, `event_read`, `head_read` (a line of each kind), `fault`, `head`, `replay_script`, `live_read` (the lines of
-//! a live script), `live_script`, `live_head`, `control_line` (the lines of a client), `reason`, `head_line`, `event_line`,
-//! `sending_line`, `state_line`, `reading_line`, `load` (the events of a generated run); last `laws`.
+//! `endpoint` (what a word says), `words`, `values` (a line word by word), `hex_word` (the last word of an arrival), `pair` (a line of two
+//! numbers), `place` (the lines that count), `said_event`, `commit_read`, `event_read`, `head_read` (a line of each kind), `fault`, `head`,
+//! `replay_script`, `live_read` (the lines of a live script), `live_script`, `live_head`, `control_line` (the lines of a client), `reason`,
+//! `head_line`, `event_line`, `sending_line`, `state_line`, `reading_line`, `load` (the events of a generated run); last `laws`.
 #![tactic(auto)]
 
 mod commit_read;
@@ -30,6 +30,7 @@ mod place;
 mod reading_line;
 mod reason;
 mod replay_script;
+mod said_event;
 mod sending_line;
 mod state_line;
 mod text_line;

@@ -1,7 +1,7 @@
 //! The lines of a text that count, one after the other.
 
-ghost use Rattle.std.specs.Prelude.{◌≡◌, ◌≤◌, ◌<◌, ◌+◌, length};
-ghost use Rattle.link_text.specs.Lines.{counting_in, is_passed, lines_of};
+ghost use Rattle.std.specs.Prelude.{◌≡◌, ◌≤◌, ◌<◌, ◌+◌, ◌↔◌, ◌⊎◌, length, IsTrue};
+ghost use Rattle.link_text.specs.Lines.{counting_in, lines_of};
 ghost use Rattle.link_text.specs.Places.{HasLine, HasPassed, IsAhead, counting_from};
 
 use crate::text_line::line_at;
@@ -45,10 +45,11 @@ pub(crate) fn pass(text: &[u8], start: Place) -> Place
 {
     let mut place = start;
     while place.at < text.len() {
-        let (line, next) = line_at(text, place.at);
-        if !is_passed(line) {
+        // Only what is passed over is cut: no line feed is looked for where a line counts.
+        if !begins_passed(text[place.at]) {
             return place;
         }
+        let (_passed, next) = line_at(text, place.at);
         place = Place {
             at: next,
             number: place.number + 1,
@@ -57,8 +58,9 @@ pub(crate) fn pass(text: &[u8], start: Place) -> Place
     place
 }
 
-fn is_passed(line: &[u8]) -> bool
-    ensures { result ≡ is_passed line.now }
+// Whether a line with this byte first is passed over: before an empty one it is the line feed.
+fn begins_passed(first: u8) -> bool
+    ensures { IsTrue result ↔ ((first ≡ 10) ⊎ (first ≡ 35)) }
 {
-    line.is_empty() || line[0] == b'#'
+    first == b'\n' || first == b'#'
 }

@@ -2,7 +2,7 @@
 
 ghost use Rattle.std.specs.Prelude.{◌≤◌, ◌<◌, ◌-◌, ◌^◌, length};
 
-use crate::event_read::event_of;
+use crate::event_read::said_of;
 use crate::head_read::{destination_of, gate_of, version_of};
 use crate::place::{first_place, line_from};
 use crate::replay_script::audio_behind;
@@ -173,7 +173,7 @@ fn behind_body(kind: Kind, before: Before, line: &[u8]) -> Stage {
     if kind != Kind::Replay || gates == 0 || gates > 4 {
         return Stage::Body { before };
     }
-    let audio = match event_of(line, gates, audio) {
+    let audio = match said_of(line, gates, audio) {
         Some(event) => audio_behind(&event, audio),
         None => audio,
     };

@@ -7,12 +7,14 @@ ghost use Rattle.link_node.specs.Event.{EventValue, event_value, audio_after};
 ghost use Rattle.link_text.specs.HeadParts.{IsFront, IsKnownVersion, IsNode, config_of, plain_of};
 ghost use Rattle.link_text.specs.Places.{AreOfVersion, HasBadEvent, IsAhead, IsOfVersion, counting_from};
 ghost use Rattle.link_text.specs.ReplayScript.{AreEventLines, IsChecked, IsEventLine, IsLineFault, IsWithoutQuantum, SaysFrom, SaysSome, group_line, node_line, quantum_line, version_line};
+ghost use Rattle.link_text.specs.SaidEvent.{said_value};
 
-use crate::event_read::event_of;
+use crate::event_read::said_of;
 use crate::fault::BadLine;
 use crate::head::Head;
 use crate::head_read::{Node, gates_from, group_of, node_of, quantum_of, version_of};
 use crate::place::{Place, first_place, line_from, pass};
+use crate::said_event::{SaidEvent, event_of};
 use crate::text_line::line_at;
 use link_node::{Config, Event};
 
@@ -49,11 +51,11 @@ pub fn next_event(text: &[u8], at: &mut usize) -> Option<Event>
         return None;
     }
     let (line, next) = line_at(text, place.at);
-    let Some(event) = event_of(line, MOST_GATES, 0) else {
+    let Some(said) = said_of(line, MOST_GATES, 0) else {
         return None;
     };
     *at = next;
-    Some(event)
+    Some(event_of(said))
 }
 
 /// What a script says before its gates.
@@ -237,14 +239,14 @@ fn events_from(text: &[u8], start: Place, version: u8, gates: u8) -> Result<(), 
 }
 
 // The event that a line says in a script of a version: in version 1 a commit has no quantum.
-fn event_in(line: &[u8], version: u8, gates: u8, audio: u64) -> Option<Event>
+fn event_in(line: &[u8], version: u8, gates: u8, audio: u64) -> Option<SaidEvent<'_>>
     requires some_gate { 0 < gates }
     requires few_gates { gates ≤ 4 }
-    ensures some { IfSome result (λ event. IsEventLine gates audio line.now (event_value event)
-        × IsOfVersion version (event_value event)) }
+    ensures some { IfSome result (λ event. IsEventLine gates audio line.now (said_value event)
+        × IsOfVersion version (said_value event)) }
     ensures none { IfNone result ((e : EventValue) → IsEventLine gates audio line.now e → IsOfVersion version e → ⊥) }
 {
-    let Some(event) = event_of(line, gates, audio) else {
+    let Some(event) = said_of(line, gates, audio) else {
         return None;
     };
     if version == 1 && !is_without_quantum(&event) {
@@ -254,21 +256,23 @@ fn event_in(line: &[u8], version: u8, gates: u8, audio: u64) -> Option<Event>
 }
 
 // Whether an event is no commit of a quantum.
-fn is_without_quantum(event: &Event) -> bool
-    ensures { IsTrue result ↔ IsWithoutQuantum (event_value event.now) }
+fn is_without_quantum(event: &SaidEvent<'_>) -> bool
+    ensures { IsTrue result ↔ IsWithoutQuantum (said_value event.now) }
 {
     match event {
-        Event::App { commit, .. } | Event::Audio { commit, .. } => commit.quantum.is_none(),
+        SaidEvent::App { commit, .. } | SaidEvent::Audio { commit, .. } => {
+            commit.quantum.is_none()
+        }
         _ => true,
     }
 }
 
 // The number of the last audio commit, once an event has come.
-pub(crate) fn audio_behind(event: &Event, audio: u64) -> u64
-    ensures { result ≡ audio_after audio (event_value event.now) }
+pub(crate) fn audio_behind(event: &SaidEvent<'_>, audio: u64) -> u64
+    ensures { result ≡ audio_after audio (said_value event.now) }
 {
     match event {
-        Event::Audio { number, .. } => *number,
+        SaidEvent::Audio { number, .. } => *number,
         _ => audio,
     }
 }

@@ -1,24 +1,22 @@
-//! What the next word of a line says: a number, a truth value, an endpoint, an id, or the bytes of a datagram.
+//! What the next word of a line says: a number, a truth value, an endpoint, or an id.
 
-ghost use Rattle.std.specs.Prelude.{◌≡◌, ◌≤◌, ◌∷◌, ℕ, ℤ, Bool, List, length, IfSome, IfNone, pos, ◌≤ℤ◌};
+ghost use Rattle.std.specs.Prelude.{◌≡◌, ◌≤◌, ◌∷◌, ℕ, ℤ, Bool, List, IfSome, IfNone, pos, ◌≤ℤ◌};
 ghost use Rattle.std.specs.Fmt.{decimal, signed_decimal};
 ghost use Rattle.lk_base.specs.Endpoint.{IsEndpoint};
 ghost use Rattle.lk_base.specs.Ranges.{IsMoment, IsQuantum, IsWithinLimit};
 ghost use Rattle.lk_base.specs.declared.endpoint.Endpoint.{Endpoint};
 ghost use Rattle.lk_base.specs.declared.ids.NodeId.{NodeId};
-ghost use Rattle.link_payload.specs.Entries.{AreBytes};
 ghost use Rattle.link_text.specs.LineWords.{words_left};
-ghost use Rattle.link_text.specs.ReplayScript.{IsHexOf, IsVisibleId};
+ghost use Rattle.link_text.specs.ReplayScript.{IsVisibleId};
 ghost use Rattle.link_text.specs.Words.{endpoint_text_of, truth_text_of};
 
 use crate::endpoint::endpoint_of;
-use crate::hex_word::bytes_of;
 use crate::node_id::id_of;
 use crate::number::{amount_of, number_of, signed_of};
 use crate::truth::truth_of;
 use crate::words::next_word;
 use client_state::QUANTUM_MAX;
-use lk_base::{Endpoint, MOMENT_MAX, NodeId, Wire};
+use lk_base::{Endpoint, MOMENT_MAX, NodeId};
 
 /// A number up to `limit`, and what is left behind it.
 pub(crate) fn number_in(left: &[u8], limit: u64) -> Option<(u64, &[u8])>
@@ -146,20 +144,4 @@ pub(crate) fn id_in(left: &[u8]) -> Option<(NodeId, &[u8])>
         return None;
     };
     Some((id, left))
-}
-
-/// The bytes of a datagram, and what is left behind them.
-pub(crate) fn bytes_in(left: &[u8]) -> Option<(Wire, &[u8])>
-    ensures some { IfSome result (λ found. AreBytes found.0.items × (length found.0.items ≤ 513)
-        × ((hex : List ℕ) × IsHexOf hex found.0.items × (words_left left.now ≡ hex ∷ words_left found.1.now))) }
-    ensures none { IfNone result ((bytes hex : List ℕ) (rest : List (List ℕ)) → length bytes ≤ 513
-        → IsHexOf hex bytes → words_left left.now ≡ hex ∷ rest → ⊥) }
-{
-    let Some((word, left)) = next_word(left) else {
-        return None;
-    };
-    let Some(bytes) = bytes_of(word) else {
-        return None;
-    };
-    Some((bytes, left))
 }

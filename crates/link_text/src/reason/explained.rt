@@ -2,11 +2,12 @@
 
 use crate::event_read::AUDIO_MAX;
 use crate::head_read::GROUP_MAX;
+use crate::hex_word::is_hex_word;
 use crate::live_read::BLOCK_MAX;
 use crate::number::signed_of;
 use crate::reason::{Before, Excerpt, Expected, Found, Kind, Reason, Stage, expected_at};
 use crate::values::{
-    bytes_in, endpoint_in, id_in, moment_in, number_in, quantum_in, signed_in, tempo_in, truth_in,
+    endpoint_in, id_in, moment_in, number_in, quantum_in, signed_in, tempo_in, truth_in,
 };
 use crate::words::{first_word, is_word, next_word};
 
@@ -216,10 +217,10 @@ fn datagram(line: &[u8], left: &[u8], gates: u8) -> Reason {
     let Some((_, bytes)) = endpoint_in(from) else {
         return behind(line, from, Expected::Endpoint);
     };
-    let Some((_, left)) = bytes_in(bytes) else {
-        return behind(line, bytes, Expected::Bytes);
-    };
-    behind(line, left, Expected::LineEnd)
+    match next_word(bytes) {
+        Some((word, left)) if is_hex_word(word) => behind(line, left, Expected::LineEnd),
+        _ => behind(line, bytes, Expected::Bytes),
+    }
 }
 
 fn audio_commit(line: &[u8], left: &[u8], before: Before) -> Reason {
