@@ -35,6 +35,20 @@ pub(crate) struct Node {
     pub now: i64,
 }
 
+/// The next line from a place on, and the place behind it.
+pub(crate) fn next_line(text: &[u8], place: Place) -> Option<(&[u8], Place)>
+    requires { IsAhead text.now place }
+    ensures ahead { IfSome result (λ found. IsAhead text.now found.1) }
+    ensures some { IfSome result (λ found.
+        counting_from text.now place.at ≡ found.0.now ∷ counting_from text.now found.1.at) }
+    ensures none { IfNone result (counting_from text.now place.at ≡ []) }
+{
+    if place.at == text.len() {
+        return None;
+    }
+    Some(line_from(text, place))
+}
+
 /// The version that the first line of a script says.
 pub(crate) fn version_of(line: &[u8]) -> Option<u8>
     ensures some { IfSome result (λ version. IsKnownVersion version × (line.now ≡ version_line version)) }
