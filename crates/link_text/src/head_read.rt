@@ -6,10 +6,10 @@ ghost use Rattle.lk_base.specs.Endpoint.{IsEndpoint};
 ghost use Rattle.lk_base.specs.Ranges.{IsQuantum};
 ghost use Rattle.lk_base.specs.declared.endpoint.Endpoint.{Endpoint};
 ghost use Rattle.link_node.specs.Config.{ConfigValue, gate_value};
-ghost use Rattle.link_text.specs.HeadParts.{HasDestinations, HasGates, IsKnownVersion, IsNode, IsNodeLine, LacksGate, LacksTo, gate_line, plain_of, to_line};
+ghost use Rattle.link_text.specs.HeadParts.{HasDestinations, HasGates, IsKnownVersion, IsNode, IsNodeLine, LacksGate, LacksTo, plain_of};
 ghost use Rattle.link_text.specs.LineWords.{words_of};
 ghost use Rattle.link_text.specs.Places.{IsAhead, counting_from};
-ghost use Rattle.link_text.specs.ReplayScript.{group_line, node_line, quantum_line, version_line};
+ghost use Rattle.link_text.specs.ReplayScript.{gate_line, group_line, node_line, quantum_line, to_line, version_line};
 ghost use Rattle.link_text.specs.Words.{endpoint_text_of, truth_text_of};
 
 use crate::place::{Place, line_from};
