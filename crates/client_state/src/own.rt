@@ -17,6 +17,7 @@ pub struct Own {
 
 /// The state with the timeline, the start and the quantum of one's own last commit laid over it, where that commit's number is above
 /// the number of those taken; else the state.
+#[inline(always)]
 #[tactic(auto, unfolding(crate::specs::Shown::shown_over))]
 pub fn shown(own: &Own, taken: u64, state: &State) -> State
     ensures value { result ≡ shown_over own.now.last taken state.now }
@@ -35,6 +36,7 @@ pub fn shown(own: &Own, taken: u64, state: &State) -> State
 }
 
 // The state with the commit's timeline, start and quantum in place of its own.
+#[inline(always)]
 fn laid_over(commit: &Commit, state: &State) -> State
     ensures value { result ≡ spec.laid_over commit.now state.now }
     ensures tidy { IsTidyState state.now → IsTidyCommit commit.now → IsTidyState result }

@@ -4,7 +4,6 @@ pub mod LineWords
 pub mod PairLine
 pub mod Line
 pub mod Spaced
-pub mod GateLines
 pub mod ReadingLine
 pub mod FirstFault
 pub mod ReplayScript

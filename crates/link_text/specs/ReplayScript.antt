@@ -5,6 +5,7 @@ use Rattle.std.specs.Fmt.{decimal, signed_decimal}
 use Rattle.hex.specs.Hex.{decode_of, encode_lower}
 use Rattle.lk_base.specs.Endpoint.{IsEndpoint}
 use Rattle.lk_base.specs.Ranges.{IsMoment}
+use Rattle.lk_base.specs.declared.endpoint.Endpoint.{Endpoint}
 use Rattle.lk_base.specs.declared.ids.NodeId.{NodeId}
 use Rattle.lk_base.specs.declared.start.ClientStart.{ClientStart}
 use Rattle.lk_base.specs.declared.timeline.Timeline.{Timeline}
@@ -60,11 +61,15 @@ profile_lines version config = if nat_eq version 1 then [] else group_line confi
 abbrev pub IsVersion : ℕ → ConfigValue → Type 0
 IsVersion version config = ((version ≡ 1) × (config.group ≡ 0) × (config.quantum ≡ pos 4_000_000)) ⊎ (version ≡ 2)
 
+abbrev pub gate_line : Endpoint → List ℕ
+gate_line local = joined (codes "gate" ∷ endpoint_text_of local ∷ [])
+
+abbrev pub to_line : Endpoint → List ℕ
+to_line to = joined (codes "to" ∷ endpoint_text_of to ∷ [])
+
 -- a gate's line, and those of its destinations
 abbrev pub gate_lines : GateValue → List (List ℕ)
-gate_lines gate =
-    joined (codes "gate" ∷ endpoint_text_of gate.local ∷ [])
-    ∷ map (λ to. joined (codes "to" ∷ endpoint_text_of to ∷ [])) gate.destinations
+gate_lines gate = gate_line gate.local ∷ map to_line gate.destinations
 
 unfoldable pub head_lines : ℕ → ConfigValue → ℤ → List (List ℕ)
 head_lines version config now =

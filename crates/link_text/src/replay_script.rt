@@ -12,7 +12,7 @@ ghost use Rattle.link_text.specs.SaidEvent.{said_value};
 use crate::event_read::said_of;
 use crate::fault::BadLine;
 use crate::head::Head;
-use crate::head_read::{Node, gates_from, group_of, node_of, quantum_of, version_of};
+use crate::head_read::{Node, gates_from, group_of, next_line, node_of, quantum_of, version_of};
 use crate::place::{Place, first_place, line_from, pass};
 use crate::said_event::{SaidEvent, event_of};
 use crate::text_line::line_at;
@@ -149,14 +149,8 @@ fn version_from(text: &[u8], place: Place) -> Option<(u8, Place)>
     ensures none { IfNone result ((version : ℕ) (rest : List (List ℕ)) → IsKnownVersion version
         → counting_from text.now place.at ≡ version_line version ∷ rest → ⊥) }
 {
-    if place.at == text.len() {
-        return None;
-    }
-    let (line, next) = line_from(text, place);
-    let Some(version) = version_of(line) else {
-        return None;
-    };
-    Some((version, next))
+    let (line, next) = next_line(text, place)?;
+    Some((version_of(line)?, next))
 }
 
 // What the node's line says and the place behind it, if that is the next one.
@@ -168,14 +162,8 @@ fn node_from(text: &[u8], place: Place) -> Option<(Node, Place)>
     ensures none { IfNone result ((config : ConfigValue) (now : ℤ) (rest : List (List ℕ)) → IsNode config now
         → counting_from text.now place.at ≡ node_line config now ∷ rest → ⊥) }
 {
-    if place.at == text.len() {
-        return None;
-    }
-    let (line, next) = line_from(text, place);
-    let Some(node) = node_of(line) else {
-        return None;
-    };
-    Some((node, next))
+    let (line, next) = next_line(text, place)?;
+    Some((node_of(line)?, next))
 }
 
 // The group that its line says and the place behind it, if that is the next one.
@@ -187,14 +175,8 @@ fn group_from(text: &[u8], place: Place) -> Option<(u16, Place)>
     ensures none { IfNone result ((group : ℕ) (rest : List (List ℕ)) → group < 2 ^ 16
         → counting_from text.now place.at ≡ group_line group ∷ rest → ⊥) }
 {
-    if place.at == text.len() {
-        return None;
-    }
-    let (line, next) = line_from(text, place);
-    let Some(group) = group_of(line) else {
-        return None;
-    };
-    Some((group, next))
+    let (line, next) = next_line(text, place)?;
+    Some((group_of(line)?, next))
 }
 
 // The quantum that its line says and the place behind it, if that is the next one.
@@ -206,14 +188,8 @@ fn quantum_from(text: &[u8], place: Place) -> Option<(i64, Place)>
     ensures none { IfNone result ((quantum : ℤ) (rest : List (List ℕ)) → IsQuantum quantum
         → counting_from text.now place.at ≡ quantum_line quantum ∷ rest → ⊥) }
 {
-    if place.at == text.len() {
-        return None;
-    }
-    let (line, next) = line_from(text, place);
-    let Some(quantum) = quantum_of(line) else {
-        return None;
-    };
-    Some((quantum, next))
+    let (line, next) = next_line(text, place)?;
+    Some((quantum_of(line)?, next))
 }
 
 // Whether all lines from a place on say events of a version; the error is the first that says none.
