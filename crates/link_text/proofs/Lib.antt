@@ -8,6 +8,7 @@ mod PlaceLemmas
 mod FirstFaultLemmas
 mod CommitLemmas
 mod EventLemmas
+mod HexWordLemmas
 mod HeadLemmas
 mod EventUniqueLemmas
 mod PairLemmas

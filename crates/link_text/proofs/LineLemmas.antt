@@ -92,3 +92,22 @@ lines_some (b ∷ bytes) some = by_test (b == 10)
 -- no line stands at the end
 pub lines_end : (text : List ℕ) (at : ℕ) → length text ≤ at → lines_of (drop at text) ≡ []
 lines_end text at all = ap lines_of (drop_all at text all) ∙ lines_none
+
+-- a line feed ends an empty line, and every other byte begins a line
+pub line_empty : (b : ℕ) (bytes line : List ℕ) (after : List (List ℕ)) → b ≡ 10 → lines_of (b ∷ bytes) ≡ line ∷ after → line ≡ []
+unfolding lines_of
+line_empty b bytes line after feed lines = cc (sym (at_feed b ([] ∷ lines_of bytes) (onto_first b (lines_of bytes)) feed) ∙ lines)
+  where
+    at_feed : (b : ℕ) (xs ys : List (List ℕ)) → b ≡ 10 → (if b == 10 then xs else ys) ≡ xs
+    at_feed b xs ys feed = grind (arith, nat_tests)
+
+onto_begins : (b : ℕ) (lines : List (List ℕ)) (line : List ℕ) (after : List (List ℕ)) → onto_first b lines ≡ line ∷ after
+    → (tail : List ℕ) × (line ≡ b ∷ tail)
+onto_begins b [] line after is = ([], cc is)
+onto_begins b (first ∷ lines) line after is = (first, cc is)
+
+pub line_begins : (b : ℕ) (bytes line : List ℕ) (after : List (List ℕ)) → (b ≡ 10 → ⊥) → lines_of (b ∷ bytes) ≡ line ∷ after
+    → (tail : List ℕ) × (line ≡ b ∷ tail)
+unfolding lines_of
+line_begins b bytes line after other lines =
+    onto_begins b (lines_of bytes) line after (sym (not_feed b ([] ∷ lines_of bytes) (onto_first b (lines_of bytes)) other) ∙ lines)

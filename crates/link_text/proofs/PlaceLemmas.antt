@@ -1,11 +1,12 @@
 -- Places in a text.
-use Rattle.std.proofs.Common.{◌≡◌, refl, sym, ◌∙◌, ap, arith, ℕ, ◌+◌, ◌<◌, ◌≤◌, Bool, true, false, not, List, [], ◌∷◌, ◌++◌, if◌then◌else◌, length, drop}
-use Rattle.std.proofs.lemmas.List.{append_assoc, length_push, length-append, length-drop}
+use Rattle.std.proofs.Common.{◌≡◌, ◌⊎◌, inl, inr, refl, sym, ◌∙◌, ap, arith, ℕ, ◌+◌, ◌<◌, ◌≤◌, ◌==◌, Bool, true, false, not, List, [], ◌∷◌, ◌++◌, if◌then◌else◌, length, drop, slice_index}
+use Rattle.std.proofs.lemmas.List.{append_assoc, length_push, length-append, length-drop, drop_more}
+use Rattle.std.proofs.lemmas.Bool.Decides.{nat_tests}
 use Rattle.std.proofs.lemmas.List.Elements.{filter-append}
 use Rattle.link_text.specs.Lines.{lines_of, is_passed, counting_in}
 use Rattle.link_text.specs.Places.{HasWalked, HasPassed, IsAhead, HasLine, StopsAt, counting_from}
 use Rattle.link_text.specs.declared.place.Place.{Place}
-use Rattle.link_text.proofs.LineLemmas.{lines_end, lines_some}
+use Rattle.link_text.proofs.LineLemmas.{line_begins, line_empty, lines_end, lines_some}
 
 counts : List ℕ → Bool
 counts line = not (is_passed line)
@@ -53,11 +54,30 @@ walked_more text start place next line has lines is number further within = reco
   within = within;
 }
 
-pub stops_counted : (text line : List ℕ) (at : ℕ) (after : List (List ℕ)) → lines_of (drop at text) ≡ line ∷ after → is_passed line ≡ false
-    → StopsAt text at
-stops_counted text line at after lines is = λ other rest same.
-    let one : other ≡ line = cc (lines, same) in
-    ap is_passed one ∙ is
+-- ---- by a line's first byte
+
+-- the same lines, from that byte on
+from_first : (text line : List ℕ) (at : ℕ) (after : List (List ℕ)) → at < length text → lines_of (drop at text) ≡ line ∷ after
+    → lines_of (slice_index text at ∷ drop (at + 1) text) ≡ line ∷ after
+from_first text line at after within lines = ap lines_of (sym (drop_more text at 0 within)) ∙ lines
+
+-- a line of which it is the line feed, or a number sign, is passed over
+pub passed_first : (text line : List ℕ) (at : ℕ) (after : List (List ℕ)) → at < length text → lines_of (drop at text) ≡ line ∷ after
+    → (slice_index text at ≡ 10) ⊎ (slice_index text at ≡ 35) → is_passed line ≡ true
+passed_first text line at after within lines (inl feed) =
+    ap is_passed (line_empty (slice_index text at) (drop (at + 1) text) line after feed (from_first text line at after within lines))
+passed_first text line at after within lines (inr sign) =
+    let begins = line_begins (slice_index text at) (drop (at + 1) text) line after (omega (arith, sign)) (from_first text line at after within lines) in
+    ap is_passed begins.1 ∙ ap (λ b. b == 35) sign
+
+not_sign : (b : ℕ) → (b ≡ 35 → ⊥) → (b == 35) ≡ false
+not_sign b other = grind (arith, nat_tests)
+
+-- one that begins with another byte counts
+pub stops_first : (text : List ℕ) (at : ℕ) → at < length text → ((slice_index text at ≡ 10) ⊎ (slice_index text at ≡ 35) → ⊥) → StopsAt text at
+stops_first text at within neither = λ line rest lines.
+    let begins = line_begins (slice_index text at) (drop (at + 1) text) line rest (λ feed. neither (inl feed)) (from_first text line at rest within lines) in
+    ap is_passed begins.1 ∙ not_sign (slice_index text at) (λ sign. neither (inr sign))
 
 pub stops_end : (text : List ℕ) (at : ℕ) → length text ≤ at → StopsAt text at
 stops_end text at all = λ line rest same. cc (lines_end text at all, same)

@@ -1,5 +1,6 @@
 -- Only for proofs: the word for the bytes of a datagram.
-use Rattle.std.specs.Prelude.{◌≤◌, ℕ, List, [], length, result_unwrap_or}
+use Rattle.std.specs.Prelude.{◌≤◌, ℕ, List, [], length}
+use Rattle.std.specs.Result.{result_unwrap_or}
 use Rattle.hex.specs.Hex.{decode_of}
 use Rattle.link_payload.specs.Entries.{AreBytes}
 use Rattle.link_text.specs.ReplayScript.{IsHexOf}

@@ -1,6 +1,6 @@
 //! Bytes, as hex digits of either case.
 
-ghost use Rattle.std.specs.Prelude.{◌≡◌, ◌≤◌, ◌*◌, ◌∷◌, [], ◌↔◌, ℕ, List, length, IsTrue, IfSome, IfNone, Some, Ok};
+ghost use Rattle.std.specs.Prelude.{◌≡◌, ◌≤◌, ◌*◌, ◌∷◌, [], ℕ, List, true, length, IfSome, IfNone, Some, Ok};
 ghost use Rattle.std.specs.Bool.{OnTrue, OnFalse};
 ghost use Rattle.std.specs.List.{AllPass};
 ghost use Rattle.hex.specs.Hex.{decode_of, hex_digit_value, is_hex_digit};
@@ -51,7 +51,7 @@ pub(crate) fn is_hex_word(word: &[u8]) -> bool
     if is_word(word, b"-") {
         return true;
     }
-    if word.is_empty() || word.len() > 1_026 || word.len() % 2 == 1 {
+    if word.len() < 2 || word.len() > 1_026 || word.len() % 2 == 1 {
         return false;
     }
     are_digits(word)
