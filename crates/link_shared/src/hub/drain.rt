@@ -8,7 +8,6 @@ ghost use Rattle.link_node.specs.Opening.{opened};
 ghost use Rattle.link_node.specs.Standing.{gates_of};
 ghost use Rattle.link_shared.specs.Draining.{HasDrained};
 
-use super::turn::either;
 use crate::keeper::Keeper;
 use crate::name::LinkName;
 use crate::queue::{Item, Queue, QueuePass, pop_item};
@@ -58,7 +57,7 @@ pub(crate) fn drain<C: StateCell<11>, N: LinkName, R: Wait>(
             sends,
         ) {
             None => return full,
-            Some(was_full) => full = either(full, was_full),
+            Some(was_full) => full |= was_full,
         }
     }
     unreachable!()
