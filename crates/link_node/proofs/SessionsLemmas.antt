@@ -30,8 +30,9 @@ use Rattle.link_node.specs.Measuring.{chosen, judged, measured, measurement_tick
 use Rattle.link_node.specs.Taking.{sighted}
 use Rattle.link_node.specs.Tick.{cleared, idle_forgotten, is_measured, is_needed, is_waiting, pruned}
 use Rattle.peer_gateway.specs.Answers.{has_peers}
+use Rattle.peer_gateway.proofs.KeyLemmas.{test_from_id}
 use Rattle.link_node.specs.WellFormed.{AreSessions, is_known}
-use Rattle.link_node.proofs.IdLemmas.{equal-same, differ-other, has-waits, none-waits, waits-none, distinct-from, distinct-to, found-has, has-found, found-key, itself, without-has, has-without, distinct-without, few-without, replaced, few-replaced, has-replaced, replaced-current, distinct-replaced}
+use Rattle.link_node.proofs.IdLemmas.{differ-other, has-waits, none-waits, waits-none, distinct-from, distinct-to, found-has, has-found, found-key, itself, without-has, has-without, distinct-without, few-without, replaced, few-replaced, has-replaced, replaced-current, distinct-replaced}
 
 -- ---- the same by ids alone
 
@@ -70,7 +71,7 @@ has-known m id h =
     (same_id (session_in m) id)
     (λ _ _. refl)
     (λ _ other. elim h as (λ _. is_some (found_by session_of id m.sessions.others) ≡ true)
-    [ inl e ↦ absurd (false≢true (sym other ∙ equal-same (session_in m) id e)) | inr k ↦ has-found session_of id m.sessions.others k ]) refl
+    [ inl e ↦ absurd (false≢true (sym other ∙ test_from_id (session_in m) id e)) | inr k ↦ has-found session_of id m.sessions.others k ]) refl
 
 -- ---- there and back
 
@@ -81,7 +82,7 @@ some-measured m None known alone other = tt
 some-measured m (Some life) known alone other = record {
   known = known-has m life.session known;
   alone = waits-none life.session m.waiting alone;
-  other = λ is e. false≢true (sym (other is) ∙ equal-same life.session (session_in m) e);
+  other = λ is e. false≢true (sym (other is) ∙ test_from_id life.session (session_in m) e);
 }
 
 pub to_parts : (m : Machine) → AreSessions m → HasIds m
@@ -209,7 +210,7 @@ measured-needed : (m : Machine) (o : Option Life)
     → ((row : Taking) → is_measured row.session o ≡ true → is_needed m row ≡ true)
     → IfSome o (λ life. (row : Taking) → row.session ≡ life.session → is_needed m row ≡ true)
 measured-needed m None needs = tt
-measured-needed m (Some life) needs = λ row e. needs row (equal-same life.session row.session (sym e))
+measured-needed m (Some life) needs = λ row e. needs row (test_from_id life.session row.session (sym e))
 
 pub forgotten_parts : (m : Machine) → HasIds m → HasIds (idle_forgotten m)
 unfolding idle_forgotten
