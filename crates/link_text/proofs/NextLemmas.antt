@@ -4,7 +4,7 @@ use Rattle.link_node.specs.Event.{EventValue, Rx, Tick, App, Audio, End, audio_a
 use Rattle.link_text.specs.Lines.{lines_of, counting_in}
 use Rattle.link_text.specs.declared.place.Place.{Place}
 use Rattle.link_text.specs.Places.{HasPassed, counting_from}
-use Rattle.link_text.specs.ReplayScript.{IsEventKind, IsEventLine, AreEventLines, SaysFrom, SaysSome}
+use Rattle.link_text.specs.ReplayScript.{IsEventKind, IsEventLine, AreEventLines, IsNextEvent, SaysFrom, SaysSome}
 use Rattle.link_text.proofs.PlaceLemmas.{counting_same, counting_counted, counting_end}
 use Rattle.link_text.proofs.EventUniqueLemmas.{event_one}
 
@@ -60,9 +60,8 @@ next_bad text line at next is none (gates, audio, es, says) =
     none first.0 (line_wide gates audio line first.0 says.few first.3)
 
 pub next_some : (text line : List ℕ) (at next : ℕ) (e : EventValue) → counting_from text at ≡ line ∷ counting_from text next → next ≤ length text
-    → IsEventLine 4 0 line e → (gates audio : ℕ) (es : List EventValue) → SaysFrom gates audio text at es
-    → (rest : List EventValue) × (es ≡ e ∷ rest) × SaysFrom gates (audio_after audio e) text next rest
-next_some text line at next e is within says gates audio es all =
+    → IsEventLine 4 0 line e → IsNextEvent text at next e
+next_some text line at next e is within says = λ gates audio es all.
     let first = first_event gates audio (counting_from text at) line (counting_from text next) es is all.lines in
     let one = event_one gates 4 audio 0 line first.0 e (omega (arith, all.few)) (omega arith) first.3 says in (
       first.1,

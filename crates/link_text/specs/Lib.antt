@@ -12,6 +12,7 @@ pub mod LiveHead
 pub mod ControlLine
 pub mod HexWord
 pub mod SaidEvent
+pub mod CommitWords
 pub mod EventDetails
 pub mod Places
 pub mod HeadParts

@@ -191,6 +191,12 @@ pub record SaysFrom (gates audio : ℕ) (text : List ℕ) (at : ℕ) (es : List 
   pub within : at ≤ length text
   pub lines : AreEventLines gates audio (counting_in (lines_of (drop at text))) es
 
+-- whichever events are said from a place on, this is the first, and the others are said from the next place on
+abbrev pub IsNextEvent : List ℕ → ℕ → ℕ → EventValue → Type 0
+IsNextEvent text at next e =
+    (gates audio : ℕ) (es : List EventValue) → SaysFrom gates audio text at es
+    → (rest : List EventValue) × (es ≡ e ∷ rest) × SaysFrom gates (audio_after audio e) text next rest
+
 -- some events are said from there on
 abbrev pub SaysSome : List ℕ → ℕ → Type 0
 SaysSome text at = (gates audio : ℕ) × (es : List EventValue) × SaysFrom gates audio text at es
