@@ -1,0 +1,4 @@
+pub mod StepLemmas
+pub mod HitLemmas
+pub mod SoundLemmas
+pub mod PatternLemmas
