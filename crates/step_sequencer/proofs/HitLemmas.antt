@@ -179,3 +179,19 @@ all_in state origin first (suc n) =
     All-append (IsIn state origin first (suc n)) (hits_in state origin first) (struck_from state origin (first + 1) n)
     (in_frame state origin first n (step_in state origin first) refl)
     (λ k d h. let at = rest k d h in (omega (arith, at.0), omega (arith, at.1), at.2))
+
+-- ---- how they are gathered
+
+pub none_struck : (state : State) (origin : ℤ) (first : ℕ) → [] ≡ struck_from state origin first 0
+unfolding struck_from
+none_struck state origin first = refl
+
+pub few_more : (state : State) (origin : ℤ) (first n : ℕ) (hits : List Hit) → IsTidy state.timeline → n + 1 ≤ 960 → hits ≡ struck_from state origin first n
+    → length (hits ++ hits_in state origin (first + n)) ≤ 2
+few_more state origin first n hits tidy few so_far =
+    let more = ap (λ xs. xs ++ hits_in state origin (first + n)) so_far ∙ sym (struck_more state origin first n) in
+    omega (arith, ap length more, struck-few state origin first (n + 1) tidy few)
+
+pub all_more : (state : State) (origin : ℤ) (first n : ℕ) (hits more : List Hit) → hits ≡ struck_from state origin first n → more ≡ hits ++ hits_in state origin (first + n)
+    → more ≡ struck_from state origin first (n + 1)
+all_more state origin first n hits more so_far is = is ∙ ap (λ xs. xs ++ hits_in state origin (first + n)) so_far ∙ sym (struck_more state origin first n)

@@ -1,8 +1,8 @@
 -- Rows of marks: read at the front of a text, or lacking there.
-use Rattle.std.proofs.Common.{◌≡◌, ◌≢◌, ℕ, zero, suc, ◌+◌, ◌<◌, ◌≤◌, Bool, true, false, List, [], ◌∷◌, ◌++◌, length, map, take, drop, get_or, Option, Some, None, MatchOption, IfSome, IfNone, refl, ap, sym, ◌∙◌, arith, append_assoc, append-nil, length-append}
-use Rattle.std.proofs.lemmas.List.{append_cancel_left, length-map, map-append, get_or-take, take-append-drop}
+use Rattle.std.proofs.Common.{◌≡◌, ◌≢◌, ℕ, zero, suc, ◌+◌, ◌-◌, ◌<◌, ◌≤◌, Bool, true, false, List, [], ◌∷◌, ◌++◌, length, map, take, drop, get_or, set, Option, Some, None, MatchOption, IfSome, IfNone, refl, ap, sym, ◌∙◌, arith, append_assoc, append-nil, length-append}
+use Rattle.std.proofs.lemmas.List.{append_cancel_left, length-drop, length-map, length-set, map-append, take-append-drop, take_more, take_more_set}
 use Rattle.std.proofs.Math.ListN.{get_or-append}
-use Rattle.std.proofs.Math.Seq.{drop-append_seam, take-append_seam}
+use Rattle.std.proofs.Math.Seq.{drop-append_seam, take-length}
 use denote.Ref.{Bor}
 use Rattle.step_sequencer.specs.Pattern.{IsPattern, mark_of, row_of, kick_name, snare_name, hat_name, spelled_of, BeginsWithRow, LacksRow, IsFaultAt}
 use Rattle.step_sequencer.specs.Reading.{IsRowOf, AreMarksOf, LacksMarks}
@@ -85,6 +85,39 @@ odd_lacks text k byte in_row is none marks rest sixteen e =
     let long : k < length marked = omega (arith, length-map marks mark_of) in
     none (get_or marks k false) (sym is ∙ ap (λ (xs : List ℕ). get_or xs k 0) e ∙ get_or-append marked rest 0 k long ∙ mark_at marks k (omega arith))
 
+-- the first k of 16 marks have been read
+pub record HasMarks (text : List ℕ) (marks : List Bool) (k : ℕ) : Type 0 where
+  pub sixteen : length marks ≡ 16
+  pub so_far : map mark_of (take k marks) ≡ take k text
+
+pub marks_more : (text : List ℕ) (marks : List Bool) (k : ℕ) (struck : Bool) → k < 16 → 16 ≤ length text → HasMarks text marks k → get_or text k 0 ≡ mark_of struck
+    → HasMarks text (set marks k struck) (k + 1)
+marks_more text marks k struck in_row long has is =
+    let sixteen = has.sixteen in
+    let inside : k < length marks = omega arith in
+    let within : k < length text = omega arith in
+    record {
+      sixteen = length-set marks k struck ∙ sixteen;
+      so_far =
+          ap (map mark_of) (take_more_set marks k struck inside)
+          ∙ map-append mark_of (take k marks) (struck ∷ [])
+          ∙ ap (λ xs. xs ++ mark_of struck ∷ []) has.so_far
+          ∙ ap (λ (n : ℕ). take k text ++ n ∷ []) (sym is)
+          ∙ sym (take_more text k 0 within);
+    }
+
+pub all_marks : (text : List ℕ) (marks : List Bool) (k : ℕ) → k ≡ 16 → 16 ≤ length text → HasMarks text marks k → AreMarksOf text marks
+all_marks text marks k end long has =
+    let whole : length marks ≡ k = has.sixteen ∙ sym end in
+    record {
+      sixteen = has.sixteen;
+      long = long;
+      front =
+          ap (map mark_of) (sym (ap (λ (n : ℕ). take n marks) (sym whole) ∙ take-length marks))
+          ∙ has.so_far
+          ∙ ap (λ (n : ℕ). take n text) end;
+    }
+
 -- ---- faults
 
 length-row : (name : List ℕ) (marks : List Bool) → length (row_of name marks) ≡ length name + length marks + 2
@@ -133,28 +166,17 @@ fault_no_pattern text (suc (suc (suc (suc (suc n))))) p is fault e = fault
 
 -- ---- what is read
 
-pub first_at_fault : (text : List ℕ) → LacksRow kick_name text → IsFaultAt text 1
-first_at_fault text lacks = lacks
-
-begins : (name text rest : List ℕ) (marks : List Bool) → IsRowOf name text marks rest → BeginsWithRow name text rest
-begins name text rest marks row = record { marks = marks; sixteen = row.sixteen; split = row.split }
-
-pub second_at_fault : (text second : List ℕ) (kick : List Bool) → IsRowOf kick_name text kick second → LacksRow snare_name second → IsFaultAt text 2
-second_at_fault text second kick row lacks = (second, begins kick_name text second kick row, lacks)
-
-pub third_at_fault : (text second third : List ℕ) (kick snare : List Bool) → IsRowOf kick_name text kick second → IsRowOf snare_name second snare third → LacksRow hat_name third
-    → IsFaultAt text 3
-third_at_fault text second third kick snare row next lacks =
-    (second, third, begins kick_name text second kick row, begins snare_name second third snare next, lacks)
-
-pub fourth_at_fault : (text second third fourth : List ℕ) (kick snare hat : List Bool) → IsRowOf kick_name text kick second → IsRowOf snare_name second snare third
-    → IsRowOf hat_name third hat fourth → fourth ≢ [] → IsFaultAt text 4
-fourth_at_fault text second third fourth kick snare hat row next last some =
-    (second, third, fourth, begins kick_name text second kick row, begins snare_name second third snare next, begins hat_name third fourth hat last, some)
-
 pub pattern_read : (text second third fourth : List ℕ) (p : Pattern) → IsRowOf kick_name text p.kick second → IsRowOf snare_name second p.snare third
     → IsRowOf hat_name third p.hat fourth → fourth ≡ [] → text ≡ spelled_of p
 pattern_read text second third fourth p row next last none =
     row.split
     ∙ ap (λ xs. row_of kick_name p.kick ++ xs) (next.split ∙ ap (λ xs. row_of snare_name p.snare ++ xs) (last.split ∙ ap (λ xs. row_of hat_name p.hat ++ xs) none))
     ∙ sym (spelled_parts p)
+
+-- what a range up to the end is
+pub rest_whole : (xs : List ℕ) (n : ℕ) → take (length xs - n) (drop n xs) ≡ drop n xs
+rest_whole xs n = ap (λ (k : ℕ). take k (drop n xs)) (sym (length-drop n xs)) ∙ take-length (drop n xs)
+
+pub empty_is : (xs : List ℕ) → length xs ≡ 0 → xs ≡ []
+empty_is [] e = refl
+empty_is (x ∷ xs) e = absurd (omega arith)

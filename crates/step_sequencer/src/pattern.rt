@@ -1,6 +1,6 @@
 //! Patterns of 16 steps, and their text.
 
-ghost use Rattle.std.specs.Prelude.{◌≡◌, ◌≢◌, Bool, IfSome, IfNone, IfOk, IfErr};
+ghost use Rattle.std.specs.Prelude.{◌≡◌, ◌≢◌, ℕ, Bool, List, ◌++◌, IfSome, IfNone, IfOk, IfErr};
 ghost use Rattle.step_sequencer.specs.Pattern.{mark_of, spelled_of, LacksRow, IsFaultAt};
 ghost use Rattle.step_sequencer.specs.Reading.{IsRowOf, AreMarksOf, LacksMarks};
 
@@ -52,30 +52,49 @@ pub fn read_pattern(text: &[u8]) -> Result<Pattern, PatternFault>
     ensures read { IfOk result (λ pattern. text.now ≡ spelled_of pattern) }
     ensures fault { IfErr result (λ fault. IsFaultAt text.now fault.line) }
 {
-    let Some((kick, second)) = read_row(text, b"kick") else {
+    let Some(first) = read_row(text, b"kick") else {
         return Err(PatternFault { line: 1 });
     };
-    let Some((snare, third)) = read_row(second, b"snare") else {
+    let Some(second) = read_row(first.rest, b"snare") else {
         return Err(PatternFault { line: 2 });
     };
-    let Some((hat, fourth)) = read_row(third, b"hat") else {
+    let Some(third) = read_row(second.rest, b"hat") else {
         return Err(PatternFault { line: 3 });
     };
-    if !fourth.is_empty() {
+    if !third.rest.is_empty() {
         return Err(PatternFault { line: 4 });
     }
+    let kick = first.marks;
+    let snare = second.marks;
+    let hat = third.marks;
     Ok(Pattern { kick, snare, hat })
 }
 
-// The marks of the row of this name at the front of a text, and what follows it.
-fn read_row<'a>(text: &'a [u8], name: &[u8]) -> Option<([bool; 16], &'a [u8])>
-    ensures some { IfSome result (λ row. IsRowOf name.now text.now row.0 row.1.now) }
+// The marks of a row, and what follows it.
+#[derive(Clone, Copy)]
+struct Row<'a> {
+    marks: [bool; 16],
+    rest: &'a [u8],
+}
+
+// The row of this name at the front of a text.
+fn read_row<'a>(text: &'a [u8], name: &[u8]) -> Option<Row<'a>>
+    ensures some { IfSome result (λ row. IsRowOf name.now text.now row.marks row.rest.now) }
     ensures none { IfNone result (LacksRow name.now text.now) }
 {
-    let marks_on = text.strip_prefix(name)?.strip_prefix(b" ")?;
-    let marks = read_marks(marks_on)?;
-    let rest = marks_on[16..].strip_prefix(b"\n")?;
-    Some((marks, rest))
+    let spaced = after(text, name)?;
+    let marked = after(spaced, b" ")?;
+    let marks = read_marks(marked)?;
+    let rest = after(&marked[16..], b"\n")?;
+    Some(Row { marks, rest })
+}
+
+// What stands after a prefix of a text.
+fn after<'a>(text: &'a [u8], prefix: &[u8]) -> Option<&'a [u8]>
+    ensures some { IfSome result (λ rest. text.now ≡ prefix.now ++ rest.now) }
+    ensures none { IfNone result ((rest : List ℕ) → text.now ≢ prefix.now ++ rest) }
+{
+    text.strip_prefix(prefix)
 }
 
 // The 16 marks at the front of a text.
