@@ -1,5 +1,5 @@
 -- Samples and ages: cut in two, and one frame more.
-use Rattle.std.proofs.Common.{◌≡◌, ℕ, zero, suc, ◌+◌, ◌≤◌, ℤ, ◌+ℤ◌, List, [], ◌∷◌, ◌++◌, length, refl, ap, sym, ◌∙◌, subst, arith}
+use Rattle.std.proofs.Common.{◌≡◌, ℕ, zero, suc, ◌+◌, ℤ, ◌+ℤ◌, List, [], ◌∷◌, ◌++◌, length, refl, ap, sym, ◌∙◌, subst, arith}
 use Rattle.client_state.specs.declared.state.State.{State}
 use Rattle.step_sequencer.specs.Sound.{Ages, next_age, next_ages, ages_after, kick_level, snare_level, hat_level, level_of, ages_at, sounds_from, ages_from}
 use Rattle.step_sequencer.specs.Steps.{step_in}

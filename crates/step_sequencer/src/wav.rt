@@ -17,9 +17,12 @@ pub fn wav_header(frames: u32) -> [u8; 44]
     let [a, b, c, d] = (36 + 2 * frames).to_le_bytes();
     let [e, f, g, h] = (2 * frames).to_le_bytes();
     [
-        b'R', b'I', b'F', b'F', a, b, c, d, b'W', b'A', b'V', b'E', b'f', b'm', b't', b' ', 16, 0,
-        0, 0, 1, 0, 1, 0, 128, 187, 0, 0, 0, 119, 1, 0, 2, 0, 16, 0, b'd', b'a', b't', b'a', e, f,
-        g, h,
+        // the file
+        b'R', b'I', b'F', b'F', a, b, c, d, b'W', b'A', b'V', b'E',
+        // its format
+        b'f', b'm', b't', b' ', 16, 0, 0, 0, 1, 0, 1, 0, 128, 187, 0, 0, 0, 119, 1, 0, 2, 0, 16, 0,
+        // its samples
+        b'd', b'a', b't', b'a', e, f, g, h,
     ]
 }
 
