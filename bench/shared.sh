@@ -1,29 +1,30 @@
 # shellcheck shell=bash
-# Sourced by each script here. What they measure comes on standard output as rows of docs/PERFORMANCE.md; what else there is to tell of it
-# comes on standard error.
-#   prepare NAME          makes `folder`, a temporary copy of the crates, in which the program of bench/programs/NAME has a folder of its
-#                         own beside them, `crate`, by the name bench_NAME; and works there from then on. Its main.rattle is src/main.rt
-#                         there, a file X.answers below its proofs/ is X.antt, since no file of these kinds may lie outside of a crate, and
-#                         its line of bench/programs/uses.txt goes into crates.txt
+# Sourced by each script here. What they measure comes on standard output as rows of docs/PERFORMANCE.md; with FIGURES=raw as lines of what
+# a row is of, a tab and its figure, which has two more places then. What else there is to tell of it comes on standard error.
+#   prepare NAME          lays the program of bench/programs/NAME into `folder`, a temporary one, beside a copy of the crates that it
+#                         links: in `crate`, by the name bench_NAME; and works there from then on. Its main.rattle is src/main.rt there, a
+#                         file X.answers below its proofs/ is X.antt, since no file of these kinds may lie outside of a crate, and its line
+#                         of bench/programs/uses.txt is one of crates.txt. Where JORAZHIL_CRATES names another checkout, the crates are its
+#                         own, and so is the program, if it has one there
 #   build                 proves and builds that program, which is then at `program`. Where JORAZHIL_BUILT names a folder, it is kept there,
 #                         and taken from there where one lies there that was built of the same sources
-#   libraries             copies what is built of the crates that the program links
-#   built                 sets `program` to what JORAZHIL_PROGRAM names, or to the clone's own, which is built first where it isn't yet
+#   libraries             copies what is built of those crates
+#   built                 sets `program` to what JORAZHIL_PROGRAM names, or to that checkout's own, or else the clone's, which is built
+#                         first where it isn't yet
 #   figures NAME WORD ..  runs bench/NAME.py with these words
 # The folder is removed at the end.
 set -eu
 unset CDPATH
 here=$(cd -P -- "$(dirname -- "${BASH_SOURCE[0]}")/.." && pwd)
+checkout=$(cd -P -- "${JORAZHIL_CRATES:-$here}" && pwd)
 folder=$(mktemp -d)
 trap 'rm -rf "$folder"' EXIT
 
 prepare() {
   command -v rt >/dev/null || { echo "$0: there is no rt on the PATH" >&2; exit 1; }
-  local text=$here/bench/programs/$1 name=bench_$1 file
-  if [ ! -e "$folder/crates" ]; then
-    tar -C "$here" --exclude='crates/*/out' -cf - crates crates.txt HANDLES | tar -C "$folder" -xf -
-  fi
-  grep "^$name:" "$here/bench/programs/uses.txt" >>"$folder/crates.txt"
+  local programs=$checkout/bench/programs name=bench_$1 text below file
+  [ -e "$programs/$1" ] || programs=$here/bench/programs
+  text=$programs/$1
   crate=$folder/crates/$name
   program=$crate/out/$name
   mkdir -p "$crate/src"
@@ -32,6 +33,15 @@ prepare() {
     file=${file#"$text"/}
     mkdir -p "$crate/${file%/*}"
     cp "$text/$file" "$crate/${file%.answers}.antt"
+  done
+  cp "$checkout/HANDLES" "$folder/"
+  { cat "$checkout/crates.txt"; grep "^$name:" "$programs/uses.txt"; } >"$folder/crates.txt"
+  # Those that were prepared before stay listed.
+  of_copy linked_lines >>"$folder/listed"
+  sort -u "$folder/listed" >"$folder/crates.txt"
+  sed 's/[: ].*//' "$folder/crates.txt" | while read -r below; do
+    [ ! -e "$folder/crates/$below" ] || continue
+    tar -C "$checkout" --exclude="crates/$below/out" --exclude="crates/$below/must-fail" -cf - "crates/$below" | tar -C "$folder" -xf -
   done
   cd "$crate"
 }
@@ -46,12 +56,12 @@ of_copy() (
 
 # By its stamp rt tells whether a library is of these sources, and else proves them.
 libraries() {
-  local name rlib
-  of_copy linked_lines | sed 's/[: ].*//' | while read -r name; do
-    rlib=crates/$name/out/rlib
-    if [ -e "$here/$rlib/stamp" ] && [ ! -e "$folder/$rlib" ]; then
+  local rlib
+  for rlib in "$folder"/crates/*; do
+    rlib=${rlib#"$folder"/}/out/rlib
+    if [ -e "$checkout/$rlib/stamp" ] && [ ! -e "$folder/$rlib" ]; then
       mkdir -p "$folder/$rlib"
-      cp -a "$here/$rlib/." "$folder/$rlib"
+      cp -a "$checkout/$rlib/." "$folder/$rlib"
     fi
   done
 }
@@ -75,9 +85,9 @@ build() {
 built() {
   program=${JORAZHIL_PROGRAM:-}
   if [ -z "$program" ]; then
-    "$here/jorazhil" replay <"$here/examples/one-alive.script" >/dev/null
+    "$checkout/jorazhil" replay <"$here/examples/one-alive.script" >/dev/null
     # shellcheck disable=SC2034 # for the script that sources this
-    program=$here/crates/jorazhil/out/jorazhil
+    program=$checkout/crates/jorazhil/out/jorazhil
   fi
 }
 

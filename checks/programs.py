@@ -1,11 +1,12 @@
 #!/usr/bin/env python3
 """Compiles the programs that the scripts of bench/ measure with, and proves nothing: checks/programs.py [NAME ..].
 
-Each of bench/programs/ (or those named alone) is laid beside a temporary copy of the crates as its script does it (`prepare` of
-bench/shared.sh). Its files have to be as `rt fmt` lays them out. Then `rt check --only ''` compiles its code: names and types have to be
-resolved. What its clauses and proofs say is only laid out, and read when the script proves it. Where the libraries below it are built in
-crates/*/out this takes 6 to 12 seconds of a processor; where they aren't, rt reads their sources in their place, which takes up to a
-minute of one, and is ended before it builds them. The last line is 'N programs looked at, N failed', and the status is 1 where one failed.
+Each of bench/programs/ (or those named alone) is laid beside a temporary copy of the crates that it links, as its script does it
+(`prepare` of bench/shared.sh). Its files have to be as `rt fmt` lays them out. Then `rt check --only ''` compiles its code: names and types
+have to be resolved. What its clauses and proofs say is only laid out, and read when the script proves it. Where the libraries that it links
+are built in crates/*/out this takes 6 to 12 seconds of a processor; where they aren't, rt reads their sources in their place, which takes
+up to a minute of one, and is ended before it builds them. The last line is 'N programs looked at, N failed', and the status is 1 where one
+failed.
 """
 import re
 import subprocess
