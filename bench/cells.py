@@ -1,7 +1,7 @@
 """PROGRAM RUNS [OTHER]: the figures of bench/cells.sh, which tells what they are. OTHER is the same in C++."""
 import sys
 
-from figures import Table, lines_of, note
+from figures import Table, lines_of, note, ns
 
 table = Table()
 programs, runs = [sys.argv[1], *sys.argv[3:]], int(sys.argv[2])
@@ -36,7 +36,7 @@ for (words, name), rounds in counted.items():
         continue
     at = words, name
     half = f"{middle[at]:.1f}" if middle[at] < SCALE else f"over {SCALE}"
-    table.add(what, f"{best[at]:.1f} ns ({half})")
+    table.add(what, f"{ns(best[at])} ({half})")
     note(f"{what}: {best[at] / best[words, 'store']:.1f} times the plain stores, {rounds} rounds")
     beside = words, f"ordered_{name}"
     if name in ("read", "publish") and counted.get(beside, 0) >= FEW:

@@ -7,6 +7,8 @@ import time
 from collections import namedtuple
 
 HEAD = "| what | figure | aim | script | on what | date |\n|---|---|---|---|---|---|"
+# Whether the figures are to be read by a program.
+RAW = os.environ.get("FIGURES") == "raw"
 
 
 def note(text):
@@ -30,6 +32,10 @@ def worked():
     return whole, spent(resource.getrusage(resource.RUSAGE_SELF)) + spent(resource.getrusage(resource.RUSAGE_CHILDREN))
 
 
+def ns(number):
+    return f"{number:.{3 if RAW else 1}f} ns"
+
+
 def machine():
     try:
         with open("/proc/cpuinfo") as told:
@@ -48,7 +54,7 @@ class Table:
     def add(self, what, figure, aim=None, met=None):
         """The aim is text, and so is the figure; whether it is met is told beside it."""
         told = "" if aim is None else aim if met is None else f"{aim}: {'met' if met else 'missed'}"
-        self.rows.append(f"| {what} | {figure} | {told} |")
+        self.rows.append((what, figure, told))
 
     def beside(self):
         after = worked()
@@ -58,10 +64,15 @@ class Table:
         return "nothing else" if others < 0.1 else f"beside other work on {others:.1f} of them"
 
     def show(self):
-        end = f" `{os.environ['SCRIPT']}` | {machine()}, {self.beside()} | {time.strftime('%Y-%m-%d')} |"
+        """Prints the table; where it is to be raw, only what each row is of and its figure, with a tab between."""
+        if RAW:
+            for what, figure, _ in self.rows:
+                print(f"{what}\t{figure}")
+            return
+        end = f"`{os.environ['SCRIPT']}` | {machine()}, {self.beside()} | {time.strftime('%Y-%m-%d')} |"
         print(HEAD)
-        for row in self.rows:
-            print(row + end)
+        for what, figure, told in self.rows:
+            print(f"| {what} | {figure} | {told} | {end}")
 
 
 def run(words, given=os.devnull, taken=os.devnull, status=0, said=()):
@@ -105,6 +116,6 @@ def timed(program, runs, rounds, keys=1):
 def add_call(table, what, call, loop, aim=None, parts=1):
     """A row for a call: what is left of its best round without the loop's own. Where a round has several calls at a time,
     what each took."""
-    ns = (call.least - loop.least) / parts
-    table.add(what, f"{ns:.1f} ns", None if aim is None else f"at most {aim:,} ns", aim is not None and ns <= aim)
+    took = (call.least - loop.least) / parts
+    table.add(what, ns(took), None if aim is None else f"at most {aim:,} ns", aim is not None and took <= aim)
     note(f"{what}: round {call.least:.1f} ns, loop {loop.least:.1f}, whole {call.whole:.1f}, folded {' '.join(call.results)}")

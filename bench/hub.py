@@ -2,7 +2,7 @@
 import os
 import sys
 
-from figures import Table, note, timed
+from figures import Table, note, ns, timed
 
 table = Table()
 program, runs = sys.argv[1], int(sys.argv[2])
@@ -31,7 +31,7 @@ def measured(of):
     """The nanoseconds of each call, and what else was told; each measure did what its row says."""
     told = timed(program, runs, ROUNDS, keys=2)
     sizes = tuple(map(int, told.pop(("sizes", "bytes")).results))
-    ns = {}
+    took = {}
     for (cell, name), call in told.items():
         counts = dict(zip(NAMES, map(int, call.results)))
         note(f"{of}, {cell} {name}: round {call.least:.1f} ns, whole {call.whole:.1f}, {counts}")
@@ -41,8 +41,8 @@ def measured(of):
             over = {key: counts[key] - value for key, value in wanted.items()}
             if not 0 <= over.pop("sent") <= FEW or any(over.values()):
                 sys.exit(f"{name} over {cell}: {counts}, where {wanted} should be")
-            ns[name, cell] = call.least - (told[cell, less].least if less else 0)
-    return ns, sizes
+            took[name, cell] = call.least - (told[cell, less].least if less else 0)
+    return took, sizes
 
 
 os.environ.pop("MALLOC_PERTURB_", None)
@@ -51,9 +51,9 @@ os.environ["MALLOC_PERTURB_"] = "1"
 filled, _ = measured("filled memory")
 for name, (shown, _, parts) in SHOWN.items():
     for cell, over in CELLS.items():
-        ns = fresh[name, cell]
-        figure = f"{ns:.1f} ns; {filled[name, cell]:.1f} ns" if name.startswith("turn") and parts[0] == 1 else f"{ns:.1f} ns"
-        aim = (f"at most {AIM} ns", ns <= AIM) if name.startswith("capture_audio") and cell == "triple" else ()
+        took = fresh[name, cell]
+        figure = f"{ns(took)}; {ns(filled[name, cell])}" if name.startswith("turn") and parts[0] == 1 else ns(took)
+        aim = (f"at most {AIM} ns", took <= AIM) if name.startswith("capture_audio") and cell == "triple" else ()
         table.add(f"{shown}, {over}{': fresh memory; memory filled before' if ';' in figure else ''}", figure, *aim)
 table.add("an event of a link's journal; one of its published states", f"{event} bytes; {state} bytes")
 for events, which in ((262_144, ""), (524_288, ", the most")):

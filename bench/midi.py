@@ -3,7 +3,7 @@ import os
 import sys
 from statistics import median
 
-from figures import Table, add_call, note, run, timed
+from figures import Table, add_call, note, ns, run, timed
 
 player, blocks, folder, runs, former = *sys.argv[1:4], int(sys.argv[4]), sys.argv[5]
 table = Table()
@@ -47,7 +47,7 @@ for shown, name, click, _ in kinds:
 costs = {}
 for name, shown in (("millisecond", "1 millisecond"), ("ten", "10 milliseconds"), ("hundred", "100 milliseconds"), ("second", "1 second")):
     costs[name] = (told[name].least - told["silent"].least) / pulses[name]
-    table.add(f"`MidiClock::block_into`: a pulse in blocks of {shown}, which have {pulses[name]:.1f} each", f"{costs[name]:.1f} ns")
+    table.add(f"`MidiClock::block_into`: a pulse in blocks of {shown}, which have {pulses[name]:.1f} each", ns(costs[name]))
     note(f"blocks of {shown}: {told[name].least:.1f} ns, whole {told[name].whole:.1f}, folded {' '.join(told[name].results)}")
 ratio = costs["second"] / costs["ten"]
 what = "`MidiClock::block_into`: a pulse in blocks of 1 second, over one in blocks of 10 milliseconds"
