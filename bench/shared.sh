@@ -1,13 +1,14 @@
 # shellcheck shell=bash
 # Sourced by each script here. What they measure comes on standard output as rows of docs/PERFORMANCE.md; what else there is to tell of it
 # comes on standard error.
-#   prepare NAME DEP ..   makes `folder`, a temporary copy of the crates and of what is built of them, in which a program NAME over these
-#                         crates has a folder of its own beside them, `crate`, with an empty src/; and works there from then on
+#   prepare NAME          makes `folder`, a temporary copy of the crates and of what is built of them, in which the program of
+#                         bench/programs/NAME has a folder of its own beside them, `crate`, by the name bench_NAME; and works there from
+#                         then on. Its main.rattle is src/main.rt there, a file X.answers below its proofs/ is X.antt, since no file of
+#                         these kinds may lie outside of a crate, and its line of bench/programs/uses.txt goes into crates.txt
 #   build                 proves and builds that program, which is then at `program`. Where JORAZHIL_BUILT names a folder, it is kept there,
 #                         and taken from there where one lies there that was built of the same sources
 #   built                 sets `program` to what JORAZHIL_PROGRAM names, or to the clone's own, which is built first where it isn't yet
-#   invariant ..          writes what a loop of that program keeps
-#   figures WORD ..       runs the Python on standard input with these words; it may import bench/figures.py and bench/scripts.py
+#   figures NAME WORD ..  runs bench/NAME.py with these words
 # The folder is removed at the end.
 set -eu
 unset CDPATH
@@ -17,8 +18,7 @@ trap 'rm -rf "$folder"' EXIT
 
 prepare() {
   command -v rt >/dev/null || { echo "$0: there is no rt on the PATH" >&2; exit 1; }
-  local name=$1 rlib
-  shift
+  local text=$here/bench/programs/$1 name=bench_$1 file rlib
   tar -C "$here" --exclude='crates/*/out' -cf - crates crates.txt HANDLES | tar -C "$folder" -xf -
   # By its stamp rt tells whether a library is of these sources, and else proves them.
   for rlib in "$here"/crates/*/out/rlib/stamp; do
@@ -27,10 +27,16 @@ prepare() {
     mkdir -p "$folder/${rlib#"$here"/}"
     cp -a "$rlib/." "$folder/${rlib#"$here"/}"
   done
-  echo "$name: $*" >>"$folder/crates.txt"
+  grep "^$name:" "$here/bench/programs/uses.txt" >>"$folder/crates.txt"
   crate=$folder/crates/$name
   program=$crate/out/$name
   mkdir -p "$crate/src"
+  cp "$text/main.rattle" "$crate/src/main.rt"
+  find "$text" -name '*.answers' | while read -r file; do
+    file=${file#"$text"/}
+    mkdir -p "$crate/${file%/*}"
+    cp "$text/$file" "$crate/${file%.answers}.antt"
+  done
   cd "$crate"
 }
 
@@ -65,17 +71,6 @@ built() {
   fi
 }
 
-# invariant FUNCTION LOOP PARAMETERS FACT [IMPORT ..]
-invariant() {
-  local function=$1 loop=$2 parameters=$3 fact=$4
-  shift 4
-  mkdir -p "$crate/proofs/$function"
-  {
-    printf 'use %s\n' 'Rattle.std.proofs.Common.{◌≡◌, ◌≤◌, ◌+◌, ◌*◌, length}' "$@" "Rattle.${crate##*/}.proofs.$function.Given as goal"
-    printf '\nabbrev pub invariant-loop-%s : goal.invariant-loop-%s\ninvariant-loop-%s %s = %s\n' "$loop" "$loop" "$loop" "$parameters" "$fact"
-  } >"$crate/proofs/$function/Invariants.antt"
-}
-
 figures() {
-  SCRIPT=bench/$(basename -- "$0") PYTHONPATH=$here/bench PYTHONDONTWRITEBYTECODE=1 python3 - "$@"
+  SCRIPT=bench/$(basename -- "$0") PYTHONDONTWRITEBYTECODE=1 python3 "$here/bench/$1.py" "${@:2}"
 }

@@ -2,8 +2,8 @@
 """Looks for lines of prose that are longer than 140 characters: checks/prose.py. It needs no program.
 
 Prose is, in docs/*.md, README.md and examples/*.md, all that stands outside tables and fenced blocks; in the sources, specs and proofs of
-the crates each line that begins with `//` or `--`; in scripts of bash each that begins with `#`, or with `//` in a program that the script
-writes; in those of Python each comment on a line of its own, and the docstrings. Code may be longer, and so may a comment behind code.
+the crates and of the programs in bench/ each line that begins with `//` or `--`; in scripts of bash each that begins with `#`; in those of
+Python each comment on a line of its own, and the docstrings. Code may be longer, and so may a comment behind code.
 The last line is 'N lines looked at, N too long', and the status 1 where one is.
 """
 import ast
@@ -54,9 +54,9 @@ def of_python(text):
 # Which files, and what is prose in them. A crate's out/ isn't among them: it is made, and lasts no longer than it has to.
 KINDS = [
     (["docs/*.md", "README.md", "examples/*.md"], of_markdown),
-    (["crates/*/src/**/*.rt"], beginning("//")),
-    (["crates/*/specs/**/*.antt", "crates/*/proofs/**/*.antt"], beginning("--")),
-    (["jorazhil", ".ci/*", "*/*.sh"], beginning("#", "//")),
+    (["crates/*/src/**/*.rt", "bench/**/*.rattle", "bench/**/*.c", "bench/**/*.cpp"], beginning("//")),
+    (["crates/*/specs/**/*.antt", "crates/*/proofs/**/*.antt", "bench/**/*.answers"], beginning("--")),
+    (["jorazhil", ".ci/*", "*/*.sh"], beginning("#")),
     (["bench/*.py", "checks/*.py", "tools/*.py"], of_python),
 ]
 

@@ -6,11 +6,14 @@ A rule is a sentence and then its parts, of which each may be left out, but not 
 - defined: a definition in a module of specs/ of the section's crate, or of another one (`crate::Module.name`);
 - carried by: a public function or method of that crate, or of another one (`crate::Type::name`), with the labels of its clauses where its
   contract promises several things;
+- done in: a file of the src/ of that crate, or of another one (`crate::path.rt`), with the functions of it (`name`, or `Type::name` where
+  the name stands there several times) whose lines do it;
 - tested: a function under #[test] of that crate, or of another one (`crate::name`); a crate `.._tests` has those of the crates it uses;
 - refused: a file of the must-fail/ of that crate, or of another one (`crate::name`).
 
-Told are names that don't exist (any more), crates of crates.txt without a section, sections without such a crate, rules that stand twice or
-tell neither a definition nor a call, lines over 140 characters, and lines that fit no form. Each finding is a sentence with its line.
+Told are names that don't exist (any more), functions told that do nothing, crates of crates.txt without a section, sections without such a
+crate, rules that stand twice, tell neither a definition nor a call, or are carried by a call that does something and tell no place where it
+is done, lines over 140 characters, and lines that fit no form. Each finding is a sentence with its line.
 The last line is 'N rules, N names, N failed'.
 """
 import re
@@ -21,12 +24,13 @@ from typing import NamedTuple
 
 ROOT = Path(__file__).resolve().parent.parent
 MOST = 140
-PARTS = ["defined", "carried by", "tested", "refused"]
+PARTS = ["defined", "carried by", "done in", "tested", "refused"]
 # How the name of a crate ends that has the tests of others.
 APART = "_tests"
 
 SECTION = re.compile(r"## `(\w+)`: \S.*")
-NAME = re.compile(r"`([^`]+)`(?: \((`\w+`(?:, `\w+`)*)\))?")
+LABEL = r"`\w+(?:::\w+)?`"
+NAME = re.compile(rf"`([^`]+)`(?: \(({LABEL}(?:, {LABEL})*)\))?")
 DEFINITION = re.compile(r"^(?:pub )?(?:abbrev|unfoldable|opaque|record|data) (?:pub )?([^\s:]+)", re.M)
 # What hides text from a search: comments, texts and characters.
 HIDDEN = re.compile(r"""//[^\n]*|/\*.*?\*/|"(?:\\.|[^"\\])*"|'(?:\\.|[^'\\\n])'""", re.S)
@@ -34,6 +38,8 @@ TEST = re.compile(r"#\[test\]\s*(?:#\[[^\]]*\]\s*)*fn\s+(\w+)")
 OWNER = re.compile(r"^(?:pub )?(impl|trait)\b", re.M)
 FUNCTION = re.compile(r"(\bpub\s+)?\bfn\s+(\w+)")
 CLAUSE = re.compile(r"\s*\b(requires|ensures)\b\s*(\w+)?\s*(?=\{)")
+# What the body of a law may have: laws that it stands on.
+LAW = re.compile(r"\b\w+\(\);")
 
 
 class Name(NamedTuple):
@@ -52,7 +58,8 @@ class Rule(NamedTuple):
 
 
 class Call(NamedTuple):
-    """A function of a crate: the type or trait that it belongs to and the trait that it is of, if any, and what its contract promises."""
+    """A function of a crate: the type or trait that it belongs to and the trait that it is of, if any, what its contract promises, and
+    whether it does anything, which a law and a call without a body don't."""
 
     owner: str
     trait: str
@@ -60,6 +67,7 @@ class Call(NamedTuple):
     is_public: bool
     labels: set
     promises: int
+    acts: bool
 
 
 # ---- the page
@@ -136,7 +144,7 @@ class Page:
             if not name:
                 self.tell(numbers[at], f"no name is told as in '`name`' or '`name` (`label`)': {part[at : at + 60]!r}")
                 return names
-            names.append(Name(name[1], re.findall(r"\w+", name[2] or ""), numbers[at]))
+            names.append(Name(name[1], re.findall(r"[\w:]+", name[2] or ""), numbers[at]))
             at = name.end()
             if at == len(part):
                 return names
@@ -154,7 +162,13 @@ def sources(crate, tests):
     """The sources of a crate without what is hidden in them, of its tests or of all else."""
     folder = ROOT / "crates" / crate / "src"
     files = [file for file in sorted(folder.rglob("*.rt")) if tests or not {"tests", "tests.rt"} & set(file.relative_to(folder).parts)]
-    return [HIDDEN.sub(lambda hidden: re.sub(r"[^\n]", " ", hidden[0]), file.read_text(encoding="utf-8")) for file in files]
+    return [bare(file) for file in files]
+
+
+@cache
+def bare(file):
+    """The text of a file without what is hidden in it."""
+    return HIDDEN.sub(lambda hidden: re.sub(r"[^\n]", " ", hidden[0]), file.read_text(encoding="utf-8"))
 
 
 @cache
@@ -208,36 +222,47 @@ def owner_of(header):
 
 
 def contract_of(text, at):
-    """The labels of what a function promises, and how many promises there are. `at` is behind its name."""
+    """The labels of what a function promises, how many promises there are, and the place behind them. `at` is behind its name."""
     labels, promises = set(), 0
     while at < len(text) and text[at] not in "{;" and not CLAUSE.match(text, at):
         at = past(text, at) if text[at] in "([" else at + 1
     while True:
         clause = CLAUSE.match(text, at)
         if not clause:
-            return labels, promises
+            return labels, promises, at
         if clause[1] == "ensures":
             promises += 1
             labels.add(clause[2])
         at = past(text, clause.end())
 
 
+def acts(text, at):
+    """Whether a function has a body that isn't a law's. `at` is behind its contract."""
+    while at < len(text) and text[at] not in "{;":
+        at += 1
+    return text[at : at + 1] == "{" and LAW.sub("", text[at + 1 : past(text, at) - 1]).strip() != ""
+
+
+@cache
+def calls_in(text):
+    """The functions of a text without what is hidden in it."""
+    found, owners = [], []
+    for start in OWNER.finditer(text):
+        brace = text.index("{", start.end())
+        owner, trait = owner_of(text[start.end() : brace])
+        owners.append((brace, past(text, brace), owner, owner if start[1] == "trait" else trait))
+    for function in FUNCTION.finditer(text):
+        at = function.start(2)
+        _, _, owner, trait = next((owner for owner in owners if owner[0] < at < owner[1]), (0, 0, "", ""))
+        labels, promises, behind = contract_of(text, function.end())
+        found.append(Call(owner, trait, function[2], bool(trait or function[1]), labels - {None}, promises, acts(text, behind)))
+    return found
+
+
 @cache
 def calls(crate):
     """The functions of a crate, without those of its tests."""
-    found = []
-    for text in sources(crate, False):
-        owners = []
-        for start in OWNER.finditer(text):
-            brace = text.index("{", start.end())
-            owner, trait = owner_of(text[start.end() : brace])
-            owners.append((brace, past(text, brace), owner, owner if start[1] == "trait" else trait))
-        for function in FUNCTION.finditer(text):
-            at = function.start(2)
-            _, _, owner, trait = next((owner for owner in owners if owner[0] < at < owner[1]), (0, 0, "", ""))
-            labels, promises = contract_of(text, function.end())
-            found.append(Call(owner, trait, function[2], bool(trait or function[1]), labels - {None}, promises))
-    return found
+    return [call for text in sources(crate, False) for call in calls_in(text)]
 
 
 def promising(call):
@@ -284,11 +309,16 @@ def lacks_definition(crate, name):
     return None if word in known else f"crates/{crate}/specs/{module}.antt doesn't define {word!r}"
 
 
-def lacks_call(crate, name):
+def calls_of(crate, name):
+    """The functions that a name tells, and what it tells of them: their crate, type, if any, and name."""
     first, _, rest = name.text.partition("::")
     crate, path = (first, rest) if first in listed_crates() else (crate, name.text)
     owner, _, word = path.rpartition("::")
-    there = [call for call in calls(crate) if (call.owner, call.name) == (owner, word)]
+    return [call for call in calls(crate) if (call.owner, call.name) == (owner, word)], crate, owner, word
+
+
+def lacks_call(crate, name):
+    there, crate, owner, word = calls_of(crate, name)
     outer, public = owner or word, exported(crate)
     if not there:
         return f"{crate} has no function of this name"
@@ -307,6 +337,25 @@ def lacks_call(crate, name):
     return None
 
 
+def lacks_place(crate, name):
+    crate, path = split_crate(name.text, crate)
+    file = ROOT / "crates" / crate / "src" / path
+    if not path.endswith(".rt") or not file.is_file():
+        return f"there is no file crates/{crate}/src/{path}"
+    if not name.labels:
+        return "no function of the file is told"
+    for label in name.labels:
+        owner, _, word = label.rpartition("::")
+        there = [call for call in calls_in(bare(file)) if call.name == word and owner in ("", call.owner)]
+        if not there:
+            return f"it has no function {label!r}"
+        if not owner and len(there) > 1:
+            return f"it has several functions {label!r}, and no type says which"
+        if not any(call.acts for call in there):
+            return f"its function {label!r} does nothing"
+    return None
+
+
 def lacks_test(crate, name):
     crate, word = split_crate(name.text, crate)
     if name.labels:
@@ -322,11 +371,16 @@ def lacks_edit(crate, name):
     return None if re.fullmatch(r"\w+", word) and (ROOT / path).is_file() else f"there is no {path}"
 
 
-LACKS = dict(zip(PARTS, [lacks_definition, lacks_call, lacks_test, lacks_edit]))
+LACKS = dict(zip(PARTS, [lacks_definition, lacks_call, lacks_place, lacks_test, lacks_edit]))
 
 
 def is_crate(crate):
     return crate != "" and (ROOT / "crates" / crate).is_dir()
+
+
+def is_done(rule):
+    """Whether a call that carries the rule does something."""
+    return any(call.acts for name in rule.parts.get("carried by", []) for call in calls_of(rule.crate, name)[0])
 
 
 def look_up(page):
@@ -335,6 +389,8 @@ def look_up(page):
     for rule in page.rules:
         if not {"defined", "carried by"} & set(rule.parts):
             page.tell(rule.line, "the rule tells neither a definition nor a call that carries it")
+        if "done in" not in rule.parts and is_crate(rule.crate) and is_done(rule):
+            page.tell(rule.line, "a call that carries the rule does something, and no place is told where it is done")
         for word, names in rule.parts.items() if is_crate(rule.crate) else []:
             for k, name in enumerate(names):
                 count += 1

@@ -35,7 +35,3 @@ spelled_of (Pong session ghost_time echo) = spelled_link_header_of 2 ++ spelled_
 -- a state that is sent counts for 5 seconds
 abbrev pub sent : NodeId → ℕ → PeerFields → StateMsg
 sent from group fields = record { from = from; ttl = 5; group = group; fields = fields }
-
--- a response that is sent
-abbrev pub spelled_response_of : NodeId → ℕ → PeerFields → List ℕ
-spelled_response_of from group fields = spelled_of (Response (sent from group fields))

@@ -77,6 +77,14 @@ pub record HasSameRows (before after : WriterView) : Type 0 where
   pub cell : after.cell ≡ before.cell
   pub made : after.made ≡ before.made
 
+-- a note of that cell, of the last row that this writer made and of no pair read
+abbrev pub IsNoteOfWriter : TableId → WriterView → NoteView → Type 0
+IsNoteOfWriter cell writer note = (note.cell ≡ cell) × (note.number + 1 ≡ length writer.made) × (note.seen ≡ [])
+
+-- a note of that cell, of the row that this reader read last and of all that it read
+abbrev pub IsNoteOfReader : TableId → ReaderView → NoteView → Type 0
+IsNoteOfReader cell reader note = (note.cell ≡ cell) × (note.number ≡ reader.number) × (note.seen ≡ reader.seen)
+
 -- What one read adds: the pair that it answers, and its look. The look is no older than the row last read and than each row told of
 -- before, and the pair's number is no older than the look. That the look is the number of the last row made at the step that looked is
 -- what each cell's own rule keeps of that step; it isn't said here, where the rows made aren't known

@@ -2,7 +2,7 @@
 ghost use Rattle.std.specs.Prelude.{◌≡◌, ◌+◌, ◌<◌, [], length, IfOk, IfErr};
 ghost use Rattle.std.specs.Result.{IsOk};
 ghost use Rattle.crossbeam_utils.specs.Seq.{cell_view};
-ghost use Rattle.audio_handoff.specs.Cell.{HasSameReads, HasSameRows};
+ghost use Rattle.audio_handoff.specs.Cell.{HasSameReads, HasSameRows, IsNoteOfReader, IsNoteOfWriter};
 ghost use Rattle.audio_handoff.specs.SeqRule.{RestsAsWriter, RestsAsReader, RestsAsNote, row_of, number_of, writing_of, reading_of, noting_of};
 
 use crate::cell::{Read, StateCell};
@@ -150,7 +150,7 @@ impl<R: Wait, const W: usize> StateCell<W> for SeqState<R, W> {
     ) -> Result<SeqNote, AllocError>
         requires { writer.old.pass.table_id ≡ self.now.cell.table.shared.table_id }
         ensures made { IsOk result }
-        ensures note { IfOk result (λ note. ((noting_of note.pass.table_id (cell_view note.pass)).cell ≡ self.now.cell.table.shared.table_id) × ((noting_of note.pass.table_id (cell_view note.pass)).number + 1 ≡ length (writing_of writer.old.pass.table_id (cell_view writer.old.pass)).made) × ((noting_of note.pass.table_id (cell_view note.pass)).seen ≡ [])) }
+        ensures note { IfOk result (λ note. IsNoteOfWriter self.now.cell.table.shared.table_id (writing_of writer.old.pass.table_id (cell_view writer.old.pass)) (noting_of note.pass.table_id (cell_view note.pass))) }
         ensures writer { HasSameRows (writing_of writer.old.pass.table_id (cell_view writer.old.pass)) (writing_of writer.new.pass.table_id (cell_view writer.new.pass)) }
         ensures refused { IfErr result (λ _. writing_of writer.new.pass.table_id (cell_view writer.new.pass) ≡ writing_of writer.old.pass.table_id (cell_view writer.old.pass)) }
     {
@@ -170,7 +170,7 @@ impl<R: Wait, const W: usize> StateCell<W> for SeqState<R, W> {
     ) -> Result<SeqNote, AllocError>
         requires { reader.old.pass.table_id ≡ self.now.cell.table.shared.table_id }
         ensures made { IsOk result }
-        ensures note { IfOk result (λ note. ((noting_of note.pass.table_id (cell_view note.pass)).cell ≡ self.now.cell.table.shared.table_id) × ((noting_of note.pass.table_id (cell_view note.pass)).number ≡ (reading_of reader.old.pass.table_id (cell_view reader.old.pass)).number) × ((noting_of note.pass.table_id (cell_view note.pass)).seen ≡ (reading_of reader.old.pass.table_id (cell_view reader.old.pass)).seen)) }
+        ensures note { IfOk result (λ note. IsNoteOfReader self.now.cell.table.shared.table_id (reading_of reader.old.pass.table_id (cell_view reader.old.pass)) (noting_of note.pass.table_id (cell_view note.pass))) }
         ensures reader { HasSameReads (reading_of reader.old.pass.table_id (cell_view reader.old.pass)) (reading_of reader.new.pass.table_id (cell_view reader.new.pass)) }
         ensures refused { IfErr result (λ _. reading_of reader.new.pass.table_id (cell_view reader.new.pass) ≡ reading_of reader.old.pass.table_id (cell_view reader.old.pass)) }
     {

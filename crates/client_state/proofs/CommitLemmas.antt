@@ -1,5 +1,5 @@
 -- What a commit carries, and what shows where it is laid over a state.
-use Rattle.std.proofs.Common.{◌≡◌, ℕ, ◌<◌, ℤ, Bool, true, false, ◌&&◌, nat_lt, if◌then◌else◌, Option, Some, None, unwrap_or, refl, ap, subst, sym, ◌∙◌, arith}
+use Rattle.std.proofs.Common.{◌≡◌, ℕ, ◌<◌, ℤ, Bool, true, false, ◌&&◌, nat_lt, if◌then◌else◌, Some, None, unwrap_or, refl, ap, subst, sym, ◌∙◌, arith}
 use Rattle.std.proofs.lemmas.Bool.Decides.{Decides-int_eq}
 use Rattle.std.specs.Option.{ForSome}
 use Rattle.std.specs.Ordering.{int_eq}
@@ -10,7 +10,6 @@ use Rattle.lk_base.specs.declared.timeline.Timeline.{Timeline}
 use Rattle.client_state.specs.Commit.{IsTidyCommit, IsTidyStart, same_bool, same_playing, same_timeline, timeline_between, start_between, quantum_between, commit_between}
 use Rattle.client_state.specs.Edits.{timeline_at}
 use Rattle.client_state.specs.Shown.{laid_over, shown_over}
-use Rattle.client_state.specs.State.{IsTidyState}
 use Rattle.client_state.specs.declared.commit.Commit.{Commit}
 use Rattle.client_state.specs.declared.state.State.{State}
 use Rattle.client_state.proofs.BoolLemmas.{both}
@@ -73,19 +72,6 @@ shown_over-later number taken commit state lt =
     ap (λ b. if b then laid_over commit state else state) later
 
 -- ---- what is tidy
-unwrapped : {X : Type 0} (P : X → Type 0) (o : Option X) (d : X) → ForSome o P → P d → P (unwrap_or o d)
-unwrapped P None d some none = none
-unwrapped P (Some x) d some none = some x refl
-
-pub laid_over-tidy : (commit : Commit) (state : State) → IsTidyCommit commit → IsTidyState state → IsTidyState (laid_over commit state)
-laid_over-tidy commit state of_commit of_state = record {
-  timeline = unwrapped IsTidy commit.timeline state.timeline of_commit.timeline of_state.timeline;
-  start = unwrapped (λ start. IsWithinLimit start.time) commit.start state.start (λ start e. (of_commit.start start e).time) of_state.start;
-  stamp = unwrapped (λ start. IsWithinLimit start.stamp) commit.start state.start (λ start e. (of_commit.start start e).stamp) of_state.stamp;
-  moment = of_state.moment;
-  quantum = unwrapped IsQuantum commit.quantum state.quantum of_commit.quantum of_state.quantum;
-}
-
 some_if : {X : Type 0} (P : X → Type 0) (none : Bool) (x : X) → P x → ForSome (if none then None else Some x) P
 some_if P true x h = λ y e. absurd (cc)
 some_if P false x h = λ y e. let same : x ≡ y = cc in subst P same h

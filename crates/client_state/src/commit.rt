@@ -36,6 +36,7 @@ impl Commit {
     /// The timeline is carried where it differs from either, since what an own commit changed that isn't taken yet is in
     /// `shown` and not in `old`, and has to be carried again; likewise the start, with the stamp `now`, where its playing
     /// or time differs, and the quantum.
+    #[inline(always)]
     #[tactic(auto, unfolding(crate::specs::Commit::commit_between))]
     pub fn between(old: &State, shown: &State, new: &State, now: i64) -> Commit
         ensures value { result ≡ commit_between old.now shown.now new.now now }

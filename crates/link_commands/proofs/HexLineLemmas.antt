@@ -1,9 +1,9 @@
 -- Lines of hex digits: which of them say bytes, and how far a text is checked.
-use Rattle.std.proofs.Common.{◌≡◌, ◌⊎◌, inl, inr, refl, sym, subst, ap, ◌∙◌, arith, true, false, Bool, ◌&&◌, ℕ, ◌+◌, ◌-◌, ◌*◌, ◌/◌, ◌%◌, ◌<◌, ◌≤◌, max, List, [], ◌∷◌, ◌++◌, length, take, drop, slice_index, Ok}
+use Rattle.std.proofs.Common.{◌≡◌, ◌⊎◌, inl, inr, sym, subst, ap, ◌∙◌, arith, true, false, Bool, ◌&&◌, ℕ, ◌+◌, ◌-◌, ◌*◌, ◌/◌, ◌%◌, ◌<◌, ◌≤◌, max, List, [], ◌∷◌, ◌++◌, length, take, drop, slice_index, Ok}
 use Rattle.std.specs.Bool.{OnTrue, OnFalse}
 use Rattle.std.specs.List.{All, AllPass}
 use Rattle.std.proofs.lemmas.List.{append_assoc, append-nil, length_push, take_all}
-use Rattle.std.proofs.lemmas.List.Elements.{All-nil, All-more, All-push, All-weaker, All-same, Contains-append_left, Contains-push}
+use Rattle.std.proofs.lemmas.List.Elements.{All-more, All-push, All-weaker, All-same, Contains-append_left, Contains-push}
 use Rattle.std.proofs.Math.Nat.{le-max_left, le-max_right, max-le, eq-or-lt_of_le}
 use Rattle.hex.specs.Hex.{decode_of, is_hex_digit}
 use Rattle.hex.proofs.HexLemmas.{decode_of-ok, decode_of-digits}
@@ -77,19 +77,6 @@ pub record HasChecked (text : List ℕ) (number at longest : ℕ) : Type 0 where
   pub within : at ≤ length text
   pub less : longest ≤ length text
 
-pub checked_none : (text : List ℕ) → HasChecked text 1 0 0
-checked_none text = record {
-  before = [];
-  lines = refl;
-  good = All-nil IsHexLine;
-  most = All-nil (λ line. length line ≤ 2 * 0);
-  reached = inr (refl, refl);
-  numbered = refl;
-  further = omega arith;
-  within = omega arith;
-  less = omega arith;
-}
-
 -- the longest line of some, or the one behind them
 longest_of : (before : List (List ℕ)) (line : List ℕ) (longest longer : ℕ) → HasLineAmong before longest → length line % 2 ≡ 0
     → longer ≡ max longest (length line / 2) → HasLineAmong (before ++ line ∷ []) longer
@@ -132,19 +119,6 @@ checked_more text line number at next longest longer has lines further within sh
       within = within;
       less = less;
     }
-
--- the first line at fault
-pub checked_fault : (text line : List ℕ) (number at next longest : ℕ) → HasChecked text number at longest
-    → lines_of (drop at text) ≡ line ∷ lines_of (drop next text) → IsBadLine line → IsFirstBadLine text number
-checked_fault text line number at next longest has lines bad = record {
-  before = has.before;
-  line = line;
-  after = lines_of (drop next text);
-  split = has.lines ∙ ap (λ (ls : List (List ℕ)). has.before ++ ls) lines;
-  number = has.numbered;
-  good = has.good;
-  bad = bad;
-}
 
 -- the whole text
 all_lines : (text : List ℕ) (number at longest : ℕ) (has : HasChecked text number at longest) → length text ≤ at → lines_of text ≡ has.before

@@ -1,5 +1,4 @@
 mod LineLemmas
-mod EndLemmas
 pub mod OutletLemmas
 mod ReplayingLemmas
 pub mod ReplayLemmas

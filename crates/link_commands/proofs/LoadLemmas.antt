@@ -1,7 +1,6 @@
 -- The events of a load, one after the other.
 use Rattle.std.proofs.Common.{◌≡◌, ◌≤◌, ◌+◌, ◌++◌, ◌⊎◌, [], ◌∷◌, inl, inr, zero, suc, length, take, List, ℕ, Option, Some, refl, ap, ap₂, sym, subst, ◌∙◌, arith, length-append}
 use Rattle.std.specs.Prelude.{slice_get}
-use Rattle.lk_outside.specs.Sink.{Appends}
 use Rattle.lk_outside.specs.Transfer.{AppendsPrefix}
 use Rattle.client_state.specs.declared.state.State.{State}
 use Rattle.link_node.specs.Event.{EventValue, app_after}
@@ -13,8 +12,8 @@ use Rattle.link_text.specs.LoadRun.{LoadRun}
 use Rattle.link_text.specs.ReplayText.{published_in, state_line_of}
 use Rattle.link_commands.specs.declared.counts.Counts.{Counts}
 use Rattle.link_commands.specs.Loading.{HasTaken, told_of}
-use Rattle.link_commands.specs.Outlet.{HandsOver, HandsPart}
-use Rattle.link_commands.proofs.OutletLemmas.{hands_both, hands_whole, hands_whole_part, part_after, part_of_more}
+use Rattle.link_commands.specs.Outlet.{HandsOver}
+use Rattle.link_commands.proofs.OutletLemmas.{hands_both, hands_whole_part}
 use Rattle.link_commands.proofs.ReplayingLemmas.{app_rises}
 
 -- ---- the events so far
@@ -142,20 +141,6 @@ load_text seed count run Stands gates app counts state has shows events_are = re
       (ap₂ (λ (n : ℕ) (s : State). state_line_of 2 n s) (omega (arith, has.states_are)) (shows (load_machine_after seed has.events) has.stands));
 }
 
--- the sink failed at the first line
-pub told_part_first : (line more : List ℕ) (before after : Option (List ℕ)) (kept : List ℕ) → kept ≡ []
-    → HandsPart line before kept after → AppendsPrefix before (line ++ more) after
-told_part_first line more before after kept none part =
-    let whole = part_of_more before after kept line more part in
-    rw none at whole
-
--- the sink failed at the second line
-pub told_part_last : (line more : List ℕ) (before now after : Option (List ℕ)) (kept kept' : List ℕ) → kept ≡ []
-    → HandsOver line before kept now kept' → HandsPart more now kept' after → AppendsPrefix before (line ++ more) after
-told_part_last line more before now after kept kept' none over part =
-    let whole = part_after before now after kept kept' line more over part in
-    rw none at whole
-
 -- the sink failed at what was kept
 pub told_part_kept : (line more : List ℕ) (before now then_ after : Option (List ℕ)) (kept kept' kept'' : List ℕ) → kept ≡ []
     → HandsOver line before kept now kept' → HandsOver more now kept' then_ kept'' → AppendsPrefix then_ kept'' after
@@ -163,11 +148,3 @@ pub told_part_kept : (line more : List ℕ) (before now then_ after : Option (Li
 told_part_kept line more before now then_ after kept kept' kept'' none one two part =
     let both = hands_both before now then_ kept kept' kept'' line more one two in
     hands_whole_part before then_ after (line ++ more) kept'' (rw none at both) part
-
--- both lines are written
-pub told_whole : (line more : List ℕ) (before now then_ after : Option (List ℕ)) (kept kept' kept'' : List ℕ) → kept ≡ []
-    → HandsOver line before kept now kept' → HandsOver more now kept' then_ kept'' → Appends then_ kept'' after
-    → Appends before (line ++ more) after
-told_whole line more before now then_ after kept kept' kept'' none one two wrote =
-    let both = hands_both before now then_ kept kept' kept'' line more one two in
-    hands_whole before then_ after (line ++ more) kept'' (rw none at both) wrote

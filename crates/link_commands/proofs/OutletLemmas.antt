@@ -43,15 +43,6 @@ prefix_after before now after first second one (n, within, wrote) = (
   rw (take-append-add first second n) (appends_both before now after first (take n second) one wrote),
 )
 
--- a line that is kept
-pub hands_kept : (told : Option (List ℕ)) (kept line : List ℕ) → HandsOver line told kept told (kept ++ line)
-hands_kept told kept line = record { done = []; appended = appends_none told; whole = refl; large = inl refl }
-
--- a line that is kept once what was kept before is written
-pub hands_next : (before after : Option (List ℕ)) (kept line : List ℕ) → 64_337 ≤ length kept → Appends before kept after
-    → HandsOver line before kept after line
-hands_next before after kept line many wrote = record { done = kept; appended = wrote; whole = refl; large = inr many }
-
 -- nothing is handed over
 pub hands_none : (told : Option (List ℕ)) (kept : List ℕ) → HandsOver [] told kept told kept
 hands_none told kept = record { done = []; appended = appends_none told; whole = append-nil kept; large = inl refl }
@@ -94,13 +85,6 @@ pub part_of_more : (before after : Option (List ℕ)) (kept text more : List ℕ
 part_of_more before after kept text more part =
     let longer = prefix_of_more before after (kept ++ text) more part in
     rw (← append_assoc kept text more) longer
-
--- a text that was handed over whole, and what is kept written
-pub hands_whole : (before now after : Option (List ℕ)) (text kept : List ℕ)
-    → HandsOver text before [] now kept → Appends now kept after → Appends before text after
-hands_whole before now after text kept one wrote =
-    let both = appends_both before now after one.done kept one.appended wrote in
-    rw one.whole both
 
 -- a text that was handed over whole, and a part of what is kept written
 pub hands_whole_part : (before now after : Option (List ℕ)) (text kept : List ℕ)

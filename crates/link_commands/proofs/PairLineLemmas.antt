@@ -1,12 +1,12 @@
 -- Lines of pairs: which of them say one, and how far a text is checked.
-use Rattle.std.proofs.Common.{◌≡◌, refl, sym, ap, ◌∙◌, arith, ℕ, ℤ, ◌+◌, ◌<◌, ◌≤◌, Bool, true, false, not, List, [], ◌∷◌, ◌++◌, length, drop, Option, Some, None, IfSome}
+use Rattle.std.proofs.Common.{◌≡◌, sym, ap, ◌∙◌, arith, ℕ, ℤ, ◌+◌, ◌<◌, ◌≤◌, Bool, true, false, not, List, [], ◌∷◌, ◌++◌, length, drop, Option, Some, None, IfSome}
 use Rattle.std.specs.List.{All}
 use Rattle.std.specs.Option.{is_some}
 use Rattle.std.proofs.lemmas.List.{append_assoc, append-nil, length_push}
-use Rattle.std.proofs.lemmas.List.Elements.{All-nil, All-push, All-same}
+use Rattle.std.proofs.lemmas.List.Elements.{All-push, All-same}
 use Rattle.link_text.specs.Lines.{lines_of}
 use Rattle.link_text.specs.PairLine.{IsPairLine}
-use Rattle.link_commands.specs.PairLines.{IsSomePair, IsNoPair, IsPairText, IsFirstNoPair}
+use Rattle.link_commands.specs.PairLines.{IsSomePair, IsPairText}
 use Rattle.link_commands.proofs.LineLemmas.{lines_end}
 
 -- what is read as a pair says one
@@ -25,16 +25,6 @@ pub record HasPairs (text : List ℕ) (number at : ℕ) : Type 0 where
   pub further : number ≤ at + 1
   pub within : at ≤ length text
 
-pub pairs_none : (text : List ℕ) → HasPairs text 1 0
-pairs_none text = record {
-  before = [];
-  lines = refl;
-  good = All-nil IsSomePair;
-  numbered = refl;
-  further = omega arith;
-  within = omega arith;
-}
-
 -- a line more
 pub pairs_more : (text line : List ℕ) (number at next : ℕ) → HasPairs text number at
     → lines_of (drop at text) ≡ line ∷ lines_of (drop next text) → at < next → next ≤ length text
@@ -47,19 +37,6 @@ pairs_more text line number at next has lines further within good = record {
   numbered = omega (arith, has.numbered, length_push has.before line);
   further = omega (arith, has.further);
   within = within;
-}
-
--- the first line at fault
-pub pairs_fault : (text line : List ℕ) (number at next : ℕ) → HasPairs text number at
-    → lines_of (drop at text) ≡ line ∷ lines_of (drop next text) → IsNoPair line → IsFirstNoPair text number
-pairs_fault text line number at next has lines bad = record {
-  before = has.before;
-  line = line;
-  after = lines_of (drop next text);
-  split = has.lines ∙ ap (λ (ls : List (List ℕ)). has.before ++ ls) lines;
-  number = has.numbered;
-  good = has.good;
-  bad = bad;
 }
 
 -- the whole text

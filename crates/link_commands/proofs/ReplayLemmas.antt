@@ -32,9 +32,6 @@ one_more f xs n x h is =
     ∙ flat_map-append f (take n xs) (get_or xs n x ∷ [])
     ∙ ap (λ (ys : List ℕ). flat_map f (take n xs) ++ ys) (append-nil (f (get_or xs n x)) ∙ ap f (sym is))
 
-pub each_none : {A : Type 0} (f : A → List ℕ) (xs : List A) (told : Option (List ℕ)) (kept : List ℕ) → HasHandedEach f xs 0 told kept told kept
-each_none f xs told kept = record { way = hands_none told kept }
-
 pub each_next : {A : Type 0} (f : A → List ℕ) (xs : List A) (n : ℕ) (x : A) (before : Option (List ℕ)) (kept : List ℕ) (now : Option (List ℕ)) (kept' : List ℕ) (after : Option (List ℕ)) (kept'' : List ℕ)
     → n < length xs → x ≡ get_or xs n x → HasHandedEach f xs n before kept now kept' → HandsOver (f x) now kept' after kept''
     → HasHandedEach f xs (n + 1) before kept after kept''

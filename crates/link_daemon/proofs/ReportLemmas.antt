@@ -1,19 +1,16 @@
 -- The text of a live run's report, piece by piece.
-use Rattle.std.proofs.Common.{◌≡◌, ◌≤◌, ◌<◌, ◌+◌, ◌-◌, ◌++◌, ◌∷◌, [], zero, suc, length, take, map, get_or, codes, List, ℕ, ℤ, Bool, true, false, Option, Some, Result, Ok, Err, refl, ap, sym, ◌∙◌, subst, arith, append_assoc, length-append}
+use Rattle.std.proofs.Common.{◌≡◌, ◌≤◌, ◌<◌, ◌+◌, ◌-◌, ◌++◌, ◌∷◌, [], zero, suc, length, take, map, get_or, codes, List, ℕ, ℤ, Bool, true, false, Option, Some, Result, Ok, Err, refl, ap, sym, ◌∙◌, subst, arith, append_assoc}
 use Rattle.std.specs.Prelude.{slice_get}
 use Rattle.std.specs.List.{flat_map}
 use Rattle.std.specs.Fmt.{decimal}
 use Rattle.std.specs.Result.{OnOk, OnErr}
-use Rattle.std.proofs.lemmas.List.{take_more, take_all, append-nil, length-map}
-use Rattle.std.proofs.lemmas.List.Concat.{flat_map-append}
-use Rattle.std.proofs.lemmas.List.Folds.{flat_map-map}
+use Rattle.std.proofs.lemmas.List.{take_all, append-nil}
 use Rattle.std.proofs.lemmas.Option.{same_Some, slice_get-get_or, slice_get_within}
 use Rattle.client_state.specs.declared.state.State.{State}
 use Rattle.link_node.specs.Config.{ConfigValue, config_value, gate_value}
 use Rattle.link_node.specs.declared.config.Config.{Config}
 use Rattle.link_node.specs.declared.config.GateSetup.{GateSetup}
 use Rattle.link_node.specs.Event.{EventValue}
-use Rattle.link_text.specs.GateLines.{destination_line}
 use Rattle.link_text.specs.ReplayScript.{ended, event_line, gate_lines, head_lines, written_script_of}
 use Rattle.link_text.specs.ReplayText.{state_line_of}
 use Rattle.link_commands.specs.Outlet.{HandsOver, HandsPart}
@@ -27,23 +24,6 @@ use Rattle.link_commands.proofs.ReplayLemmas.{HasHandedEach, each_next, each_par
 -- how many there are in the first n
 abbrev pub count_of : {A B C : Type 0} (g : B → List C) (f : A → B) (xs : List A) (n : ℕ) → ℕ
 count_of g f xs n = length (flat_map g (map f (take n xs)))
-
--- those of one more
-pub count_next : {A B C : Type 0} (g : B → List C) (f : A → B) (xs : List A) (n : ℕ) (x : A) → n < length xs → x ≡ get_or xs n x
-    → count_of g f xs (n + 1) ≡ count_of g f xs n + length (g (f x))
-count_next {A = A} {C = C} g f xs n x h is =
-    let each : (zs : List A) → flat_map g (map f zs) ≡ flat_map (λ z. g (f z)) zs = flat_map-map g f in
-    let more : flat_map (λ z. g (f z)) (take (n + 1) xs) ≡ flat_map (λ z. g (f z)) (take n xs) ++ g (f x)
-    = ap (flat_map (λ z. g (f z))) (take_more xs n x h)
-    ∙ flat_map-append (λ z. g (f z)) (take n xs) (get_or xs n x ∷ [])
-    ∙ ap (λ (ys : List C). flat_map (λ z. g (f z)) (take n xs) ++ ys) (append-nil (g (f (get_or xs n x))) ∙ ap (λ (z : A). g (f z)) (sym is)) in
-    omega (arith, ap length (each (take (n + 1) xs)), ap length (each (take n xs)), ap length more, length-append (flat_map (λ z. g (f z)) (take n xs)) (g (f x)))
-
--- the lines of one more gate
-pub gates_next : (gates : List GateSetup) (n : ℕ) (gate : GateSetup) → n < length gates → gate ≡ get_or gates n gate
-    → count_of gate_lines gate_value gates (n + 1) ≡ count_of gate_lines gate_value gates n + (1 + length gate.peers.items)
-gates_next gates n gate h is =
-    omega (arith, count_next gate_lines gate_value gates n gate h is, length-map gate.peers.items destination_line)
 
 -- all lines of a head of version 2
 pub head_lines_are : (config : Config) (gates : List GateSetup) (now : ℤ) (n : ℕ) → gates ≡ config.gates.items → length gates ≤ n

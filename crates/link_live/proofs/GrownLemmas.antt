@@ -4,7 +4,7 @@ use Rattle.std.proofs.lemmas.List.{map-append}
 use Rattle.std.specs.Prelude.{IfSome}
 use Rattle.lk_outside.specs.Arrivals.{ArrivalValue, PostValue}
 use Rattle.lk_outside.specs.Contents.{BothTell}
-use Rattle.lk_outside.specs.Port.{PortContents, GivesFrom, PostsOne}
+use Rattle.lk_outside.specs.Port.{PortContents, GivesFrom}
 use Rattle.link_node.specs.Event.{SendingValue}
 use Rattle.link_live.specs.Network.{HasGrown, post_of, posts_of}
 use Rattle.link_live.specs.Running.{HasPosted}
@@ -53,9 +53,6 @@ grown_turn arrivals new posts further told one two three before given posted =
     (λ a b c first second. subst (λ (l : List PostValue). HasGrown (arrivals ++ new) l a c) (append-nil posts) (grown-append arrivals new posts [] a b c first (given_grown new b c second)))
     before given)
     posted
-
-pub one_grown : (post : PostValue) (a b : PortContents) → PostsOne post a b → HasGrown [] (post ∷ []) a b
-one_grown post a b posts = record { left = sym posts.left; given = posts.given ∙ sym (append-nil a.given); posted = posts.posted }
 
 -- where nothing is left, nothing is left after it
 pub still_none_left : (further : List PostValue) (x y : Option PortContents) → BothTell (HasGrown [] further) x y

@@ -1,5 +1,5 @@
 -- What stands in a journal, one list of events after another.
-use Rattle.std.proofs.Common.{◌≡◌, ℕ, ℤ, int_le, ◌+◌, ◌||◌, ◌⊎◌, inl, inr, Bool, true, false, List, [], ◌∷◌, ◌++◌, refl, sym, ap, subst, ◌∙◌, append_assoc, append-nil, arith}
+use Rattle.std.proofs.Common.{◌≡◌, ℕ, ℤ, int_le, ◌+◌, ◌||◌, ◌⊎◌, inl, inr, Bool, false, List, [], ◌∷◌, ◌++◌, refl, sym, ap, subst, ◌∙◌, append_assoc, append-nil, arith}
 use Rattle.std.specs.List.{AllByRecursion}
 use Rattle.link_node.specs.Due.{due_of}
 use Rattle.link_node.specs.Event.{EventValue, Rx, Tick, App, Audio, End, app_after, audio_after}
@@ -72,10 +72,6 @@ owes_after_commit owed m commit now = refl
 pub owes_after_audio : (owed : Bool) (m : Machine) (number : ℕ) (commit : _) (now : ℤ) → owes_tick owed m (Audio number commit now ∷ []) ≡ owed
 unfolding owes_tick
 owes_after_audio owed m number commit now = refl
-
-pub owes_first : (m : Machine) → owes_tick true m [] ≡ true
-unfolding owes_tick
-owes_first m = refl
 
 pub all-append : {A : Type 0} (P : A → Type 0) (xs ys : List A) → AllByRecursion P xs → AllByRecursion P ys → AllByRecursion P (xs ++ ys)
 all-append P [] ys first second = second

@@ -1,22 +1,17 @@
 -- One datagram after another is posted.
-use Rattle.std.proofs.lemmas.List.{map-append, take_more, take_all, take-append-drop}
-use Rattle.std.proofs.Common.{◌≡◌, ℕ, zero, suc, ◌<◌, ◌≤◌, ◌+◌, get_or, true≢false, Bool, true, false, List, [], ◌∷◌, ◌++◌, length, map, take, drop, Option, refl, sym, ap, subst, ◌∙◌, append-nil, arith}
+use Rattle.std.proofs.lemmas.List.{map-append, take_more, take-append-drop}
+use Rattle.std.proofs.Common.{◌≡◌, ℕ, zero, suc, ◌<◌, ◌+◌, get_or, true≢false, Bool, true, false, List, [], ◌∷◌, ◌++◌, length, map, take, drop, Option, sym, ap, subst, ◌∙◌, arith}
 use Rattle.std.specs.List.{AllByRecursion}
-use Rattle.lk_outside.specs.Arrivals.{PostValue}
 use Rattle.lk_outside.specs.Contents.{BothTell}
-use Rattle.lk_outside.specs.Port.{PortContents, PostsOne}
+use Rattle.lk_outside.specs.Port.{PortContents}
 use Rattle.link_node.specs.Event.{SendingValue, sending_value}
 use Rattle.link_node.specs.declared.sends.Sending.{Sending}
 use Rattle.link_live.specs.Network.{HasGrown, post_of, posts_of}
 use Rattle.link_live.specs.Running.{HasPosted}
-use Rattle.link_live.proofs.GrownLemmas.{both_tell, itself_told, grown_none, grown-append, one_grown}
 
 -- these many were posted
 pub record IsPosted (sends : List Sending) (index : ℕ) (told told_then : Option PortContents) : Type 0 where
   pub grown : BothTell (HasGrown [] (posts_of (map sending_value (take index sends)))) told told_then
-
-pub none_posted : (sends : List Sending) (told : Option PortContents) → IsPosted sends 0 told told
-none_posted sends told = record { grown = itself_told (HasGrown [] []) told told refl grown_none }
 
 one_more : (sends : List Sending) (n : ℕ) (x : Sending) → n < length sends → x ≡ get_or sends n x
     → posts_of (map sending_value (take (n + 1) sends)) ≡ posts_of (map sending_value (take n sends)) ++ post_of (sending_value x) ∷ []
@@ -26,32 +21,12 @@ one_more sends n x less is =
     ∙ map-append post_of (map sending_value (take n sends)) (sending_value (get_or sends n x) ∷ [])
     ∙ ap (λ (y : Sending). posts_of (map sending_value (take n sends)) ++ post_of (sending_value y) ∷ []) (sym is)
 
-pub one_more_posted : (sends : List Sending) (n : ℕ) (x : Sending) (told now after : Option PortContents) → n < length sends → x ≡ get_or sends n x
-    → IsPosted sends n told now → BothTell (PostsOne (post_of (sending_value x))) now after → IsPosted sends (n + 1) told after
-one_more_posted sends n x told now after less is so_far posts = record {
-  grown = subst (λ (l : List PostValue). BothTell (HasGrown [] l) told after) (sym (one_more sends n x less is))
-      (both_tell (HasGrown [] (posts_of (map sending_value (take n sends)))) (PostsOne (post_of (sending_value x)))
-      (HasGrown [] (posts_of (map sending_value (take n sends)) ++ post_of (sending_value x) ∷ [])) told now after
-      (λ a b c first second. grown-append [] [] (posts_of (map sending_value (take n sends))) (post_of (sending_value x) ∷ []) a b c first (one_grown (post_of (sending_value x)) b c second))
-      so_far.grown posts);
-}
-
 -- the gate of each is there
 pub gate_at : (gates : ℕ) (sends : List Sending) (n : ℕ) (x : Sending) → n < length sends → x ≡ get_or sends n x
     → AllByRecursion (λ (s : SendingValue). s.gate.0 < gates) (map sending_value sends) → x.gate.0 < gates
 gate_at gates [] n x less is all = absurd (omega (arith, less))
 gate_at gates (s ∷ sends) zero x less is all = subst (λ (y : Sending). y.gate.0 < gates) (sym is) all.0
 gate_at gates (s ∷ sends) (suc n) x less is all = gate_at gates sends n x (omega (arith, less)) is all.1
-
-pub nothing_posted : (sends : List SendingValue) (told told_then : Option PortContents) → told_then ≡ told → HasPosted sends true true told told_then
-nothing_posted sends told told_then stays = record {
-  posts = [];
-  unsent = posts_of sends;
-  split = refl;
-  all = λ e. absurd (true≢false e);
-  none = λ _. (refl, refl);
-  grown = itself_told (HasGrown [] []) told told_then stays grown_none;
-}
 
 pub some_posted : (sends : List Sending) (n : ℕ) (failed : Bool) (told now told_then : Option PortContents) → failed ≡ false → IsPosted sends n told now → told_then ≡ now
     → HasPosted (map sending_value sends) failed true told told_then
@@ -63,15 +38,4 @@ some_posted sends n failed told now told_then works so_far stays = record {
   all = λ e. absurd (true≢false e);
   none = λ e. absurd (true≢false (sym e ∙ works));
   grown = subst (λ (o : Option PortContents). BothTell (HasGrown [] (posts_of (map sending_value (take n sends)))) told o) (sym stays) so_far.grown;
-}
-
-pub all_posted : (sends : List Sending) (n : ℕ) (told told_then : Option PortContents) → length sends ≤ n → IsPosted sends n told told_then
-    → HasPosted (map sending_value sends) false false told told_then
-all_posted sends n told told_then past so_far = record {
-  posts = posts_of (map sending_value sends);
-  unsent = [];
-  split = sym (append-nil (posts_of (map sending_value sends)));
-  all = λ _. (refl, refl);
-  none = λ e. absurd (true≢false (sym e));
-  grown = subst (λ (l : List Sending). BothTell (HasGrown [] (posts_of (map sending_value l))) told told_then) (take_all n sends past) so_far.grown;
 }

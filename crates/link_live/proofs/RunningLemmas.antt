@@ -80,13 +80,6 @@ pub none_taken : (opening : Machine) (most : ℕ) (all before after : List Event
 none_taken opening most all before after sends full offered no_room =
     none_left before offered.taken after offered.journal (subst (λ (n : ℕ). length after ≤ n) (sym no_room) offered.fits)
 
-no_room_then : (opening : Machine) (most : ℕ) (all before after : List EventValue) (sends : List SendingValue) (full full_turn : Bool)
-    → IsOffered opening most all before after [] sends full_turn → (full ≡ true → length before ≡ most) → (full || full_turn) ≡ true → length after ≡ most
-no_room_then opening most all before after sends true full_turn offered no_room told =
-    let none : offered.taken ≡ [] = none_taken opening most all before after sends full_turn offered (no_room refl) in
-    ap length (offered.journal ∙ ap (λ l. before ++ l) none ∙ append-nil before) ∙ no_room refl
-no_room_then opening most all before after sends false full_turn offered no_room told = (offered.no_room told).0
-
 -- the hub's own opening is that of the run
 pub offered_as : (first hub : HubView) (all before after : List EventValue) (sends : List SendingValue) (full : Bool)
     → hub.config ≡ first.config → hub.opened_at ≡ first.opened_at → hub.most ≡ first.most

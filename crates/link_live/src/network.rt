@@ -1,6 +1,6 @@
 //! The loop that owns the network: what comes goes to the hub, and what the hub sends goes out.
 
-ghost use Rattle.std.specs.Prelude.{◌≡◌, ◌<◌, ◌||◌, if◌then◌else◌, int_le, [], true, false, length, map, Option};
+ghost use Rattle.std.specs.Prelude.{◌≡◌, ◌<◌, if◌then◌else◌, int_le, [], true, false, length, map, Option};
 ghost use Rattle.std.specs.List.{AllByRecursion};
 ghost use Rattle.lk_base.specs.Ranges.{IsMoment};
 ghost use Rattle.lk_outside.specs.Faults.{Rose};
@@ -120,7 +120,7 @@ fn network_turn<C: StateCell<11>, N: LinkName, P: Port, R: Wait>(
     let taken = hub.journal();
     let grew = before < taken.len();
     line.failed = post(port, sends.list(), line.failed);
-    line.full = either(line.full, turned.full);
+    line.full |= turned.full;
     rest_where_idle(rt, *line, turned.quit, grew);
     turned.quit
 }
@@ -220,13 +220,6 @@ fn due_or_nothing(due: i64, clock: i64) -> Got
     } else {
         Got::Nothing
     }
-}
-
-// Whether one of both holds.
-fn either(one: bool, other: bool) -> bool
-    ensures { result ≡ (one || other) }
-{
-    one || other
 }
 
 /// Laws: how the machine and what it sends go on from one event to the next.

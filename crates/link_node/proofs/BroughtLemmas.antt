@@ -44,7 +44,8 @@ use Rattle.link_node.specs.Settling.{id_drawn, founding_timeline_in, settled, fo
 use Rattle.link_node.specs.Step.{at_moment, taken, before_broadcast, broadcast_by, before_shown, step_of}
 use Rattle.link_node.specs.Taking.{followed, timeline_taken, with_start, start_taken, sighted, listened, state_taken, is_current}
 use Rattle.link_node.specs.Tick.{pruned, is_needed, idle_forgotten, waiting_with, remeasure_queued, is_remeasured, begun_at, begun_one, begun_from, begun, cleared, ticked}
-use Rattle.link_node.proofs.Lists.{by_test, has_left, has_right}
+use Rattle.peer_gateway.proofs.MemberLemmas.{has_left, has_right}
+use Rattle.session_choice.proofs.Lists.{by_test}
 use Rattle.link_node.proofs.TakenLemmas.{known, Within, took_within, forgotten_within, filtered_within, measured_within, IsGiven, committed_took, saw_took}
 
 -- the second machine's sessions have taken nothing that the first's haven't

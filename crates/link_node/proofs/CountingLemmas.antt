@@ -24,7 +24,7 @@ use Rattle.link_node.specs.Machine.{Machine, session_in, timeline_in, offset_in}
 use Rattle.link_node.specs.Settling.{settled, founded, counted, is_left}
 use Rattle.link_node.specs.Staying.{IsSpent, commit_in}
 use Rattle.link_node.specs.Step.{at_moment, step_of}
-use Rattle.link_node.proofs.Lists.{by_test, all_append}
+use Rattle.session_choice.proofs.Lists.{by_test, all_append}
 use Rattle.link_node.proofs.StayingLemmas.{midst, stands_step}
 use Rattle.link_node.proofs.KeptLemmas.{start_committed-sessions, sessions_stay}
 use Rattle.link_node.proofs.FollowingLemmas.{best-kept}

@@ -48,7 +48,7 @@ use Rattle.link_node.specs.Step.{at_moment, before_broadcast, before_shown, step
 use Rattle.link_node.specs.Tick.{begun, begun_at, begun_from, begun_one, cleared, idle_forgotten, is_remeasured, pruned, remeasure_queued, ticked, waiting_with}
 use Rattle.link_node.specs.WellFormed.{IsMachine}
 use Rattle.link_node.specs.declared.node.settling.Held.{Held}
-use Rattle.link_node.proofs.Lists.{id_from_test}
+use Rattle.peer_gateway.proofs.KeyLemmas.{id_from_test}
 use Rattle.link_node.proofs.RuleLemmas.{begun_one-waiting}
 
 -- ---- the earliest of several

@@ -46,7 +46,7 @@ use Rattle.link_node.specs.Step.{at_moment, step_of}
 use Rattle.link_node.specs.Taking.{followed, is_current, listened, row_of, sighted, start_taken, state_taken, timeline_taken, with_start}
 use Rattle.link_node.specs.Tick.{begun, begun_at, begun_from, begun_one, cleared, idle_forgotten, is_remeasured, pruned, remeasure_queued, ticked, waiting_with}
 use Rattle.link_node.proofs.DueLemmas.{app-left, audio-left}
-use Rattle.link_node.proofs.Lists.{by_test}
+use Rattle.session_choice.proofs.Lists.{by_test}
 use Rattle.link_node.proofs.MomentLemmas.{leads_step}
 use Rattle.link_node.proofs.StayingLemmas.{midst, no_founding, not_left-settled, stands_step}
 

@@ -51,7 +51,8 @@ use Rattle.link_node.specs.Step.{at_moment, taken, step_of}
 use Rattle.link_node.specs.Taking as taking_rules
 use Rattle.link_node.specs.Taking.{followed, timeline_taken, with_start, start_taken, sighted, listened, state_taken}
 use Rattle.link_node.specs.Tick.{pruned, idle_forgotten, waiting_with, remeasure_queued, is_remeasured, begun_at, begun_one, begun_from, begun as begun_in, cleared, ticked}
-use Rattle.link_node.proofs.Lists.{by_test, id_from_test, test_from_id, all_append}
+use Rattle.peer_gateway.proofs.KeyLemmas.{id_from_test, test_from_id}
+use Rattle.session_choice.proofs.Lists.{by_test, all_append}
 use Rattle.link_node.proofs.StayingLemmas.{midst, stands_step}
 
 -- ---- a renewed client follows, whatever it was before

@@ -5,6 +5,7 @@ use Rattle.std.specs.Prelude.{if◌then◌else◌, option_map, slice_get, unwrap
 use Rattle.lk_base.specs.IdOrder.{same_id}
 use Rattle.lk_base.specs.declared.ids.NodeId.{NodeId}
 use Rattle.lk_base.specs.declared.timeline.Timeline.{Timeline}
+use Rattle.peer_gateway.proofs.KeyLemmas.{test_from_id}
 use Rattle.session_choice.specs.Best.{best_of}
 use Rattle.session_choice.specs.History.{History, Taking, StandsFor, session_of, known_of, begun, forgotten}
 use Rattle.session_choice.specs.Keyed.{without_by}
@@ -14,7 +15,7 @@ use Rattle.link_node.specs.Machine.{Machine}
 use Rattle.link_node.specs.Standing.{HasParts, gates_of, app_of, audio_of}
 use Rattle.link_node.specs.Tick.{is_needed}
 use Rattle.link_node.specs.declared.node.Node.{Node}
-use Rattle.link_node.proofs.IdLemmas.{equal-same, differ-other}
+use Rattle.link_node.proofs.IdLemmas.{differ-other}
 
 -- ---- one session fewer
 
@@ -22,7 +23,7 @@ shorter_by : (here : Bool) (first : Taking) (rest : List Taking) (k : ℕ) (sess
 shorter_by true first rest k session same is later = refl
 shorter_by false first rest zero session other is later =
     let e : first.session ≡ session = cc in
-    let same = equal-same first.session session e in
+    let same = test_from_id first.session session e in
     cc
 shorter_by false first rest (suc k) session other is later = ap suc (later k is)
 
@@ -86,7 +87,7 @@ IsAlone : List Taking → ℕ → NodeId → Type 0
 IsAlone takings k session = (j : ℕ) (taking : Taking) → slice_get takings j ≡ Some taking → taking.session ≡ session → j ≡ k
 
 without_at : (front later : List Taking) (first : Taking) (session : NodeId) → first.session ≡ session → ((j : ℕ) (taking : Taking) → slice_get (front ++ first ∷ later) j ≡ Some taking → taking.session ≡ session → j ≡ length front) → without_by session_of session (front ++ first ∷ later) ≡ front ++ later
-without_at [] later first session is alone = rw (equal-same first.session session is) refl
+without_at [] later first session is alone = rw (test_from_id first.session session is) refl
 without_at (x ∷ front) later first session is alone =
     let differ : x.session ≡ session → ⊥ = λ same. (let no : 0 ≡ suc (length front) = alone 0 x refl same in absurd (cc)) in
     rw (differ-other x.session session differ)

@@ -32,7 +32,7 @@ use Rattle.link_node.specs.Measured.{IsMeasured}
 use Rattle.link_node.specs.Measuring.{chosen, measured, judged, pong_by, pong_heard}
 use Rattle.link_node.specs.Settling.{settled, founded, counted, is_left, founding_timeline_in}
 use Rattle.link_node.specs.Step.{at_moment, step_of}
-use Rattle.link_node.proofs.Lists.{by_test}
+use Rattle.session_choice.proofs.Lists.{by_test}
 use Rattle.link_node.proofs.MomentLemmas.{leads_step}
 use Rattle.link_node.proofs.StayingLemmas.{Stands, midst, stands_step, is_left-settled, not_left-settled, goes_on, no_founding}
 use Rattle.link_node.proofs.KeptLemmas.{sessions_stay}

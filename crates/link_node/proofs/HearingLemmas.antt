@@ -31,7 +31,9 @@ use Rattle.link_node.specs.Staying.{Hears}
 use Rattle.link_node.specs.Step.{at_moment, step_of}
 use Rattle.link_node.specs.Taking as taking_rules
 use Rattle.link_node.specs.Taking.{followed, timeline_taken, with_start, start_taken, sighted, listened, state_taken}
-use Rattle.link_node.proofs.Lists.{by_test, id_from_test, test_from_id, has_right}
+use Rattle.peer_gateway.proofs.MemberLemmas.{has_right}
+use Rattle.peer_gateway.proofs.KeyLemmas.{id_from_test, test_from_id}
+use Rattle.session_choice.proofs.Lists.{by_test}
 use Rattle.link_node.proofs.TakenLemmas.{known, Took}
 use Rattle.link_node.proofs.StayingLemmas.{midst, stands_step, no_founding, not_left-settled}
 use Rattle.link_node.proofs.KeptLemmas.{Knows, fields-sessions, sessions_stay}

@@ -6,6 +6,7 @@ use Rattle.lk_base.specs.IdOrder.{same_id}
 use Rattle.lk_base.specs.declared.ids.NodeId.{NodeId}
 use Rattle.peer_gateway.specs.Happenings.{Has}
 use Rattle.peer_gateway.proofs.MemberLemmas.{Distinct, all_from_has, has_from_all, has_from_any, any_from_has}
+use Rattle.peer_gateway.proofs.KeyLemmas.{test_from_id}
 use Rattle.session_choice.specs.Keyed.{found_by, updated_by, without_by}
 use Rattle.session_choice.proofs.DistinctLemmas.{same-equal, same-itself}
 use Rattle.session_choice.proofs.Lists.{by_test}
@@ -13,9 +14,6 @@ use Rattle.link_node.specs.Tick.{is_waiting}
 use Rattle.link_node.specs.WellFormed.{AreDistinct}
 
 -- ---- one id
-
-pub equal-same : (a b : NodeId) → a ≡ b → same_id a b ≡ true
-equal-same a b e = ap (λ z. same_id a z) (sym e) ∙ same-itself a
 
 pub differ-other : (a b : NodeId) → (a ≡ b → ⊥) → same_id a b ≡ false
 differ-other a b differ = false_from_ne_true (same_id a b) (λ t. differ (same-equal a b t))
@@ -73,7 +71,7 @@ module _ {A : Type 0} (key : A → NodeId) (id : NodeId) where
       by_test (λ b. same_id (key row) id ≡ b → is_some (if b then Some row else found_by key id rows) ≡ true) (same_id (key row) id)
       (λ _ _. refl)
       (λ _ other. elim h as (λ _. is_some (found_by key id rows) ≡ true)
-      [ inl e ↦ absurd (false≢true (sym other ∙ equal-same (key row) id e)) | inr k ↦ has-found rows k ])
+      [ inl e ↦ absurd (false≢true (sym other ∙ test_from_id (key row) id e)) | inr k ↦ has-found rows k ])
       refl
 
   pub found-key : (rows : List A) (row : A) → found_by key id rows ≡ Some row → key row ≡ id
@@ -154,7 +152,7 @@ module _ (current id : NodeId) where
       by_test (λ b. same_id first id ≡ b → Has (if b then current ∷ ids else first ∷ replaced ids) current) (same_id first id)
       (λ _ _. inl refl)
       (λ _ other. elim h as (λ _. Has (first ∷ replaced ids) current)
-      [ inl e ↦ absurd (false≢true (sym other ∙ equal-same first id e)) | inr k ↦ inr (replaced-current ids k) ]) refl
+      [ inl e ↦ absurd (false≢true (sym other ∙ test_from_id first id e)) | inr k ↦ inr (replaced-current ids k) ]) refl
 
   pub distinct-replaced : (ids : List NodeId) → Distinct (current ∷ ids) → Has ids id → Distinct (id ∷ replaced ids)
   distinct-replaced [] all h = absurd h
@@ -167,9 +165,9 @@ module _ (current id : NodeId) where
         ((λ k. all.0 (inr k)), all.1.1),
       ))
       (λ _ other.
-      let later : Has ids id = elim h as (λ _. Has ids id) [ inl e ↦ absurd (false≢true (sym other ∙ equal-same first id e)) | inr k ↦ k ] in
+      let later : Has ids id = elim h as (λ _. Has ids id) [ inl e ↦ absurd (false≢true (sym other ∙ test_from_id first id e)) | inr k ↦ k ] in
       let rest : Distinct (id ∷ replaced ids) = distinct-replaced ids (λ k. all.0 (inr k), all.1.1) later in (
         (λ k. elim k as (λ _. ⊥)
-            [ inl is ↦ false≢true (sym other ∙ equal-same first id is) | inr q ↦ rest.0 q ]),
+            [ inl is ↦ false≢true (sym other ∙ test_from_id first id is) | inr q ↦ rest.0 q ]),
         ((λ k. elim (replaced-has ids first k) as (λ _. ⊥) [ inl e ↦ all.0 (inl (sym e)) | inr q ↦ all.1.0 q ]), rest.1),
       )) refl

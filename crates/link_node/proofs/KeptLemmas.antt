@@ -38,7 +38,8 @@ use Rattle.link_node.specs.Taking as taking_rules
 use Rattle.link_node.specs.Taking.{followed, timeline_taken, with_start, start_taken, sighted, listened, state_taken}
 use Rattle.link_node.specs.Tick.{ticked}
 use Rattle.link_node.specs.WellFormed.{AreDistinct}
-use Rattle.link_node.proofs.Lists.{by_test, has_left}
+use Rattle.peer_gateway.proofs.MemberLemmas.{has_left}
+use Rattle.session_choice.proofs.Lists.{by_test}
 use Rattle.link_node.proofs.TakenLemmas.{known, Took, Within}
 use Rattle.link_node.proofs.BroughtLemmas.{in_pong, in_ticked}
 use Rattle.link_node.proofs.StayingLemmas.{midst, stands_step, no_founding, not_left-settled}

@@ -33,7 +33,8 @@ use Rattle.link_node.specs.Machine.{Machine, still, session_in, timeline_in, off
 use Rattle.link_node.specs.Staying.{Hears, IsSpent, commit_in}
 use Rattle.link_node.specs.Step.{at_moment, step_of}
 use Rattle.link_node.specs.Taking.{is_current, followed, timeline_taken, with_start, start_taken, sighted, listened, state_taken}
-use Rattle.link_node.proofs.Lists.{by_test, test_from_id}
+use Rattle.peer_gateway.proofs.KeyLemmas.{test_from_id}
+use Rattle.session_choice.proofs.Lists.{by_test}
 use Rattle.link_node.proofs.StayingLemmas.{midst, stands_step, no_founding, not_left-settled}
 use Rattle.link_node.proofs.LeavingLemmas.{timeline-session}
 use Rattle.link_node.proofs.KeptLemmas.{sessions_stay}

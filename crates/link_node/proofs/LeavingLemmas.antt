@@ -37,7 +37,7 @@ use Rattle.link_node.specs.Measuring.{remeasured_later, chosen, measured, unmeas
 use Rattle.link_node.specs.Step.{at_moment, taken, step_of}
 use Rattle.link_node.specs.Taking.{timeline_taken, start_taken, sighted, listened, state_taken}
 use Rattle.link_node.specs.Tick.{pruned, idle_forgotten, waiting_with, remeasure_queued, is_remeasured, begun_at, begun_one, begun_from, begun as begun_in, cleared, ticked}
-use Rattle.link_node.proofs.Lists.{by_test}
+use Rattle.session_choice.proofs.Lists.{by_test}
 use Rattle.link_node.proofs.MomentLemmas.{leads_step}
 use Rattle.link_node.proofs.KeptLemmas.{followed-sessions, fields-sessions, start_committed-sessions, sessions_stay}
 

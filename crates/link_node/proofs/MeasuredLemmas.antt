@@ -38,7 +38,8 @@ use Rattle.link_node.specs.Measuring.{unmeasured, judged, pong_by, pong_heard, t
 use Rattle.link_node.specs.Step.{at_moment, step_of}
 use Rattle.link_node.specs.Taking.{timeline_taken, start_taken, sighted, listened, state_taken}
 use Rattle.link_node.specs.Tick.{remeasure_queued, begun as begun_in, cleared, ticked}
-use Rattle.link_node.proofs.Lists.{by_test, id_from_test}
+use Rattle.peer_gateway.proofs.KeyLemmas.{id_from_test}
+use Rattle.session_choice.proofs.Lists.{by_test}
 use Rattle.link_node.proofs.StayingLemmas.{midst}
 use Rattle.link_node.proofs.KeptLemmas.{fields-sessions, start_committed-sessions, sessions_stay}
 use Rattle.link_node.proofs.LeavingLemmas.{Remains, remains, remains_then, measured-sessions, unmeasured-remains, cleared-remains, queued-remains, begun_from-remains}

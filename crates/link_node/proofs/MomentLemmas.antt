@@ -43,7 +43,7 @@ use Rattle.link_node.specs.Step.{at_moment, taken, before_broadcast, broadcast_b
 use Rattle.link_node.specs.Taking.{followed, timeline_taken, with_start, start_taken, sighted, listened, state_taken, is_current}
 use Rattle.link_node.specs.Tick.{waiting_with, pruned, idle_forgotten, remeasure_queued, is_remeasured, begun_at, begun_one, begun_from, begun, cleared, ticked}
 use Rattle.link_node.specs.declared.node.settling.Held.{Held}
-use Rattle.link_node.proofs.Lists.{by_test}
+use Rattle.session_choice.proofs.Lists.{by_test}
 
 pub record Keeps (m n : Machine) : Type 0 where
   pub config : n.config ≡ m.config

@@ -25,7 +25,8 @@ use Rattle.link_node.specs.Step.{at_moment, before_broadcast, broadcast_by, befo
 use Rattle.link_node.specs.Telling.{bye_of, byes_in, response_to, fields_in, local_of, alive_of, alives_in, sent_from}
 use Rattle.link_node.specs.Tick.{pings_of_tick}
 use Rattle.link_node.specs.declared.node.settling.Held.{Held}
-use Rattle.link_node.proofs.Lists.{by_test, has_left, has_right}
+use Rattle.peer_gateway.proofs.MemberLemmas.{has_left, has_right}
+use Rattle.session_choice.proofs.Lists.{by_test}
 use Rattle.link_node.proofs.MomentLemmas.{rests_taken, leads_step, leads_before_broadcast}
 use Rattle.link_node.proofs.StayingLemmas.{midst, stands_step}
 

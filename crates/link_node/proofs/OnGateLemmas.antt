@@ -53,7 +53,8 @@ use Rattle.link_node.specs.Step.{at_moment, taken, answers, alives_by, before_br
 use Rattle.link_node.specs.Taking.{followed, timeline_taken, with_start, start_taken, sighted, listened, state_taken, is_current, row_of}
 use Rattle.link_node.specs.Telling.{response_to, alive_of, alives_in, bye_of, byes_in, sent_from}
 use Rattle.link_node.specs.Tick.{pruned, idle_forgotten, waiting_with, remeasure_queued, is_remeasured, begun_at, begun_one, begun_from, begun, pings_at, pings_from, pings_begun, cleared, ticked, pings_of_tick}
-use Rattle.link_node.proofs.Lists.{by_test, all_append, all_map, all_either}
+use Rattle.session_choice.proofs.Lists.{by_test, all_append}
+use Rattle.link_node.proofs.Lists.{all_map, all_either}
 use Rattle.link_node.proofs.MomentLemmas.{leads_step, leads_before_broadcast}
 
 -- ---- on one of so many gates

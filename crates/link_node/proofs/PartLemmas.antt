@@ -20,10 +20,6 @@ pub some_if : {A : Type 0} (test : Bool) (x y : A) → (if test then Some x else
 some_if true x y is = cc
 some_if false x y is = cc
 
--- a test of two moments, as the code makes it
-pub is_reached : (now at : ℤ) → int_lt now at ≡ false → int_le at now ≡ true
-is_reached now at is = grind (arith, ints)
-
 pub is_before : (now at : ℤ) → int_lt now at ≡ true → int_le at now ≡ false
 is_before now at is = grind (arith, ints)
 

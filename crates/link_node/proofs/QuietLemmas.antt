@@ -38,7 +38,7 @@ use Rattle.link_node.specs.WellFormed.{IsMachine}
 use Rattle.link_node.specs.declared.event.Change.TheVariants.{Same}
 use Rattle.link_node.specs.declared.node.settling.Held.{Held}
 use Rattle.link_node.proofs.DueLemmas.{IsAfter, settled-counted}
-use Rattle.link_node.proofs.Lists.{test_from_id}
+use Rattle.peer_gateway.proofs.KeyLemmas.{test_from_id}
 use Rattle.link_node.proofs.WellFormedLemmas.{int_eq-itself, same_bool-itself, same_timeline-itself}
 
 -- ---- the end of an event after which nothing is new

@@ -30,6 +30,7 @@ use Rattle.peer_gateway.specs.Happenings.{Has, said_goodbye}
 use Rattle.peer_gateway.specs.declared.row.Seen.{Seen}
 use Rattle.peer_gateway.specs.declared.row.Seen.TheVariants as seen
 use Rattle.peer_gateway.proofs.MemberLemmas.{has_left, has_right, has_parts}
+use Rattle.peer_gateway.proofs.KeyLemmas.{test_from_id}
 use Rattle.session_choice.specs.History.{Taking, session_of, begun as begun_with, best_in, forgotten, other_in, saw_by, saw_known, saw_of, saw_after, taken_by, with_taken}
 use Rattle.session_choice.specs.Keyed.{updated_by}
 use Rattle.session_choice.specs.declared.verdict.Saw.TheVariants.{Taken, Kept, New, Full}
@@ -47,7 +48,7 @@ use Rattle.link_node.specs.Settling.{counted as recounted, id_drawn, founded, is
 use Rattle.link_node.specs.Step.{taken}
 use Rattle.link_node.specs.Taking.{followed, is_current, listened, sighted, start_taken, state_taken, timeline_taken, with_start}
 use Rattle.link_node.specs.Tick.{begun, begun_at, begun_from, begun_one, cleared, is_remeasured, is_waiting, pruned, remeasure_queued, ticked, waiting_with}
-use Rattle.link_node.proofs.IdLemmas.{distinct-last, equal-same, has-found, ids-updated, waits-has}
+use Rattle.link_node.proofs.IdLemmas.{distinct-last, has-found, ids-updated, waits-has}
 use Rattle.link_node.proofs.SessionsLemmas.{AreFree, AreIds, GoesOn, HasIds, IsAlone, IsFree, forgotten_parts, free-from, ids_in, judged_parts, running-parts, ticked_parts, unmeasured_parts}
 
 -- ---- a timeline that was told
@@ -101,7 +102,7 @@ seen-other-parts session timeline m None found other h =
     (sym (map-append session_of m.sessions.others (begun_with session timeline ∷ [])))
     (pushed-parts (session_in m) session (ids_in m) m.waiting m.remeasure_at m.measuring
     (λ k. elim k as (λ _. ⊥) [
-      | inl e ↦ false≢true (sym other ∙ equal-same (session_in m) session e)
+      | inl e ↦ false≢true (sym other ∙ test_from_id (session_in m) session e)
       | inr q ↦ false≢true (sym (ap is_some found) ∙ has-found session_of session m.sessions.others q)
     ])
     (less (length m.sessions.others) (length (ids_in m)) room (length-map m.sessions.others session_of)) h))

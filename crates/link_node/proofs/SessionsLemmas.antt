@@ -1,8 +1,8 @@
 -- No session is known twice, and who waits or is measured is known.
-use Rattle.std.proofs.Common.{◌≡◌, ◌≤◌, ◌<◌, ◌+◌, ◌||◌, ℕ, ℤ, pos, ◌+ℤ◌, Bool, true, false, List, [], ◌∷◌, nat_lt, nat_le, int_lt, length, map, filter, Option, Some, None, refl, sym, ap, ◌∙◌, subst, inl, inr, arith}
+use Rattle.std.proofs.Common.{◌≡◌, ◌≤◌, ◌<◌, ◌+◌, ◌||◌, ℕ, ℤ, pos, ◌+ℤ◌, Bool, true, false, List, [], ◌∷◌, nat_lt, nat_le, length, map, filter, Option, Some, None, refl, sym, ap, ◌∙◌, subst, inl, inr, arith}
 use Rattle.std.proofs.lemmas.List.{length-map}
 use Rattle.std.specs.Prelude.{if◌then◌else◌, is_some, IfSome, IsSome, IsTrue}
-use Rattle.std.proofs.lemmas.Bool.{false≢true, ltb-true, or_right, or_left}
+use Rattle.std.proofs.lemmas.Bool.{false≢true, or_right, or_left}
 use Rattle.std.proofs.lemmas.Bool.Decides.{nat_tests}
 use Rattle.lk_base.specs.IdOrder.{same_id}
 use Rattle.lk_base.specs.declared.ids.NodeId.{NodeId}
@@ -17,10 +17,8 @@ use Rattle.ping_measure.proofs.LifeLemmas.{over-silent}
 use Rattle.ping_measure.proofs.OutcomeLemmas.{tick-early, tick-late, silent_outcome}
 use Rattle.peer_gateway.specs.Happenings.{Has}
 use Rattle.peer_gateway.proofs.MemberLemmas.{Distinct, all_from_has, has_from_all, has_filter, filter_has, has_map, map_has, length_le}
-use Rattle.session_choice.specs.History.{Taking, History, best_in, session_of, known_in, other_in, joined, forgotten, measured_of, measured_after, measured_by, saw_by, saw_of, verdict_by}
+use Rattle.session_choice.specs.History.{Taking, session_of, other_in, joined, forgotten, measured_of, measured_after, measured_by, verdict_by}
 use Rattle.session_choice.specs.Winning.{wins_over}
-use Rattle.lk_base.specs.declared.timeline.Timeline.{Timeline}
-use Rattle.session_choice.specs.declared.verdict.Saw.TheVariants.{Taken, Kept, New, Full}
 use Rattle.session_choice.specs.declared.verdict.Verdict.TheVariants.{Joined, Stayed, Remeasured}
 use Rattle.session_choice.specs.Keyed.{found_by, updated_by, without_by}
 use Rattle.session_choice.proofs.KeyedLemmas.{map-updated, map-without}
@@ -32,9 +30,9 @@ use Rattle.link_node.specs.Measuring.{chosen, judged, measured, measurement_tick
 use Rattle.link_node.specs.Taking.{sighted}
 use Rattle.link_node.specs.Tick.{cleared, idle_forgotten, is_measured, is_needed, is_waiting, pruned}
 use Rattle.peer_gateway.specs.Answers.{has_peers}
-use Rattle.link_node.specs.Step.{at_moment}
+use Rattle.peer_gateway.proofs.KeyLemmas.{test_from_id}
 use Rattle.link_node.specs.WellFormed.{AreSessions, is_known}
-use Rattle.link_node.proofs.IdLemmas.{equal-same, differ-other, has-waits, none-waits, waits-none, distinct-from, distinct-to, found-has, has-found, found-key, itself, without-has, has-without, distinct-without, few-without, replaced, few-replaced, has-replaced, replaced-current, distinct-replaced}
+use Rattle.link_node.proofs.IdLemmas.{differ-other, has-waits, none-waits, waits-none, distinct-from, distinct-to, found-has, has-found, found-key, itself, without-has, has-without, distinct-without, few-without, replaced, few-replaced, has-replaced, replaced-current, distinct-replaced}
 
 -- ---- the same by ids alone
 
@@ -73,7 +71,7 @@ has-known m id h =
     (same_id (session_in m) id)
     (λ _ _. refl)
     (λ _ other. elim h as (λ _. is_some (found_by session_of id m.sessions.others) ≡ true)
-    [ inl e ↦ absurd (false≢true (sym other ∙ equal-same (session_in m) id e)) | inr k ↦ has-found session_of id m.sessions.others k ]) refl
+    [ inl e ↦ absurd (false≢true (sym other ∙ test_from_id (session_in m) id e)) | inr k ↦ has-found session_of id m.sessions.others k ]) refl
 
 -- ---- there and back
 
@@ -84,7 +82,7 @@ some-measured m None known alone other = tt
 some-measured m (Some life) known alone other = record {
   known = known-has m life.session known;
   alone = waits-none life.session m.waiting alone;
-  other = λ is e. false≢true (sym (other is) ∙ equal-same life.session (session_in m) e);
+  other = λ is e. false≢true (sym (other is) ∙ test_from_id life.session (session_in m) e);
 }
 
 pub to_parts : (m : Machine) → AreSessions m → HasIds m
@@ -149,24 +147,7 @@ room_for_current m sessions none =
     [ inl e ↦ absurd (waits-none (session_in m) m.waiting none (subst (λ (z : NodeId). Has m.waiting z) (sym e) w)) | inr k ↦ k ] in
     omega (arith, h.few, length_le m.waiting (ids_in m) h.once others)
 
--- a session is new where it isn't known and there is room for one more
-new-unknown : (o : Option Taking) (h : History) (tl : Timeline) → saw_by o h tl ≡ New → (is_some o ≡ false) × (length h.others < 64)
-new-unknown None h tl new =
-    by_test (λ b. nat_lt (length h.others) 64 ≡ b → (if b then New else Full) ≡ New → (false ≡ false) × (length h.others < 64)) (nat_lt (length h.others) 64)
-    (λ _ room _. (refl, ltb-true (length h.others) 64 room)) (λ _ _ full. absurd (cc)) refl new
-new-unknown (Some taking) h tl new =
-    absurd (by_test (λ b. (if b then Taken else Kept) ≡ New → ⊥) (int_lt (best_in taking).beat tl.beat) (λ _ e. cc) (λ _ e. cc) new)
-
-pub room_when_new : (m : Machine) (session : NodeId) (tl : Timeline) → AreSessions m → saw_of m.sessions session tl ≡ New → length m.waiting < 65
-unfolding saw_of
-room_when_new m session tl sessions new =
-    let parts = new-unknown (known_in session m.sessions) m.sessions tl new in
-    room_for_new m session sessions parts.0 parts.1
-
 -- ---- rules that leave the sessions
-
-pub moment_sessions : (now : ℤ) (m : Machine) → AreSessions m → AreSessions (at_moment now m)
-moment_sessions now m sessions = from_parts (at_moment now m) (to_parts m sessions)
 
 pub sighted_sessions : (gate : Gate) (msg : StateMsg) (m : Machine) → AreSessions m → AreSessions (sighted gate msg m)
 unfolding sighted
@@ -229,7 +210,7 @@ measured-needed : (m : Machine) (o : Option Life)
     → ((row : Taking) → is_measured row.session o ≡ true → is_needed m row ≡ true)
     → IfSome o (λ life. (row : Taking) → row.session ≡ life.session → is_needed m row ≡ true)
 measured-needed m None needs = tt
-measured-needed m (Some life) needs = λ row e. needs row (equal-same life.session row.session (sym e))
+measured-needed m (Some life) needs = λ row e. needs row (test_from_id life.session row.session (sym e))
 
 pub forgotten_parts : (m : Machine) → HasIds m → HasIds (idle_forgotten m)
 unfolding idle_forgotten

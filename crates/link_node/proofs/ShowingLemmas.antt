@@ -16,7 +16,7 @@ use Rattle.link_node.specs.Publishing.{alike, shown, state_in}
 use Rattle.link_node.specs.Runs.{machine_after, replayed}
 use Rattle.link_node.specs.Staying.{ShowsBest}
 use Rattle.link_node.specs.Step.{before_shown, step_of}
-use Rattle.link_node.proofs.Lists.{by_test}
+use Rattle.session_choice.proofs.Lists.{by_test}
 use Rattle.link_node.proofs.FollowingLemmas.{opened-follows, step-follows}
 
 timeline-same : (a b : Timeline) → same_timeline a b ≡ true → a ≡ b

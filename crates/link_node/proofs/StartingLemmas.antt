@@ -44,7 +44,9 @@ use Rattle.link_node.specs.Starting.{TellsStart, BringsStart}
 use Rattle.link_node.specs.Step.{at_moment, step_of}
 use Rattle.link_node.specs.Taking.{is_current, followed, timeline_taken, with_start, start_taken, sighted, listened, state_taken}
 use Rattle.link_node.specs.Tick.{pruned, idle_forgotten, waiting_with, remeasure_queued, is_remeasured, begun_at, begun_one, begun_from, begun, cleared, ticked}
-use Rattle.link_node.proofs.Lists.{by_test, id_from_test, has_parts}
+use Rattle.peer_gateway.proofs.MemberLemmas.{has_parts}
+use Rattle.peer_gateway.proofs.KeyLemmas.{id_from_test}
+use Rattle.session_choice.proofs.Lists.{by_test}
 use Rattle.link_node.proofs.StayingLemmas.{midst, stands_step}
 use Rattle.link_node.proofs.LeavingLemmas.{timeline-session}
 

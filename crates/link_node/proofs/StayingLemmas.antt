@@ -15,7 +15,7 @@ use Rattle.link_node.specs.Staying.{IsFounded, last_of}
 use Rattle.link_node.specs.Step.{at_moment, taken, before_broadcast, broadcast_by, before_shown, step_of, change_of}
 use Rattle.link_node.specs.declared.event.Change.{Change}
 use Rattle.link_node.specs.declared.event.Change.TheVariants.{Same, Published}
-use Rattle.link_node.proofs.Lists.{by_test}
+use Rattle.session_choice.proofs.Lists.{by_test}
 use Rattle.link_node.proofs.MomentLemmas.{leads_taken, rests_taken}
 
 -- ---- after settling nothing of this changes

@@ -8,7 +8,9 @@ use Rattle.peer_gateway.specs.Happenings.{Has}
 use Rattle.session_choice.specs.History.{Taking, History, session_of, with_taken, begun, is_current, other_in, taken_by, saw_after, joined, measured_by, measured_after, forgotten, committed}
 use Rattle.session_choice.specs.Keyed.{found_by, updated_by, without_by}
 use Rattle.session_choice.specs.Winning.{wins_over}
-use Rattle.link_node.proofs.Lists.{by_test, id_from_test, has_parts}
+use Rattle.peer_gateway.proofs.MemberLemmas.{has_parts}
+use Rattle.peer_gateway.proofs.KeyLemmas.{id_from_test}
+use Rattle.session_choice.proofs.Lists.{by_test}
 
 abbrev pub known : History → List Taking
 known h = h.current ∷ h.others

@@ -29,7 +29,8 @@ use Rattle.link_node.specs.Measuring.{ping_to, pings_of, pings_by_pong, pings_af
 use Rattle.link_node.specs.Step.{at_moment, answers, alives_by, before_broadcast, sends_of}
 use Rattle.link_node.specs.Telling.{response_to, fields_in, local_of, alive_of, alives_in, bye_of, byes_in, sent_from}
 use Rattle.link_node.specs.Tick.{pings_at, pings_from, pings_begun, begun_one, remeasure_queued, cleared, pings_of_tick}
-use Rattle.link_node.proofs.Lists.{all_append, all_map, all_either}
+use Rattle.session_choice.proofs.Lists.{all_append}
+use Rattle.link_node.proofs.Lists.{all_map, all_either}
 
 -- what holds of each datagram of each gate holds of all
 all_sent : (P : SendingValue → Type 0) (spelled : GateValue → List ℕ)

@@ -52,15 +52,14 @@ drained_both opening most now popped between popped_then before middle after ful
 }
 
 -- the same, where the config and the opening moment have stayed
-pub drained_more : (config config' : ConfigValue) (at at' : ℤ) (most most' : ℕ) (now : ℤ) (popped between popped_then : List Commit) (before middle after : List EventValue) (full full' all : Bool)
-    → config' ≡ config → at' ≡ at → most' ≡ most → all ≡ (full || full')
+pub drained_more : (config config' : ConfigValue) (at at' : ℤ) (most most' : ℕ) (now : ℤ) (popped between popped_then : List Commit) (before middle after : List EventValue) (full full' : Bool)
+    → config' ≡ config → at' ≡ at → most' ≡ most
     → HasDrained (opened config at) most now popped between before middle full → HasDrained (opened config' at') most' now between popped_then middle after full'
-    → HasDrained (opened config at) most now popped popped_then before after all
-drained_more config config' at at' most most' now popped between popped_then before middle after full full' all same_config same_at same_most same_full first second =
+    → HasDrained (opened config at) most now popped popped_then before after (full || full')
+drained_more config config' at at' most most' now popped between popped_then before middle after full full' same_config same_at same_most first second =
     let second_as : HasDrained (opened config at) most now between popped_then middle after full' =
     subst (λ (x : ConfigValue × ℤ × ℕ). HasDrained (opened x.0 x.1) x.2 now between popped_then middle after full') (λ k. (same_config k, same_at k, same_most k)) second in
-    subst (λ (f : Bool). HasDrained (opened config at) most now popped popped_then before after f) (sym same_full)
-    (drained_both (opened config at) most now popped between popped_then before middle after full full' first second_as)
+    drained_both (opened config at) most now popped between popped_then before middle after full full' first second_as
 
 -- nothing more was popped
 pub drained_end : (opening : Machine) (most : ℕ) (now now' : ℤ) (popped between popped_then : List Commit) (before middle after : List EventValue) (full : Bool)

@@ -1,5 +1,5 @@
 -- What offered events do to the journal, and what stands in it then.
-use Rattle.std.proofs.Common.{◌≡◌, ℕ, zero, suc, ◌+◌, ◌^◌, ◌<◌, ◌≤◌, ◌⊎◌, Bool, true, false, ◌||◌, List, [], ◌∷◌, ◌++◌, length, Some, slice_get, refl, sym, ap, subst, ◌∙◌, inl, inr, append_assoc, append-nil, length-append, true≢false, arith}
+use Rattle.std.proofs.Common.{◌≡◌, ℕ, ◌+◌, ◌^◌, ◌<◌, ◌≤◌, ◌⊎◌, Bool, true, false, ◌||◌, List, [], ◌∷◌, ◌++◌, length, refl, sym, ap, subst, ◌∙◌, inl, inr, append_assoc, append-nil, length-append, true≢false, arith}
 use Rattle.link_node.specs.Event.{EventValue, Rx, Tick, App, Audio, End, SendingValue, Fits, app_after, audio_after}
 use Rattle.link_node.specs.Machine.{Machine}
 use Rattle.link_node.specs.Runs.{machine_after, sent_by, AreFitting}
@@ -16,14 +16,6 @@ app_commits_in-append (Tick now ∷ es) fs = app_commits_in-append es fs
 app_commits_in-append (App commit now ∷ es) fs = ap (λ l. commit ∷ l) (app_commits_in-append es fs)
 app_commits_in-append (Audio number commit now ∷ es) fs = app_commits_in-append es fs
 app_commits_in-append (End now ∷ es) fs = app_commits_in-append es fs
-
-pub few_app_commits : (es : List EventValue) → length (app_commits_in es) ≤ length es
-few_app_commits [] = omega arith
-few_app_commits (Rx gate from bytes now ∷ es) = omega (arith, few_app_commits es)
-few_app_commits (Tick now ∷ es) = omega (arith, few_app_commits es)
-few_app_commits (App commit now ∷ es) = omega (arith, few_app_commits es)
-few_app_commits (Audio number commit now ∷ es) = omega (arith, few_app_commits es)
-few_app_commits (End now ∷ es) = omega (arith, few_app_commits es)
 
 pub last_audio_in-append : (held : ℕ) (es fs : List EventValue) → last_audio_in held (es ++ fs) ≡ last_audio_in (last_audio_in held es) fs
 last_audio_in-append held [] fs = refl
@@ -62,13 +54,6 @@ fitting_more gates app audio es e short last fitting fits =
     fitting_by gates 0 0 es e fitting
     (subst (λ (n : ℕ). Fits gates (apps_after 0 es) n e) last
     (fits_at gates app (apps_after 0 es) audio e (omega (arith, apps_are_few 0 es, short)) fits))
-
--- what stands in a list that is one longer stood in it before, or is that one
-pub stood_before : {A : Type 0} (xs : List A) (x y : A) (k : ℕ) → slice_get (xs ++ x ∷ []) k ≡ Some y → (slice_get xs k ≡ Some y) ⊎ (Some x ≡ Some y)
-stood_before [] x y zero e = inr e
-stood_before [] x y (suc k) e = inl e
-stood_before (w ∷ xs) x y zero e = inl e
-stood_before (w ∷ xs) x y (suc k) e = stood_before xs x y k e
 
 -- ---- events offered
 

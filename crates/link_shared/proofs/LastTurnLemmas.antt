@@ -32,13 +32,13 @@ pub record AreOffers (before : HubView) (now : ℤ) (last : Pair) (popped_then :
   pub offered : IsOffered (opening_of before) before.most ((read_events now (machine_of before).audio last ++ app_events now rest) ++ End now ∷ []) before.journal events [] sends full
 
 -- the audio commit, the applications' commits, and the end, each while the config and the opening moment have stayed
-pub offers_of : (before : HubView) (now now' : ℤ) (last : Pair) (c1 c2 : ConfigValue) (a1 a2 : ℤ) (m1 m2 : ℕ) (popped popped_then : List Commit) (j1 j2 events : List EventValue) (s0 s1 s2 sends : List SendingValue) (f1 f2 f12 f3 full : Bool)
-    → now' ≡ now → s0 ≡ [] → s1 ≡ s0 → s2 ≡ [] → c1 ≡ before.config → a1 ≡ before.opened_at → m1 ≡ before.most → c2 ≡ c1 → a2 ≡ a1 → m2 ≡ m1 → popped ≡ before.popped → f12 ≡ (f1 || f2) → full ≡ (f12 || f3)
+pub offers_of : (before : HubView) (now now' : ℤ) (last : Pair) (c1 c2 : ConfigValue) (a1 a2 : ℤ) (m1 m2 : ℕ) (popped popped_then : List Commit) (j1 j2 events : List EventValue) (s0 s1 s2 sends : List SendingValue) (f1 f2 f3 : Bool)
+    → now' ≡ now → s0 ≡ [] → s1 ≡ s0 → s2 ≡ [] → c1 ≡ before.config → a1 ≡ before.opened_at → m1 ≡ before.most → c2 ≡ c1 → a2 ≡ a1 → m2 ≡ m1 → popped ≡ before.popped
     → IsOffered (opening_of before) before.most (read_events now' (machine_of before).audio last) before.journal j1 s0 s1 f1
     → HasDrained (opened c1 a1) m1 now' popped popped_then j1 j2 f2
     → IsOffered (opened c2 a2) m2 (End now' ∷ []) j2 events s2 sends f3
-    → AreOffers before now last popped_then events sends full
-offers_of before now now' last c1 c2 a1 a2 m1 m2 popped popped_then j1 j2 events s0 s1 s2 sends f1 f2 f12 f3 full now_is s0_is s1_is s2_is c1_is a1_is m1_is c2_is a2_is m2_is popped_is f12_is full_is first second third =
+    → AreOffers before now last popped_then events sends ((f1 || f2) || f3)
+offers_of before now now' last c1 c2 a1 a2 m1 m2 popped popped_then j1 j2 events s0 s1 s2 sends f1 f2 f3 now_is s0_is s1_is s2_is c1_is a1_is m1_is c2_is a2_is m2_is popped_is first second third =
     let read : List EventValue = read_events now (machine_of before).audio last in
     let one : IsOffered (opening_of before) before.most read before.journal j1 [] [] f1 =
     subst (λ (x : ℤ × List SendingValue × List SendingValue). IsOffered (opening_of before) before.most (read_events x.0 (machine_of before).audio last) before.journal j1 x.1 x.2 f1)
@@ -54,8 +54,7 @@ offers_of before now now' last c1 c2 a1 a2 m1 m2 popped popped_then j1 j2 events
     record {
       rest = two.rest;
       popped_are = two.popped_are;
-      offered = subst (λ (f : Bool). IsOffered (opening_of before) before.most ((read ++ app_events now two.rest) ++ End now ∷ []) before.journal events [] sends f)
-          (sym (full_is ∙ ap (λ (f : Bool). f || f3) f12_is)) all;
+      offered = all;
     }
 
 -- ---- what the applications knew

@@ -355,8 +355,6 @@ turned before one two after now brought unsent first second sent quit full full'
         subst (λ (o : Machine). IsOffered o before.most (got_events now brought) two.journal after.journal second sent full'') (same_opening before two config_one opened_one)
         (subst (λ (n : ℕ). IsOffered (opening_of two) n (got_events now brought) two.journal after.journal second sent full'') most_one given.offered)
 
-pub turned_as : (before after : HubView) (now' now : ℤ) (brought : Got) (sent : List SendingValue) (quit either full full' full'' told : Bool) → now' ≡ now
-    → either ≡ (full || full') → told ≡ (either || full'') → HasTurned before after now' brought sent quit ((full || full') || full'') → HasTurned before after now brought sent quit told
-turned_as before after now' now brought sent quit either full full' full'' told same first second turn =
-    subst (λ (n : ℤ). HasTurned before after n brought sent quit told) same
-    (subst (λ (b : Bool). HasTurned before after now' brought sent quit b) (sym (second ∙ ap (λ (b : Bool). b || full'') first)) turn)
+pub turned_as : (before after : HubView) (now' now : ℤ) (brought : Got) (sent : List SendingValue) (quit full : Bool) → now' ≡ now
+    → HasTurned before after now' brought sent quit full → HasTurned before after now brought sent quit full
+turned_as before after now' now brought sent quit full same turn = subst (λ (n : ℤ). HasTurned before after n brought sent quit full) same turn

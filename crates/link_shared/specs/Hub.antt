@@ -50,6 +50,11 @@ item_events now (Some item.Quit) = []
 abbrev pub read_events : ℤ → ℕ → Pair → List EventValue
 read_events now taken pair = if nat_lt taken pair.0 then Audio pair.0 (commit_of_words pair.1) now ∷ [] else []
 
+-- that commit is offered to the journal
+abbrev pub IsReadOffered : ConfigValue → ℤ → ℕ → ℤ → Pair → List EventValue → List EventValue → List SendingValue → List SendingValue → Bool → Type 0
+IsReadOffered config opened_at most now pair before after unsent sent full =
+    IsOffered (opened config opened_at) most (read_events now (replayed config opened_at before).audio pair) before after unsent sent full
+
 -- what the turn was given
 abbrev pub got_events : ℤ → Got → List EventValue
 got_events now got.Nothing = []

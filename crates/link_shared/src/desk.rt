@@ -12,7 +12,6 @@ use crate::queue::{Item, Push, Queue, QueuePass, hear_pass, show_pass};
 use audio_handoff::{Read, StateCell};
 use client_state::Commit;
 use std::alloc::{AllocError, Global};
-use std::mem;
 use std::sync::Wait;
 use std::sync::ledger::{Book, Share};
 
@@ -150,7 +149,6 @@ fn read_anew<C: StateCell<11>>(
     cell.tell(way, reader, known);
     let read = cell.read(way, reader);
     let new = cell.note_of_reader(alloc, way, reader)?;
-    let old = mem::replace(note, new);
-    cell.tell(way, reader, old);
+    *note = new;
     Ok(read)
 }

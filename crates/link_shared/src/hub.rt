@@ -10,7 +10,6 @@ use std::sync::ledger::Share;
 
 mod drain;
 mod handed;
-mod heard;
 mod hearing;
 mod last_turn;
 mod turn;

@@ -2,7 +2,7 @@
 //! and the states that the session publishes come out by cells.
 //!
 //! In reading order: `name`, `ids`, `capture`, `queue`, `desk`, `link` and of it `app` and `audio`; `parts`, `opened`; `got`,
-//! `keeper` and of it `commits` and `settle`, `hub` and of it `turn`, `handed`, `heard`, `drain`, `hearing` and `last_turn`.
+//! `keeper` and of it `commits` and `settle`, `hub` and of it `turn`, `handed`, `drain`, `hearing` and `last_turn`.
 #![tactic(auto)]
 
 mod capture;

@@ -3,9 +3,9 @@ use Rattle.std.proofs.Common.{◌≡◌, ◌≢◌, ◌⊎◌, inl, inr, refl, s
 use Rattle.std.specs.List.{All, flat_map}
 use Rattle.std.specs.Fmt.{decimal, signed_decimal}
 use Rattle.std.specs.Int.Signed.{mag}
-use Rattle.std.proofs.lemmas.List.{append_assoc, append-nil, length_push, map-append}
+use Rattle.std.proofs.lemmas.List.{append_assoc, append-nil, length_push}
 use Rattle.std.proofs.lemmas.List.Concat.{flat_map-cons}
-use Rattle.std.proofs.lemmas.List.Elements.{All-head, All-tail, All-push, All-nil}
+use Rattle.std.proofs.lemmas.List.Elements.{All-head, All-tail, All-push}
 use Rattle.std.proofs.lemmas.Grind.{flat_map-append}
 use Rattle.std.proofs.lemmas.Fmt.{decimal_digit, decimal_injective, signed_decimal_injective}
 use Rattle.lk_base.specs.Endpoint.{IsEndpoint}
@@ -17,9 +17,9 @@ use Rattle.link_node.specs.Event.{EventValue, Rx, Tick, App, Audio, End, moment_
 use Rattle.link_text.specs.Words.{joined, dotted, truth_text_of, endpoint_text_of}
 use Rattle.link_text.specs.LineWords.{words_of}
 use Rattle.link_text.specs.EventDetails.{kind_of, details_of}
-use Rattle.link_text.specs.ReplayScript.{IsVisibleId, IsGate, IsEventLine, AreEventLines, gate_lines, group_line, node_line, quantum_line, version_line}
+use Rattle.link_text.specs.ReplayScript.{IsVisibleId, IsGate, IsEventLine, AreEventLines, gate_line, gate_lines, group_line, node_line, quantum_line, to_line, version_line}
 use Rattle.link_text.specs.declared.head_read.Node.{Node}
-use Rattle.link_text.specs.HeadParts.{gate_line, to_line, plain_of, IsKnownVersion, IsNodeLine, IsNode, LacksTo, LacksGate, AreFull, HasDestinations, HasGates}
+use Rattle.link_text.specs.HeadParts.{plain_of, IsKnownVersion, IsNodeLine, IsNode, LacksTo, LacksGate, AreFull, HasDestinations, HasGates}
 use Rattle.link_text.proofs.WordLemmas.{cut_one}
 use Rattle.link_text.proofs.NumberLemmas.{decimal_lacks}
 use Rattle.link_text.proofs.EventLemmas.{Lacks, lacks_by_test, number_lacks, signed_lacks, truth_lacks, moment_within, quantum_within, tempo_within, words_joined, joined_words, words_are}
@@ -156,32 +156,7 @@ lacks_end count lines none = inl (λ e more range same. cc (none, same))
 pub lacks_gate_end : (count : ℕ) (lines : List (List ℕ)) → lines ≡ [] → LacksGate count lines
 lacks_gate_end count lines none = inl (λ e more range same. cc (none, same))
 
-pub lacks_to_line : (count : ℕ) (lines : List (List ℕ)) (line : List ℕ) (rest : List (List ℕ)) → lines ≡ line ∷ rest
-    → ((e : Endpoint) → IsEndpoint e → line ≡ to_line e → ⊥) → LacksTo count lines
-lacks_to_line count lines line rest is none = inl (λ e more range same. none e range (cc (is, same)))
-
-pub lacks_gate_line : (count : ℕ) (lines : List (List ℕ)) (line : List ℕ) (rest : List (List ℕ)) → lines ≡ line ∷ rest
-    → ((e : Endpoint) → IsEndpoint e → line ≡ gate_line e → ⊥) → LacksGate count lines
-lacks_gate_line count lines line rest is none = inl (λ e more range same. none e range (cc (is, same)))
-
-pub destinations_none : (lines : List (List ℕ)) → HasDestinations lines [] lines
-destinations_none lines = record { each = All-nil IsEndpoint; few = omega arith; said = refl }
-
-pub destinations_more : (lines : List (List ℕ)) (ds : List Endpoint) (line : List ℕ) (e : Endpoint) (mid rest : List (List ℕ))
-    → HasDestinations lines ds mid → mid ≡ line ∷ rest → IsEndpoint e → line ≡ to_line e → length ds < 32
-    → HasDestinations lines (ds ++ e ∷ []) rest
-destinations_more lines ds line e mid rest has is range said room = record {
-  each = All-push IsEndpoint ds e has.each range;
-  few = omega (arith, length_push ds e);
-  said = has.said ∙ ap (λ (ls : List (List ℕ)). map (λ to. to_line to) ds ++ ls) (is ∙ ap (λ (l : List ℕ). l ∷ rest) said)
-      ∙ sym (append_assoc (map (λ to. to_line to) ds) (to_line e ∷ []) rest)
-      ∙ ap (λ (ls : List (List ℕ)). ls ++ rest) (sym (map-append (λ (to : Endpoint). to_line to) ds (e ∷ [])));
-}
-
 -- ---- gates
-
-pub gates_none : (lines : List (List ℕ)) → HasGates lines [] lines
-gates_none lines = record { each = All-nil IsGate; few = omega arith; said = refl; full = tt }
 
 flat_push : (gs : List GateValue) (g : GateValue) (rest : List (List ℕ))
     → flat_map gate_lines gs ++ (gate_lines g ++ rest) ≡ flat_map gate_lines (gs ++ g ∷ []) ++ rest
@@ -232,15 +207,15 @@ no_more_gate n m lines more e (inr full) less few range same = omega arith
 
 pub tos_one : (n : ℕ) (ds es : List Endpoint) (xs ys : List (List ℕ)) → All IsEndpoint ds → All IsEndpoint es
     → n + length ds ≤ 32 → n + length es ≤ 32 → LacksTo (n + length ds) xs → LacksTo (n + length es) ys
-    → map (λ to. to_line to) ds ++ xs ≡ map (λ to. to_line to) es ++ ys → (ds ≡ es) × (xs ≡ ys)
+    → map to_line ds ++ xs ≡ map to_line es ++ ys → (ds ≡ es) × (xs ≡ ys)
 tos_one n [] [] xs ys all_d all_e few_d few_e lacks_x lacks_y same = (refl, same)
 tos_one n [] (e ∷ es) xs ys all_d all_e few_d few_e lacks_x lacks_y same =
-    absurd (no_more_to (n + length {A = Endpoint} []) (n + length (e ∷ es)) xs (map (λ to. to_line to) es ++ ys) e lacks_x (omega arith) few_e (All-head IsEndpoint e es all_e) same)
+    absurd (no_more_to (n + length {A = Endpoint} []) (n + length (e ∷ es)) xs (map to_line es ++ ys) e lacks_x (omega arith) few_e (All-head IsEndpoint e es all_e) same)
 tos_one n (d ∷ ds) [] xs ys all_d all_e few_d few_e lacks_x lacks_y same =
-    absurd (no_more_to (n + length {A = Endpoint} []) (n + length (d ∷ ds)) ys (map (λ to. to_line to) ds ++ xs) d lacks_y (omega arith) few_d (All-head IsEndpoint d ds all_d) (sym same))
+    absurd (no_more_to (n + length {A = Endpoint} []) (n + length (d ∷ ds)) ys (map to_line ds ++ xs) d lacks_y (omega arith) few_d (All-head IsEndpoint d ds all_d) (sym same))
 tos_one n (d ∷ ds) (e ∷ es) xs ys all_d all_e few_d few_e lacks_x lacks_y same =
     let heads : to_line d ≡ to_line e = cc same in
-    let tails : map (λ to. to_line to) ds ++ xs ≡ map (λ to. to_line to) es ++ ys = cc same in
+    let tails : map to_line ds ++ xs ≡ map to_line es ++ ys = cc same in
     let one = to_one d e (All-head IsEndpoint d ds all_d) (All-head IsEndpoint e es all_e) heads in
     let rest = tos_one (n + 1) ds es xs ys (All-tail IsEndpoint d ds all_d) (All-tail IsEndpoint e es all_e) (omega arith) (omega arith)
     (lacks_as (n + length (d ∷ ds)) (n + 1 + length ds) xs (omega arith) lacks_x) (lacks_as (n + length (e ∷ es)) (n + 1 + length es) ys (omega arith) lacks_y) tails in
@@ -254,7 +229,7 @@ gate_same g h local destinations =
     ap (λ (l : Endpoint). gate_from l g.destinations) local ∙ ap (λ (ds : List Endpoint). gate_from h.local ds) destinations
 
 pub opened : (g : GateValue) (gs : List GateValue) (xs : List (List ℕ))
-    → flat_map gate_lines (g ∷ gs) ++ xs ≡ gate_line g.local ∷ (map (λ to. to_line to) g.destinations ++ (flat_map gate_lines gs ++ xs))
+    → flat_map gate_lines (g ∷ gs) ++ xs ≡ gate_line g.local ∷ (map to_line g.destinations ++ (flat_map gate_lines gs ++ xs))
 opened g gs xs =
     ap (λ (ls : List (List ℕ)). ls ++ xs) (flat_map-cons gate_lines g gs)
     ∙ append_assoc (gate_lines g) (flat_map gate_lines gs) xs
@@ -273,7 +248,7 @@ gates_one k (g ∷ gs) (h ∷ hs) xs ys all_g all_h few_g few_h full_x full_y la
     let lines = sym (opened g gs xs) ∙ same ∙ opened h hs ys in
     let heads : gate_line g.local ≡ gate_line h.local = cc lines in
     let local = gate_one g.local h.local at_g.local at_h.local heads in
-    let tails : map (λ to. to_line to) g.destinations ++ (flat_map gate_lines gs ++ xs) ≡ map (λ to. to_line to) h.destinations ++ (flat_map gate_lines hs ++ ys) = cc lines in
+    let tails : map to_line g.destinations ++ (flat_map gate_lines gs ++ xs) ≡ map to_line h.destinations ++ (flat_map gate_lines hs ++ ys) = cc lines in
     let tos = tos_one 0 g.destinations h.destinations (flat_map gate_lines gs ++ xs) (flat_map gate_lines hs ++ ys) at_g.destinations at_h.destinations
     (omega (arith, at_g.few)) (omega (arith, at_h.few))
     (lacks_as (length g.destinations) (0 + length g.destinations) (flat_map gate_lines gs ++ xs) (omega arith) full_x.0)

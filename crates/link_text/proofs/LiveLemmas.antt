@@ -2,16 +2,16 @@
 use Rattle.std.proofs.Common.{◌≡◌, inl, inr, refl, sym, ◌∙◌, ap, subst, arith, ℤ, ℕ, ◌+◌, ◌-◌, ◌≤◌, ◌^◌, Bool, true, false, not, if◌then◌else◌, List, [], ◌∷◌, ◌++◌, length, map, filter, drop}
 use Rattle.std.specs.List.{All, flat_map}
 use Rattle.std.proofs.lemmas.List.{append_assoc, append-nil, map-append, length-append}
-use Rattle.std.proofs.lemmas.List.Elements.{All-head, All-tail, All-nil, All-push, filter-append}
+use Rattle.std.proofs.lemmas.List.Elements.{All-head, All-tail, All-push, filter-append}
 use Rattle.lk_base.specs.declared.endpoint.Endpoint.{Endpoint}
 use Rattle.link_node.specs.Config.{GateValue}
 use Rattle.link_text.specs.Lines.{lines_of, is_passed, counting_in}
 use Rattle.link_text.specs.declared.live_script.AppCommand.{AppCommand}
 use Rattle.link_text.specs.declared.live_script.BlockCommand.{BlockCommand}
 use Rattle.link_text.specs.declared.place.Place.{Place}
-use Rattle.link_text.specs.HeadParts.{gate_line, to_line, LacksGate, AreFull}
+use Rattle.link_text.specs.HeadParts.{LacksGate, AreFull}
 use Rattle.link_text.specs.Places.{IsAhead, counting_from}
-use Rattle.link_text.specs.ReplayScript.{gate_lines}
+use Rattle.link_text.specs.ReplayScript.{gate_line, gate_lines, to_line}
 use Rattle.link_text.specs.LiveScript.{Command, app, block, IsTempo, IsLiveHead, IsCommand, IsLiveScript, IsLiveText, IsSomeLiveScript, IsLiveLineFault, apps_in, blocks_in, begins_command, command_line, commands_told, live_head_lines, live_version_line, setup_line}
 use Rattle.link_text.specs.LiveParts.{HasBadCommand, HasCommands, IsLiveStart, TakesCommand, lines_told}
 use Rattle.link_text.proofs.HeadLemmas.{gates_one, lacks_gate_as, first_differs, full_events}
@@ -234,11 +234,6 @@ blocks-append [] ds = refl
 blocks-append (app c ∷ cs) ds = blocks-append cs ds
 blocks-append (block c ∷ cs) ds = ap (λ (xs : List BlockCommand). c ∷ xs) (blocks-append cs ds)
 
-pub commands_none : (lines : List (List ℕ)) (apps : List AppCommand) (blocks : List BlockCommand) → apps ≡ [] → blocks ≡ []
-    → HasCommands lines apps blocks lines
-commands_none lines apps blocks no_apps no_blocks =
-    record { commands = []; each = All-nil IsCommand; said = refl; apps_are = no_apps; blocks_are = no_blocks }
-
 pub commands_more : (lines here rest : List (List ℕ)) (line : List ℕ) (apps new_apps : List AppCommand) (blocks new_blocks : List BlockCommand)
     → HasCommands lines apps blocks here → here ≡ line ∷ rest → TakesCommand line apps new_apps blocks new_blocks
     → HasCommands lines new_apps new_blocks rest
@@ -253,18 +248,6 @@ commands_more lines here rest line apps new_apps blocks new_blocks has is takes 
       apps_are = takes.apps_are ∙ ap (λ (xs : List AppCommand). xs ++ apps_in (c ∷ [])) has.apps_are ∙ sym (apps-append has.commands (c ∷ []));
       blocks_are = takes.blocks_are ∙ ap (λ (xs : List BlockCommand). xs ++ blocks_in (c ∷ [])) has.blocks_are ∙ sym (blocks-append has.commands (c ∷ []));
     }
-
-pub takes_app : (line : List ℕ) (apps new_apps : List AppCommand) (blocks new_blocks : List BlockCommand) (command : AppCommand)
-    → IsCommand (app command) → line ≡ command_line (app command) → new_apps ≡ apps ++ command ∷ [] → new_blocks ≡ blocks
-    → TakesCommand line apps new_apps blocks new_blocks
-takes_app line apps new_apps blocks new_blocks command range said pushed same =
-    record { command = app command; range = range; said = said; apps_are = pushed; blocks_are = same ∙ sym (append-nil blocks) }
-
-pub takes_block : (line : List ℕ) (apps new_apps : List AppCommand) (blocks new_blocks : List BlockCommand) (command : BlockCommand)
-    → IsCommand (block command) → line ≡ command_line (block command) → new_blocks ≡ blocks ++ command ∷ [] → new_apps ≡ apps
-    → TakesCommand line apps new_apps blocks new_blocks
-takes_block line apps new_apps blocks new_blocks command range said pushed same =
-    record { command = block command; range = range; said = said; apps_are = same ∙ sym (append-nil apps); blocks_are = pushed }
 
 pub takes_none : (line : List ℕ) → ((command : AppCommand) → IsCommand (app command) → line ≡ command_line (app command) → ⊥)
     → ((command : BlockCommand) → IsCommand (block command) → line ≡ command_line (block command) → ⊥)
@@ -284,13 +267,6 @@ told_first line rest is = by_test (begins_command line) is
     by_test : (t : Bool) → t ≡ true → length (if t then line ∷ filter begins_command rest else filter begins_command rest) ≡ lines_told rest + 1
     by_test true is = omega arith
     by_test false is = cc
-
-pub told_passed : (line : List ℕ) (rest : List (List ℕ)) → begins_command line ≡ false → lines_told (line ∷ rest) ≡ lines_told rest
-told_passed line rest is = by_test (begins_command line) is
-  where
-    by_test : (t : Bool) → t ≡ false → length (if t then line ∷ filter begins_command rest else filter begins_command rest) ≡ lines_told rest
-    by_test true is = cc
-    by_test false is = refl
 
 told_little : (line : List ℕ) (xs ys : List (List ℕ)) → lines_told xs ≤ lines_told ys → lines_told (line ∷ xs) ≤ lines_told (line ∷ ys)
 told_little line xs ys less = by_test (begins_command line)

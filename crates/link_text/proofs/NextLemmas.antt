@@ -1,12 +1,10 @@
 -- The next event of a text.
-use Rattle.std.proofs.Common.{◌≡◌, refl, sym, ◌∙◌, ap, subst, arith, ℕ, ◌≤◌, ℤ, List, [], ◌∷◌, length, drop, Option, Some, None, IfSome, IfNone}
-use Rattle.link_node.specs.Event.{EventValue, Rx, Tick, App, Audio, End, audio_after, event_value}
-use Rattle.link_node.specs.Config.{ConfigValue}
-use Rattle.link_node.specs.declared.event.Event.{Event}
+use Rattle.std.proofs.Common.{◌≡◌, refl, ◌∙◌, ap, subst, arith, ℕ, ◌≤◌, List, [], ◌∷◌, length, drop}
+use Rattle.link_node.specs.Event.{EventValue, Rx, Tick, App, Audio, End, audio_after}
 use Rattle.link_text.specs.Lines.{lines_of, counting_in}
 use Rattle.link_text.specs.declared.place.Place.{Place}
 use Rattle.link_text.specs.Places.{HasPassed, counting_from}
-use Rattle.link_text.specs.ReplayScript.{IsEventKind, IsEventLine, AreEventLines, SaysFrom, SaysSome, IsChecked}
+use Rattle.link_text.specs.ReplayScript.{IsEventKind, IsEventLine, AreEventLines, IsNextEvent, SaysFrom, SaysSome}
 use Rattle.link_text.proofs.PlaceLemmas.{counting_same, counting_counted, counting_end}
 use Rattle.link_text.proofs.EventUniqueLemmas.{event_one}
 
@@ -62,9 +60,8 @@ next_bad text line at next is none (gates, audio, es, says) =
     none first.0 (line_wide gates audio line first.0 says.few first.3)
 
 pub next_some : (text line : List ℕ) (at next : ℕ) (e : EventValue) → counting_from text at ≡ line ∷ counting_from text next → next ≤ length text
-    → IsEventLine 4 0 line e → (gates audio : ℕ) (es : List EventValue) → SaysFrom gates audio text at es
-    → (rest : List EventValue) × (es ≡ e ∷ rest) × SaysFrom gates (audio_after audio e) text next rest
-next_some text line at next e is within says gates audio es all =
+    → IsEventLine 4 0 line e → IsNextEvent text at next e
+next_some text line at next e is within says = λ gates audio es all.
     let first = first_event gates audio (counting_from text at) line (counting_from text next) es is all.lines in
     let one = event_one gates 4 audio 0 line first.0 e (omega (arith, all.few)) (omega arith) first.3 says in (
       first.1,
@@ -75,17 +72,3 @@ next_some text line at next e is within says gates audio es all =
         lines = subst (λ (x : EventValue). AreEventLines gates (audio_after audio x) (counting_from text next) first.1) one first.4;
       },
     )
-
--- ---- for callers
-
-pub checked_says : (text : List ℕ) (version : ℕ) (config : ConfigValue) (now : ℤ) (first : ℕ) → IsChecked text version config now first → SaysSome text first
-checked_says text version config now first is = (length config.gates, 0, is.es, is.from)
-
-pub next_says : (text : List ℕ) (at next : ℕ) (r : Option Event) → SaysSome text at
-    → IfSome r (λ event. (gates audio : ℕ) (es : List EventValue) → SaysFrom gates audio text at es
-    → (rest : List EventValue) × (es ≡ event_value event ∷ rest) × SaysFrom gates (audio_after audio (event_value event)) text next rest)
-    → IfNone r (next ≡ at) → SaysSome text next
-next_says text at next (Some event) says some none =
-    let rest = some says.0 says.1 says.2 says.3 in
-    (says.0, audio_after says.1 (event_value event), rest.0, rest.2)
-next_says text at next None says some none = subst (λ (k : ℕ). SaysSome text k) (sym none) says

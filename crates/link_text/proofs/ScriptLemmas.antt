@@ -13,9 +13,9 @@ use Rattle.link_node.specs.Event.{EventValue, audio_after}
 use Rattle.link_text.specs.Lines.{lines_of, counting_in}
 use Rattle.link_text.specs.declared.head_read.Node.{Node}
 use Rattle.link_text.specs.declared.place.Place.{Place}
-use Rattle.link_text.specs.HeadParts.{gate_line, to_line, config_of, plain_of, IsFront, IsKnownVersion, IsNode, IsOpening, LacksTo, LacksGate, AreFull}
+use Rattle.link_text.specs.HeadParts.{config_of, plain_of, IsFront, IsKnownVersion, IsNode, IsOpening, LacksTo, LacksGate, AreFull}
 use Rattle.link_text.specs.Places.{IsAhead, AreOfVersion, IsOfVersion, HasEvents, HasBadEvent, counting_from, audio_of}
-use Rattle.link_text.specs.ReplayScript.{IsHead, IsGate, IsEventLine, AreEventLines, IsSomeScript, IsLineFault, IsChecked, IsVersion, version_line, node_line, group_line, quantum_line, profile_lines, gate_lines, head_lines}
+use Rattle.link_text.specs.ReplayScript.{IsHead, IsGate, IsEventLine, AreEventLines, IsSomeScript, IsLineFault, IsChecked, IsVersion, version_line, node_line, group_line, quantum_line, profile_lines, gate_lines, head_lines, gate_line, to_line}
 use Rattle.link_text.proofs.FirstFaultLemmas as faults
 use Rattle.link_text.proofs.FirstFaultLemmas.{IsCounted, BeginAlike, alike_first, line_fault}
 use Rattle.link_text.proofs.HeadLemmas.{lacks_gate_as, AreOneNode, node_one, group_one, quantum_one, version_one, gates_one, opened, gate_no_to, events_no_gate, events_no_to, full_events}
@@ -377,7 +377,7 @@ pub some_first : (gates : List GateValue) (rest : List (List ℕ)) → 1 ≤ len
     → (e : Endpoint) × (ls : List (List ℕ)) × IsEndpoint e × (flat_map gate_lines gates ++ rest ≡ gate_line e ∷ ls)
 some_first [] rest some each = absurd (omega arith)
 some_first (g ∷ gates) rest some each =
-    (g.local, map (λ to. to_line to) g.destinations ++ (flat_map gate_lines gates ++ rest), (All-head IsGate g gates each).local, opened g gates rest)
+    (g.local, map to_line g.destinations ++ (flat_map gate_lines gates ++ rest), (All-head IsGate g gates each).local, opened g gates rest)
 
 pub no_gate : (version : ℕ) (config : ConfigValue) (now : ℤ) (lines : List (List ℕ)) → IsKnownVersion version → LacksGate 0 lines
     → (more : List (List ℕ)) → BeginAlike lines more → Continues (version_line version ∷ node_line config now ∷ profile_lines version config) more → ⊥

@@ -9,8 +9,7 @@ use Rattle.std.proofs.lemmas.Option.{none-some, same_Some, slice_get-get_or, sli
 use Rattle.link_node.specs.Config.{gate_value}
 use Rattle.link_node.specs.declared.config.GateSetup.{GateSetup}
 use Rattle.lk_base.specs.declared.endpoint.Endpoint.{Endpoint}
-use Rattle.link_text.specs.GateLines.{destination_line}
-use Rattle.link_text.specs.ReplayScript.{gate_lines}
+use Rattle.link_text.specs.ReplayScript.{gate_lines, to_line}
 
 -- a place in the first of two lists
 pub slice_get_left : {A : Type 0} (xs ys : List A) (i : ℕ) → i < length xs → slice_get (xs ++ ys) i ≡ slice_get xs i
@@ -45,19 +44,19 @@ lines_more gates k gate h e =
 
 -- the line of a destination
 pub destination_there : (gate : GateSetup) (ds : List Endpoint) (k : ℕ) (to : Endpoint) (l : List ℕ) → ds ≡ gate.peers.items → 1 ≤ k → k < length (gate_lines (gate_value gate))
-    → slice_get (gate_lines (gate_value gate)) k ≡ Some l → destination_line (get_or ds (k - 1) to) ≡ l
+    → slice_get (gate_lines (gate_value gate)) k ≡ Some l → to_line (get_or ds (k - 1) to) ≡ l
 destination_there gate ds zero to l all some h e = absurd (omega arith)
 destination_there gate ds (suc i) to l all some h e =
     let back : suc i - 1 ≡ i = omega arith in
-    let within : i < length gate.peers.items = omega (arith, h, length-map gate.peers.items destination_line) in
-    let there = slice_get-map destination_line gate.peers.items i ∙ ap (option_map destination_line) (slice_get-get_or gate.peers.items i to within) in
-    ap (λ (k : ℕ). destination_line (get_or ds k to)) back
-    ∙ ap (λ (es : List Endpoint). destination_line (get_or es i to)) all
+    let within : i < length gate.peers.items = omega (arith, h, length-map gate.peers.items to_line) in
+    let there = slice_get-map to_line gate.peers.items i ∙ ap (option_map to_line) (slice_get-get_or gate.peers.items i to within) in
+    ap (λ (k : ℕ). to_line (get_or ds k to)) back
+    ∙ ap (λ (es : List Endpoint). to_line (get_or es i to)) all
     ∙ same_Some _ _ (sym there ∙ e)
 
 -- a gate has its own line, and one for each destination
 pub length-gate_lines : (gate : GateSetup) → length (gate_lines (gate_value gate)) ≡ 1 + length gate.peers.items
-length-gate_lines gate = omega (arith, length-map gate.peers.items destination_line)
+length-gate_lines gate = omega (arith, length-map gate.peers.items to_line)
 
 -- a line of the k-th gate
 pub gate_here : (gates : List GateSetup) (k left : ℕ) (gate : GateSetup) → k < length gates → gate ≡ get_or gates k gate → left < length (gate_lines (gate_value gate))

@@ -20,8 +20,7 @@ use Rattle.lk_base.specs.declared.timeline.Timeline.{Timeline}
 use Rattle.client_state.specs.declared.commit.Commit.{Commit}
 use Rattle.link_node.specs.Config.{ConfigValue, GateValue}
 use Rattle.link_node.specs.Event.{EventValue, Rx, Tick, App, Audio, End, audio_after}
-use Rattle.link_text.specs.GateLines.{destination_line, local_line}
-use Rattle.link_text.specs.ReplayScript.{AreEventLines, AreSayable, IsEventKind, IsHead, IsHexIn, IsHexOf, commit_words, ended, event_line, event_words, gate_lines, group_line, head_lines, hex_of, hex_word, node_line, quantum_line, quantum_words, start_words, timeline_words, version_line, written_script_of}
+use Rattle.link_text.specs.ReplayScript.{AreEventLines, AreSayable, IsEventKind, IsHead, IsHexIn, IsHexOf, commit_words, ended, event_line, event_words, gate_line, gate_lines, group_line, head_lines, hex_of, hex_word, node_line, quantum_line, quantum_words, start_words, timeline_words, to_line, version_line, written_script_of}
 
 -- no byte is a line feed or below it
 abbrev pub AreAbove : List ℕ → Type 0
@@ -166,14 +165,14 @@ quantum-line quantum = record {
   counts = refl;
 }
 
-local-line : (e : Endpoint) → IsLine (local_line e)
-local-line e = record {
+gate-line : (e : Endpoint) → IsLine (gate_line e)
+gate-line e = record {
   above = joined-above (codes "gate" ∷ endpoint_text_of e ∷ []) (literal-above (codes "gate") refl, (endpoint-above e, tt));
   counts = refl;
 }
 
-destination-line : (e : Endpoint) → IsLine (destination_line e)
-destination-line e = record {
+to-line : (e : Endpoint) → IsLine (to_line e)
+to-line e = record {
   above = joined-above (codes "to" ∷ endpoint_text_of e ∷ []) (literal-above (codes "to") refl, (endpoint-above e, tt));
   counts = refl;
 }
@@ -183,8 +182,8 @@ gate-lines [] = All-nil IsLine
 gate-lines (gate ∷ gates) =
     All-same IsLine (flat_map gate_lines (gate ∷ gates)) (gate_lines gate ++ flat_map gate_lines gates) (flat_map-cons gate_lines gate gates)
     (All-append IsLine (gate_lines gate) (flat_map gate_lines gates)
-    (All-cons IsLine (local_line gate.local) (map destination_line gate.destinations) (local-line gate.local)
-    (All-map IsLine destination_line gate.destinations (λ k d lt. destination-line (get_or gate.destinations k d))))
+    (All-cons IsLine (gate_line gate.local) (map to_line gate.destinations) (gate-line gate.local)
+    (All-map IsLine to_line gate.destinations (λ k d lt. to-line (get_or gate.destinations k d))))
     (gate-lines gates))
 
 head-lines : (config : ConfigValue) (now : ℤ) → IsHead config now → All IsLine (head_lines 2 config now)

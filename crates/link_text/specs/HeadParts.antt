@@ -1,5 +1,5 @@
 -- Only for proofs: the lines of a head, one after the other.
-use Rattle.std.specs.Prelude.{◌≡◌, ◌≤◌, ◌<◌, ◌^◌, ◌⊎◌, ℕ, ℤ, pos, ◌≤ℤ◌, List, [], ◌∷◌, ◌++◌, length, map, codes, All}
+use Rattle.std.specs.Prelude.{◌≡◌, ◌≤◌, ◌<◌, ◌^◌, ◌⊎◌, ℕ, ℤ, pos, ◌≤ℤ◌, List, [], ◌∷◌, ◌++◌, length, map, All}
 use Rattle.std.specs.List.{flat_map}
 use Rattle.lk_base.specs.Endpoint.{IsEndpoint}
 use Rattle.lk_base.specs.Ranges.{IsMoment, IsQuantum}
@@ -7,16 +7,9 @@ use Rattle.lk_base.specs.declared.endpoint.Endpoint.{Endpoint}
 use Rattle.link_node.specs.Config.{ConfigValue, GateValue}
 use Rattle.link_text.specs.Lines.{lines_of, counting_in}
 use Rattle.link_text.specs.Places.{IsAhead, counting_from}
-use Rattle.link_text.specs.Words.{joined, endpoint_text_of}
-use Rattle.link_text.specs.ReplayScript.{IsVisibleId, IsGate, IsVersion, gate_lines, node_line, profile_lines, version_line}
+use Rattle.link_text.specs.ReplayScript.{IsVisibleId, IsGate, IsVersion, gate_line, gate_lines, node_line, profile_lines, to_line, version_line}
 use Rattle.link_text.specs.declared.head_read.Node.{Node}
 use Rattle.link_text.specs.declared.place.Place.{Place}
-
-abbrev pub gate_line : Endpoint → List ℕ
-gate_line e = joined (codes "gate" ∷ endpoint_text_of e ∷ [])
-
-abbrev pub to_line : Endpoint → List ℕ
-to_line e = joined (codes "to" ∷ endpoint_text_of e ∷ [])
 
 -- a script can be of these versions
 abbrev pub IsKnownVersion : ℕ → Type 0
@@ -72,7 +65,7 @@ AreFull (gate ∷ gates) rest = LacksTo (length gate.destinations) (flat_map gat
 pub record HasDestinations (lines : List (List ℕ)) (destinations : List Endpoint) (rest : List (List ℕ)) : Type 0 where
   pub each : All IsEndpoint destinations
   pub few : length destinations ≤ 32
-  pub said : lines ≡ map (λ to. to_line to) destinations ++ rest
+  pub said : lines ≡ map to_line destinations ++ rest
 
 -- the lines are those of gates with all their destinations, and then others
 pub record HasGates (lines : List (List ℕ)) (gates : List GateValue) (rest : List (List ℕ)) : Type 0 where

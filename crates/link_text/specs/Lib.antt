@@ -4,7 +4,6 @@ pub mod LineWords
 pub mod PairLine
 pub mod Line
 pub mod Spaced
-pub mod GateLines
 pub mod ReadingLine
 pub mod FirstFault
 pub mod ReplayScript
@@ -13,6 +12,7 @@ pub mod LiveHead
 pub mod ControlLine
 pub mod HexWord
 pub mod SaidEvent
+pub mod CommitWords
 pub mod EventDetails
 pub mod Places
 pub mod HeadParts

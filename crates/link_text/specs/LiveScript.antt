@@ -111,9 +111,12 @@ abbrev pub IsSomeLiveScript : List (List ℕ) → Type 0
 IsSomeLiveScript lines =
     (mpb : ℤ) × (sync : Bool) × (gates : List GateValue) × (commands : List Command) × IsLiveScript lines mpb sync gates commands
 
--- the text is no live script
-abbrev pub IsNoLiveScript : List ℕ → Type 0
-IsNoLiveScript text = faults.IsNone IsSomeLiveScript text
+-- a text says one setup at most, and one list of commands of each kind
+abbrev pub SaysOneSetup : List ℕ → Type 0
+SaysOneSetup text =
+    (m n : ℤ) (s t : Bool) (gs hs : List GateValue) (apps others : List AppCommand) (blocks further : List BlockCommand)
+    → IsLiveText text m s gs apps blocks → IsLiveText text n t hs others further
+    → (m ≡ n) × (s ≡ t) × (gs ≡ hs) × (apps ≡ others) × (blocks ≡ further)
 
 -- the first line at fault, counted from 1, those passed over among them
 abbrev pub IsFirstLiveFault : List ℕ → ℕ → Type 0

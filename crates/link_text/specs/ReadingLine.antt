@@ -79,7 +79,3 @@ IsShortMessage (Bye from ttl group) = Unit {0}
 IsShortMessage (Pong f) = Unit {0}
 IsShortMessage (OtherDiscovery kind) = Unit {0}
 IsShortMessage (OtherLink kind) = Unit {0}
-
-abbrev pub IsShortReading : Result MessageValue WireFault → Type 0
-IsShortReading (Ok m) = IsShortMessage m
-IsShortReading (Err fault) = Unit {0}

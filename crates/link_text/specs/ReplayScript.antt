@@ -5,6 +5,7 @@ use Rattle.std.specs.Fmt.{decimal, signed_decimal}
 use Rattle.hex.specs.Hex.{decode_of, encode_lower}
 use Rattle.lk_base.specs.Endpoint.{IsEndpoint}
 use Rattle.lk_base.specs.Ranges.{IsMoment}
+use Rattle.lk_base.specs.declared.endpoint.Endpoint.{Endpoint}
 use Rattle.lk_base.specs.declared.ids.NodeId.{NodeId}
 use Rattle.lk_base.specs.declared.start.ClientStart.{ClientStart}
 use Rattle.lk_base.specs.declared.timeline.Timeline.{Timeline}
@@ -60,11 +61,15 @@ profile_lines version config = if nat_eq version 1 then [] else group_line confi
 abbrev pub IsVersion : ℕ → ConfigValue → Type 0
 IsVersion version config = ((version ≡ 1) × (config.group ≡ 0) × (config.quantum ≡ pos 4_000_000)) ⊎ (version ≡ 2)
 
+abbrev pub gate_line : Endpoint → List ℕ
+gate_line local = joined (codes "gate" ∷ endpoint_text_of local ∷ [])
+
+abbrev pub to_line : Endpoint → List ℕ
+to_line to = joined (codes "to" ∷ endpoint_text_of to ∷ [])
+
 -- a gate's line, and those of its destinations
 abbrev pub gate_lines : GateValue → List (List ℕ)
-gate_lines gate =
-    joined (codes "gate" ∷ endpoint_text_of gate.local ∷ [])
-    ∷ map (λ to. joined (codes "to" ∷ endpoint_text_of to ∷ [])) gate.destinations
+gate_lines gate = gate_line gate.local ∷ map to_line gate.destinations
 
 unfoldable pub head_lines : ℕ → ConfigValue → ℤ → List (List ℕ)
 head_lines version config now =
@@ -165,9 +170,6 @@ IsNoScript text = faults.IsNone IsSomeScript text
 
 -- ---- the first line at fault
 
-abbrev pub BeginsScript : List (List ℕ) → Type 0
-BeginsScript lines = faults.Begins IsSomeScript lines
-
 abbrev pub IsFaultAt : List (List ℕ) → ℕ → Type 0
 IsFaultAt lines k = faults.IsFaultAt IsSomeScript lines k
 
@@ -188,6 +190,12 @@ pub record SaysFrom (gates audio : ℕ) (text : List ℕ) (at : ℕ) (es : List 
   pub few : gates ≤ 4
   pub within : at ≤ length text
   pub lines : AreEventLines gates audio (counting_in (lines_of (drop at text))) es
+
+-- whichever events are said from a place on, this is the first, and the others are said from the next place on
+abbrev pub IsNextEvent : List ℕ → ℕ → ℕ → EventValue → Type 0
+IsNextEvent text at next e =
+    (gates audio : ℕ) (es : List EventValue) → SaysFrom gates audio text at es
+    → (rest : List EventValue) × (es ≡ e ∷ rest) × SaysFrom gates (audio_after audio e) text next rest
 
 -- some events are said from there on
 abbrev pub SaysSome : List ℕ → ℕ → Type 0

@@ -9,6 +9,7 @@ ghost use Rattle.lk_base.specs.declared.start.ClientStart.{ClientStart};
 ghost use Rattle.lk_base.specs.declared.timeline.Timeline.{Timeline};
 ghost use Rattle.client_state.specs.Commit.{IsTidyCommit, IsTidyStart};
 ghost use Rattle.client_state.specs.declared.commit.Commit.{Commit};
+ghost use Rattle.link_text.specs.CommitWords.{LeavesQuantum, LeavesStart};
 ghost use Rattle.link_text.specs.LineWords.{words_left};
 ghost use Rattle.link_text.specs.ReplayScript.{commit_words, quantum_words, start_words, timeline_words};
 ghost use Rattle.link_text.specs.Words.{truth_text_of};
@@ -48,9 +49,7 @@ pub(crate) fn commit_of(left: &[u8]) -> Option<Commit>
 fn timeline_part(left: &[u8]) -> Option<(Option<Timeline>, &[u8])>
     ensures some { IfSome result (λ found. ForSome found.0 IsTidy
         × (words_left left.now ≡ timeline_words found.0 ++ words_left found.1.now)) }
-    ensures follows { IfSome result (λ found. (tl : Option Timeline) (start : Option ClientStart) (quantum : Option ℤ)
-        → words_left left.now ≡ timeline_words tl ++ (start_words start ++ quantum_words quantum)
-        → words_left found.1.now ≡ start_words start ++ quantum_words quantum) }
+    ensures follows { IfSome result (λ found. LeavesStart (words_left left.now) (words_left found.1.now)) }
     ensures none { IfNone result ((tl : Option Timeline) (start : Option ClientStart) (quantum : Option ℤ) → ForSome tl IsTidy
         → words_left left.now ≡ timeline_words tl ++ (start_words start ++ quantum_words quantum) → ⊥) }
 {
@@ -70,8 +69,7 @@ fn timeline_part(left: &[u8]) -> Option<(Option<Timeline>, &[u8])>
 fn start_part(left: &[u8]) -> Option<(Option<ClientStart>, &[u8])>
     ensures some { IfSome result (λ found. ForSome found.0 IsTidyStart
         × (words_left left.now ≡ start_words found.0 ++ words_left found.1.now)) }
-    ensures follows { IfSome result (λ found. (start : Option ClientStart) (quantum : Option ℤ)
-        → words_left left.now ≡ start_words start ++ quantum_words quantum → words_left found.1.now ≡ quantum_words quantum) }
+    ensures follows { IfSome result (λ found. LeavesQuantum (words_left left.now) (words_left found.1.now)) }
     ensures none { IfNone result ((start : Option ClientStart) (quantum : Option ℤ) → ForSome start IsTidyStart
         → words_left left.now ≡ start_words start ++ quantum_words quantum → ⊥) }
 {

@@ -6,8 +6,7 @@ ghost use Rattle.std.specs.List.{flat_map};
 ghost use Rattle.arrayvec.specs.ArrayVec.{array_vec_len};
 ghost use Rattle.link_text.specs.Words.{truth_text_of};
 ghost use Rattle.link_node.specs.Config.{config_value, gate_value};
-ghost use Rattle.link_text.specs.ReplayScript.{ended, gate_lines, group_line, head_lines, node_line, quantum_line, version_line};
-ghost use Rattle.link_text.specs.GateLines.{destination_line, local_line};
+ghost use Rattle.link_text.specs.ReplayScript.{ended, gate_line, gate_lines, group_line, head_lines, node_line, quantum_line, to_line, version_line};
 
 use crate::line::{LineBuf, put, put_decimal, put_endpoint, put_signed, put_truth};
 use link_node::{Config, GateSetup};
@@ -139,7 +138,7 @@ fn write_gate(line: &mut LineBuf, gate: &GateSetup, at: usize)
 
 // Puts the line of a gate's own endpoint in place of what the buffer held.
 fn write_local(line: &mut LineBuf, local: Endpoint)
-    ensures { line.new.items ≡ ended (local_line local) }
+    ensures { line.new.items ≡ ended (gate_line local) }
 {
     line.clear();
     put(line, b"gate ");
@@ -149,7 +148,7 @@ fn write_local(line: &mut LineBuf, local: Endpoint)
 
 // Puts the line of a destination in place of what the buffer held.
 fn write_destination(line: &mut LineBuf, to: Endpoint)
-    ensures { line.new.items ≡ ended (destination_line to) }
+    ensures { line.new.items ≡ ended (to_line to) }
 {
     line.clear();
     put(line, b"to ");

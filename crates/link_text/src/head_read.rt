@@ -6,10 +6,10 @@ ghost use Rattle.lk_base.specs.Endpoint.{IsEndpoint};
 ghost use Rattle.lk_base.specs.Ranges.{IsQuantum};
 ghost use Rattle.lk_base.specs.declared.endpoint.Endpoint.{Endpoint};
 ghost use Rattle.link_node.specs.Config.{ConfigValue, gate_value};
-ghost use Rattle.link_text.specs.HeadParts.{HasDestinations, HasGates, IsKnownVersion, IsNode, IsNodeLine, LacksGate, LacksTo, gate_line, plain_of, to_line};
+ghost use Rattle.link_text.specs.HeadParts.{HasDestinations, HasGates, IsKnownVersion, IsNode, IsNodeLine, LacksGate, LacksTo, plain_of};
 ghost use Rattle.link_text.specs.LineWords.{words_of};
 ghost use Rattle.link_text.specs.Places.{IsAhead, counting_from};
-ghost use Rattle.link_text.specs.ReplayScript.{group_line, node_line, quantum_line, version_line};
+ghost use Rattle.link_text.specs.ReplayScript.{gate_line, group_line, node_line, quantum_line, to_line, version_line};
 ghost use Rattle.link_text.specs.Words.{endpoint_text_of, truth_text_of};
 
 use crate::place::{Place, line_from};
@@ -33,6 +33,20 @@ pub(crate) struct Node {
     pub sync: bool,
     /// The opening moment, in microseconds.
     pub now: i64,
+}
+
+/// The next line from a place on, and the place behind it.
+pub(crate) fn next_line(text: &[u8], place: Place) -> Option<(&[u8], Place)>
+    requires { IsAhead text.now place }
+    ensures ahead { IfSome result (λ found. IsAhead text.now found.1) }
+    ensures some { IfSome result (λ found.
+        counting_from text.now place.at ≡ found.0.now ∷ counting_from text.now found.1.at) }
+    ensures none { IfNone result (counting_from text.now place.at ≡ []) }
+{
+    if place.at == text.len() {
+        return None;
+    }
+    Some(line_from(text, place))
 }
 
 /// The version that the first line of a script says.

@@ -7,7 +7,7 @@ ghost use Rattle.link_node.specs.Runs.{AreFitting};
 ghost use Rattle.link_text.specs.ControlLine.{AreControlLines};
 ghost use Rattle.link_text.specs.Lines.{lines_of};
 ghost use Rattle.link_text.specs.LiveHead.{IsFirstHeadFault, IsHeadText};
-ghost use Rattle.link_text.specs.LiveScript.{Command, IsFirstLiveFault, IsLiveScript, IsLiveText};
+ghost use Rattle.link_text.specs.LiveScript.{Command, IsFirstLiveFault, IsLiveScript, IsLiveText, SaysOneSetup};
 ghost use Rattle.link_text.specs.Load.{HasOneLoadText};
 ghost use Rattle.link_text.specs.PairLine.{IsPairLine};
 ghost use Rattle.link_text.specs.ReplayScript.{IsHead, IsScriptOf, IsFirstFault, IsNoScript, AreSayable, SaysFrom, written_script_of};
@@ -46,9 +46,7 @@ pub fn one_load_text()
 pub fn one_live_script()
     ensures script { (text : List ℕ) (m n : ℤ) (s t : Bool) (gs hs : List GateValue) (cs ds : List Command)
         → IsLiveScript (lines_of text) m s gs cs → IsLiveScript (lines_of text) n t hs ds → (m ≡ n) × (s ≡ t) × (gs ≡ hs) × (cs ≡ ds) }
-    ensures lists { (text : List ℕ) (m n : ℤ) (s t : Bool) (gs hs : List GateValue) (apps others : List AppCommand)
-        (blocks further : List BlockCommand) → IsLiveText text m s gs apps blocks → IsLiveText text n t hs others further
-        → (m ≡ n) × (s ≡ t) × (gs ≡ hs) × (apps ≡ others) × (blocks ≡ further) }
+    ensures lists { (text : List ℕ) → SaysOneSetup text }
     ensures fault { (text : List ℕ) (k j : ℕ) → IsFirstLiveFault text k → IsFirstLiveFault text j → k ≡ j }
     ensures no_fault { (text : List ℕ) (k : ℕ) (m : ℤ) (s : Bool) (gs : List GateValue) (apps : List AppCommand)
         (blocks : List BlockCommand) → IsFirstLiveFault text k → IsLiveText text m s gs apps blocks → ⊥ }

@@ -7,7 +7,7 @@ ghost use Rattle.link_text.specs.LiveScript.{Command, IsCommand, IsLiveLineFault
 ghost use Rattle.link_text.specs.Places.{IsAhead, counting_from};
 
 use crate::fault::BadLine;
-use crate::head_read::gates_from;
+use crate::head_read::{gates_from, next_line};
 use crate::live_read::{
     app_command_of, begins_command, block_command_of, is_live_version_line, setup_of,
 };
@@ -167,7 +167,7 @@ pub(crate) fn start_of(text: &[u8]) -> Result<Start, Place>
     ensures fault { IfErr result (λ place. IsStartFault text.now place.number) }
 {
     let first = first_place(text);
-    let Some(second) = version_from(text, first) else {
+    let Some(second) = behind_version(text, first) else {
         return Err(first);
     };
     let Some((mpb, sync, third)) = setup_from(text, second) else {
@@ -186,7 +186,7 @@ pub(crate) fn start_of(text: &[u8]) -> Result<Start, Place>
 }
 
 // The place behind the version line, if that is the next one.
-fn version_from(text: &[u8], place: Place) -> Option<Place>
+fn behind_version(text: &[u8], place: Place) -> Option<Place>
     requires { IsAhead text.now place }
     ensures ahead { IfSome result (IsAhead text.now) }
     ensures some { IfSome result (λ next.
@@ -194,10 +194,7 @@ fn version_from(text: &[u8], place: Place) -> Option<Place>
     ensures none { IfNone result ((rest : List (List ℕ))
         → counting_from text.now place.at ≡ live_version_line ∷ rest → ⊥) }
 {
-    if place.at == text.len() {
-        return None;
-    }
-    let (line, next) = line_from(text, place);
+    let (line, next) = next_line(text, place)?;
     if !is_live_version_line(line) {
         return None;
     }
@@ -213,13 +210,8 @@ fn setup_from(text: &[u8], place: Place) -> Option<(i64, bool, Place)>
     ensures none { IfNone result ((mpb : ℤ) (sync : Bool) (rest : List (List ℕ)) → IsTempo mpb
         → counting_from text.now place.at ≡ setup_line mpb sync ∷ rest → ⊥) }
 {
-    if place.at == text.len() {
-        return None;
-    }
-    let (line, next) = line_from(text, place);
-    let Some((mpb, sync)) = setup_of(line) else {
-        return None;
-    };
+    let (line, next) = next_line(text, place)?;
+    let (mpb, sync) = setup_of(line)?;
     Some((mpb, sync, next))
 }
 

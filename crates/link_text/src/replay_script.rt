@@ -6,13 +6,13 @@ ghost use Rattle.link_node.specs.Config.{ConfigValue, config_value};
 ghost use Rattle.link_node.specs.Event.{EventValue, event_value, audio_after};
 ghost use Rattle.link_text.specs.HeadParts.{IsFront, IsKnownVersion, IsNode, config_of, plain_of};
 ghost use Rattle.link_text.specs.Places.{AreOfVersion, HasBadEvent, IsAhead, IsOfVersion, counting_from};
-ghost use Rattle.link_text.specs.ReplayScript.{AreEventLines, IsChecked, IsEventLine, IsLineFault, IsWithoutQuantum, SaysFrom, SaysSome, group_line, node_line, quantum_line, version_line};
+ghost use Rattle.link_text.specs.ReplayScript.{AreEventLines, IsChecked, IsEventLine, IsLineFault, IsNextEvent, IsWithoutQuantum, SaysFrom, SaysSome, group_line, node_line, quantum_line, version_line};
 ghost use Rattle.link_text.specs.SaidEvent.{said_value};
 
 use crate::event_read::said_of;
 use crate::fault::BadLine;
 use crate::head::Head;
-use crate::head_read::{Node, gates_from, group_of, node_of, quantum_of, version_of};
+use crate::head_read::{Node, gates_from, group_of, next_line, node_of, quantum_of, version_of};
 use crate::place::{Place, first_place, line_from, pass};
 use crate::said_event::{SaidEvent, event_of};
 use crate::text_line::line_at;
@@ -40,8 +40,7 @@ pub fn check_replay(text: &[u8]) -> Result<Head, BadLine>
 /// stands from the place on. Memory: none.
 pub fn next_event(text: &[u8], at: &mut usize) -> Option<Event>
     requires { SaysSome text.now at.old }
-    ensures some { IfSome result (λ event. (gates audio : ℕ) (es : List EventValue) → SaysFrom gates audio text.now at.old es
-        → (rest : List EventValue) × (es ≡ event_value event ∷ rest) × SaysFrom gates (audio_after audio (event_value event)) text.now at.new rest) }
+    ensures some { IfSome result (λ event. IsNextEvent text.now at.old at.new (event_value event)) }
     ensures none { IfNone result ((gates audio : ℕ) (es : List EventValue) → SaysFrom gates audio text.now at.old es → es ≡ []) }
     ensures stays { IfNone result (at.new ≡ at.old) }
 {
@@ -149,14 +148,8 @@ fn version_from(text: &[u8], place: Place) -> Option<(u8, Place)>
     ensures none { IfNone result ((version : ℕ) (rest : List (List ℕ)) → IsKnownVersion version
         → counting_from text.now place.at ≡ version_line version ∷ rest → ⊥) }
 {
-    if place.at == text.len() {
-        return None;
-    }
-    let (line, next) = line_from(text, place);
-    let Some(version) = version_of(line) else {
-        return None;
-    };
-    Some((version, next))
+    let (line, next) = next_line(text, place)?;
+    Some((version_of(line)?, next))
 }
 
 // What the node's line says and the place behind it, if that is the next one.
@@ -168,14 +161,8 @@ fn node_from(text: &[u8], place: Place) -> Option<(Node, Place)>
     ensures none { IfNone result ((config : ConfigValue) (now : ℤ) (rest : List (List ℕ)) → IsNode config now
         → counting_from text.now place.at ≡ node_line config now ∷ rest → ⊥) }
 {
-    if place.at == text.len() {
-        return None;
-    }
-    let (line, next) = line_from(text, place);
-    let Some(node) = node_of(line) else {
-        return None;
-    };
-    Some((node, next))
+    let (line, next) = next_line(text, place)?;
+    Some((node_of(line)?, next))
 }
 
 // The group that its line says and the place behind it, if that is the next one.
@@ -187,14 +174,8 @@ fn group_from(text: &[u8], place: Place) -> Option<(u16, Place)>
     ensures none { IfNone result ((group : ℕ) (rest : List (List ℕ)) → group < 2 ^ 16
         → counting_from text.now place.at ≡ group_line group ∷ rest → ⊥) }
 {
-    if place.at == text.len() {
-        return None;
-    }
-    let (line, next) = line_from(text, place);
-    let Some(group) = group_of(line) else {
-        return None;
-    };
-    Some((group, next))
+    let (line, next) = next_line(text, place)?;
+    Some((group_of(line)?, next))
 }
 
 // The quantum that its line says and the place behind it, if that is the next one.
@@ -206,14 +187,8 @@ fn quantum_from(text: &[u8], place: Place) -> Option<(i64, Place)>
     ensures none { IfNone result ((quantum : ℤ) (rest : List (List ℕ)) → IsQuantum quantum
         → counting_from text.now place.at ≡ quantum_line quantum ∷ rest → ⊥) }
 {
-    if place.at == text.len() {
-        return None;
-    }
-    let (line, next) = line_from(text, place);
-    let Some(quantum) = quantum_of(line) else {
-        return None;
-    };
-    Some((quantum, next))
+    let (line, next) = next_line(text, place)?;
+    Some((quantum_of(line)?, next))
 }
 
 // Whether all lines from a place on say events of a version; the error is the first that says none.

@@ -29,12 +29,6 @@ abbrev pub arrived_at : ArrivalValue → ℤ
 arrived_at (Came gate from bytes now) = now
 arrived_at (Waited now) = now
 
--- the datagrams among some arrivals
-abbrev pub datagrams_in : List ArrivalValue → List ArrivalValue
-datagrams_in [] = []
-datagrams_in (Came gate from bytes now ∷ arrivals) = Came gate from bytes now ∷ datagrams_in arrivals
-datagrams_in (Waited now ∷ arrivals) = datagrams_in arrivals
-
 -- what any port answers: a datagram came on one of so many gates, and moments are moments
 abbrev pub IsAnswer : ℕ → Arrival → Type 0
 IsAnswer gates (Datagram gate from bytes now) = (gate.0 < gates) × IsMoment now

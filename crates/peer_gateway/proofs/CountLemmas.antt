@@ -20,10 +20,10 @@ use Rattle.peer_gateway.proofs.KeyLemmas.{id_from_test}
 use Rattle.peer_gateway.proofs.LimitLemmas.{first_less}
 use Rattle.peer_gateway.proofs.MemberLemmas.{all_from_has, has_from_all, has_filter, filter_has, has_map, map_has, any_same}
 
-abbrev id_order : NodeId → NodeId → Ordering
+abbrev pub id_order : NodeId → NodeId → Ordering
 id_order a b = slice_cmp nat_cmp a.0 b.0
 
-id_total : IsTotalOrder id_order
+pub id_total : IsTotalOrder id_order
 id_total = on_texts (λ (n : NodeId). n.0)
 
 -- a pass counts only ids of the session's rows
@@ -90,7 +90,7 @@ below_from Less a b = refl
 below_from Equal a b = absurd (b refl)
 below_from Greater a b = absurd (a refl)
 
-equal_test : (a b : NodeId) → id_order a b ≡ Equal → same_id a b ≡ true
+pub equal_test : (a b : NodeId) → id_order a b ≡ Equal → same_id a b ≡ true
 equal_test a b e = texts_ties a.0 b.0 ∙ ap is_eq e
 
 apart_test : (a b : NodeId) → id_order a b ≡ Less → same_id a b ≡ false

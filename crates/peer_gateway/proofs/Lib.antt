@@ -8,5 +8,6 @@ pub mod LifeLemmas
 pub mod AnswerLemmas
 pub mod PickLemmas
 pub mod CountLemmas
+pub mod AloneLemmas
 pub mod LawLemmas
 pub mod FirstLemmas

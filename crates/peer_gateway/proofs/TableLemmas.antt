@@ -274,7 +274,7 @@ split_row : (rows : List PeerRow) (i : ℕ) (old : PeerRow) → i < length rows 
 split_row rows i old l read =
     subst (λ (z : PeerRow). rows ≡ take i rows ++ z ∷ drop (suc i) rows) (sym read) (split_here rows i old l)
 
-read_found : (rows : List PeerRow) (gate : Gate) (id : NodeId) (i : ℕ) (old : PeerRow) → IsAt (order_at gate id) rows i → old ≡ get_or rows i old
+pub read_found : (rows : List PeerRow) (gate : Gate) (id : NodeId) (i : ℕ) (old : PeerRow) → IsAt (order_at gate id) rows i → old ≡ get_or rows i old
     → is_row_of gate id old ≡ true
 read_found rows gate id i old place read = ap (is_row_of gate id) read ∙ is_found rows gate id i old place
 

@@ -1,11 +1,13 @@
 //! The table of peers.
 
 mod answers;
+mod counts;
 mod limits;
 mod rows;
 
 use crate::expiry::Expiry;
-use crate::row::{PeerRow, Seen, sighted};
+use crate::peers::counts::ids_in;
+use crate::row::{PeerRow, Seen, is_same, sighted};
 use lk_base::{Endpoint, Gate, NodeId};
 use std::alloc::{AllocError, Global};
 use std::marker::Model;
@@ -24,11 +26,15 @@ pub struct Peers {
     rows: Vec<PeerRow>,
     // One for each row, in order of (limit, gate, id).
     by_limit: Vec<Expiry>,
+    // The session whose peers are counted as they come and go, and how many there are.
+    watched: NodeId,
+    in_watched: u32,
 }
 
 impl Model for Peers {
-    ghost use Rattle.std.specs.Prelude.{◌≡◌, ◌≤◌, ◌*◌, vec_capacity};
+    ghost use Rattle.std.specs.Prelude.{◌≡◌, ◌≤◌, ◌*◌, None, length, vec_capacity};
     ghost use Rattle.peer_gateway.specs.Order.{IsTable};
+    ghost use Rattle.peer_gateway.specs.Picks.{ids_counted};
     ghost use Rattle.peer_gateway.specs.Table.{Table};
 
     ghost Value = { Table };
@@ -37,7 +43,7 @@ impl Model for Peers {
 
     ghost invariant = { λ s. IsTable s.gates s.rows.items s.by_limit.items
         × (vec_capacity s.rows ≡ 128 * s.gates) × (vec_capacity s.by_limit ≡ 128 * s.gates)
-        × (s.gates ≤ 4) };
+        × (s.gates ≤ 4) × (s.in_watched ≡ length (ids_counted s.watched None s.rows.items)) };
 }
 
 impl Peers {
@@ -60,6 +66,8 @@ impl Peers {
             gates,
             rows,
             by_limit,
+            watched: NodeId([0; 8]),
+            in_watched: 0,
         })
     }
 
@@ -85,14 +93,14 @@ impl Peers {
         ensures gates { self.new.gates ≡ self.old.gates }
     {
         let row = sighted(gate, id, ttl, session, endpoint, now);
-        match rows::place_of(&self.rows, gate, &id) {
+        match self.place_of(gate, &id) {
             Ok(at) => {
-                rows::renew(&mut self.rows, &mut self.by_limit, self.gates, at, row);
+                self.renew_row(at, row);
                 Seen::Known
             }
             Err(at) => {
-                if rows::rows_on(&self.rows, gate) < ROWS {
-                    rows::add(&mut self.rows, &mut self.by_limit, self.gates, at, row);
+                if self.rows_on(gate) < ROWS {
+                    self.add_row(at, row);
                     Seen::New
                 } else {
                     Seen::TableFull
@@ -109,16 +117,9 @@ impl Peers {
         ensures unchanged { result ≡ false → self.new ≡ self.old }
         ensures gates { self.new.gates ≡ self.old.gates }
     {
-        match rows::place_of(&self.rows, gate, &id) {
+        match self.place_of(gate, &id) {
             Ok(at) => {
-                rows::end_row(
-                    &mut self.rows,
-                    &mut self.by_limit,
-                    self.gates,
-                    at,
-                    gate,
-                    &id,
-                );
+                self.end_row(at, gate, &id);
                 true
             }
             Err(_) => false,
@@ -132,7 +133,7 @@ impl Peers {
         ensures unchanged { result ≡ 0 → self.new ≡ self.old }
         ensures gates { self.new.gates ≡ self.old.gates }
     {
-        rows::end_rows(&mut self.rows, &mut self.by_limit, self.gates, now) as u32
+        self.end_rows(now)
     }
 
     /// Ends all rows.
@@ -142,6 +143,17 @@ impl Peers {
     {
         self.rows.clear();
         self.by_limit.clear();
+        self.in_watched = 0;
+    }
+
+    /// Keeps from now on how many peers there are in this session, so that `count` of it goes over no rows. No answer changes.
+    pub fn watch(&mut self, session: NodeId)
+        ensures { self.new ≡ self.old }
+    {
+        if !is_same(&self.watched, &session) {
+            self.in_watched = ids_in(&self.rows, &session);
+            self.watched = session;
+        }
     }
 
     /// When each row ends: an entry for each row, in order of limit, then gate, then id.

@@ -11,7 +11,6 @@ use Rattle.session_choice.specs.Changes.{key_of, saw_held, latest_of, held_after
 use Rattle.session_choice.specs.Keyed.{found_by, updated_by}
 use Rattle.session_choice.specs.Table.{Table, AreDistinct}
 use Rattle.session_choice.specs.declared.known.Known.{Known}
-use Rattle.session_choice.specs.declared.verdict.Saw.{Saw}
 use Rattle.session_choice.specs.declared.verdict.Saw.TheVariants.{Taken, Kept, New, Full}
 use Rattle.session_choice.proofs.DistinctLemmas.{all_updated, length-updated, distinct-updated, distinct-pushed}
 use Rattle.session_choice.proofs.Lists.{by_test, all_append}
@@ -27,9 +26,6 @@ kept_row : (known : Known) (seen : Timeline) → saw_held known seen ≡ Kept �
 kept_row known seen is =
     by_test (λ b. (if b then Taken else Kept) ≡ Kept → record known { timeline = if b then seen else known.timeline } ≡ known) (int_lt known.timeline.beat seen.beat)
     (λ _ e. cc) (λ _ _. refl) is
-
-pub kept_current : (current : Known) (seen : Timeline) (result : Saw) (new : Known) → result ≡ saw_held current seen → new ≡ held_after seen current → result ≡ Kept → new ≡ current
-kept_current current seen result new answer held is = held ∙ kept_row current seen (sym answer ∙ is)
 
 pub not_full : (current : Known) (seen : Timeline) → saw_held current seen ≡ Full → ⊥
 not_full current seen is = by_test (λ b. (if b then Taken else Kept) ≡ Full → ⊥) (int_lt current.timeline.beat seen.beat) (λ _ e. cc) (λ _ e. cc) is

@@ -1,7 +1,7 @@
 //! The triple buffer, and its calls.
 ghost use Rattle.std.specs.Prelude.{◌≡◌, ◌+◌, [], ◌∷◌, ◌<◌, length, true, IfOk, IfErr};
 ghost use Rattle.std.specs.Result.{IsOk};
-ghost use Rattle.audio_handoff.specs.Cell.{HasSameReads, HasSameRows};
+ghost use Rattle.audio_handoff.specs.Cell.{HasSameReads, HasSameRows, IsNoteOfReader, IsNoteOfWriter};
 ghost use Rattle.triple_buffer.specs.Tokens.{IsThreeRows, writing_of, reading_of, noting_of};
 
 use crate::plays::{Note, Open, Settle, Show, Tell, ThreeRows};
@@ -122,7 +122,7 @@ impl<const W: usize> StateCell<W> for Triple<W> {
     ) -> Result<TripleNote<W>, AllocError>
         requires { writer.old.seat.table_id ≡ self.now.table.shared.table_id }
         ensures made { IsOk result }
-        ensures note { IfOk result (λ note. ((noting_of note.seat.table_id note.seat.me.0).cell ≡ self.now.table.shared.table_id) × ((noting_of note.seat.table_id note.seat.me.0).number + 1 ≡ length (writing_of writer.old.seat.table_id writer.old.seat.me.0).made) × ((noting_of note.seat.table_id note.seat.me.0).seen ≡ [])) }
+        ensures note { IfOk result (λ note. IsNoteOfWriter self.now.table.shared.table_id (writing_of writer.old.seat.table_id writer.old.seat.me.0) (noting_of note.seat.table_id note.seat.me.0)) }
         ensures writer { HasSameRows (writing_of writer.old.seat.table_id writer.old.seat.me.0) (writing_of writer.new.seat.table_id writer.new.seat.me.0) }
         ensures refused { IfErr result (λ _. writing_of writer.new.seat.table_id writer.new.seat.me.0 ≡ writing_of writer.old.seat.table_id writer.old.seat.me.0) }
     {
@@ -145,7 +145,7 @@ impl<const W: usize> StateCell<W> for Triple<W> {
     ) -> Result<TripleNote<W>, AllocError>
         requires { reader.old.seat.table_id ≡ self.now.table.shared.table_id }
         ensures made { IsOk result }
-        ensures note { IfOk result (λ note. ((noting_of note.seat.table_id note.seat.me.0).cell ≡ self.now.table.shared.table_id) × ((noting_of note.seat.table_id note.seat.me.0).number ≡ (reading_of reader.old.seat.table_id reader.old.seat.me.0).number) × ((noting_of note.seat.table_id note.seat.me.0).seen ≡ (reading_of reader.old.seat.table_id reader.old.seat.me.0).seen)) }
+        ensures note { IfOk result (λ note. IsNoteOfReader self.now.table.shared.table_id (reading_of reader.old.seat.table_id reader.old.seat.me.0) (noting_of note.seat.table_id note.seat.me.0)) }
         ensures reader { HasSameReads (reading_of reader.old.seat.table_id reader.old.seat.me.0) (reading_of reader.new.seat.table_id reader.new.seat.me.0) }
         ensures refused { IfErr result (λ _. reading_of reader.new.seat.table_id reader.new.seat.me.0 ≡ reading_of reader.old.seat.table_id reader.old.seat.me.0) }
     {

@@ -36,6 +36,7 @@ impl State {
 
     /// The state in a row. Whatever the words are, it is tidy: the tempo is clamped, the quantum taken to the nearest of
     /// 0..=2^40, and every other signed number clipped to 2^60.
+    #[inline(always)]
     #[tactic(auto, unfolding(crate::specs::Words::state_of_words))]
     pub fn from_row(row: &[u64; 11]) -> State
         ensures state { result ≡ state_of_words row.now }

@@ -54,6 +54,7 @@ impl Node {
     {
         let before = self.peer_count;
         let session = self.sessions.current().session;
+        self.peers.watch(session);
         self.peer_count = self.peers.count(session);
         before > 0 && self.peer_count == 0
     }

@@ -1,14 +1,13 @@
 //! Emptying the queue.
-ghost use Rattle.std.specs.Prelude.{◌≡◌, [], true, map, MatchOption};
+ghost use Rattle.std.specs.Prelude.{◌≡◌, [], true, map};
 ghost use Rattle.crossbeam_queue.specs.Passes.{view, IsSamePass, IsPassOf};
 ghost use Rattle.lk_base.specs.Ranges.{IsMoment};
 ghost use Rattle.link_node.specs.Config.{config_value};
 ghost use Rattle.link_node.specs.Event.{event_value};
 ghost use Rattle.link_node.specs.Opening.{opened};
 ghost use Rattle.link_node.specs.Standing.{gates_of};
-ghost use Rattle.link_shared.specs.Draining.{HasDrained};
+ghost use Rattle.link_shared.specs.Draining.{HasDrained, HasDrainedOne};
 
-use super::turn::either;
 use crate::keeper::Keeper;
 use crate::name::LinkName;
 use crate::queue::{Item, Queue, QueuePass, pop_item};
@@ -58,7 +57,7 @@ pub(crate) fn drain<C: StateCell<11>, N: LinkName, R: Wait>(
             sends,
         ) {
             None => return full,
-            Some(was_full) => full = either(full, was_full),
+            Some(was_full) => full |= was_full,
         }
     }
     unreachable!()
@@ -87,10 +86,8 @@ fn drain_one<C: StateCell<11>, N: LinkName, R: Wait>(
     ensures pushed { (view pass.new).pushed ≡ (view pass.old).pushed }
     ensures opening { (keeper.new.opened_at ≡ keeper.old.opened_at) × (keeper.new.most ≡ keeper.old.most) }
     ensures config { (config_value keeper.new.node.config ≡ config_value keeper.old.node.config) × (gates_of keeper.new.node ≡ gates_of keeper.old.node) }
-    ensures drained { MatchOption result
-        (((view pass.old).pushed ≡ (view pass.old).popped) × ((view pass.new).popped ≡ (view pass.old).popped) × (map event_value keeper.new.journal.items ≡ map event_value keeper.old.journal.items))
-        (HasDrained (opened (config_value keeper.old.node.config) keeper.old.opened_at) keeper.old.most now (view pass.old).popped (view pass.new).popped
-        (map event_value keeper.old.journal.items) (map event_value keeper.new.journal.items)) }
+    ensures drained { HasDrainedOne (opened (config_value keeper.old.node.config) keeper.old.opened_at) keeper.old.most now (view pass.old) (view pass.new)
+        (map event_value keeper.old.journal.items) (map event_value keeper.new.journal.items) result }
     ensures sends { sends.new ≡ [] }
 {
     match pop_item(rt, queue, pass) {

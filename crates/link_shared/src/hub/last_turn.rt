@@ -7,7 +7,6 @@ ghost use Rattle.link_shared.specs.Ending.{HasEnded};
 use super::Hub;
 use super::drain::drain;
 use super::hearing::hear_all;
-use super::turn::either;
 use crate::desk::Desk;
 use crate::got::Ended;
 use crate::link::{AudioPass, Link};
@@ -90,7 +89,7 @@ impl<C: StateCell<11>, N: LinkName> Hub<C, N> {
         Ended {
             events,
             published,
-            full: either(either(audio_full, apps_full), end_full),
+            full: audio_full | apps_full | end_full,
         }
     }
 }

@@ -1,5 +1,5 @@
 //! One turn of the hub.
-ghost use Rattle.std.specs.Prelude.{◌≡◌, ℕ, ◌<◌, ◌||◌, slice_index};
+ghost use Rattle.std.specs.Prelude.{◌≡◌, ℕ, ◌<◌, slice_index};
 
 use crate::got::{Got, Turned};
 use crate::hub::Hub;
@@ -42,7 +42,7 @@ impl<C: StateCell<11>, N: LinkName> Hub<C, N> {
         let third = self.take_got(link, way, now, got, sends);
         Turned {
             quit: first.quit,
-            full: either(either(first.full, second), third),
+            full: first.full | second | third,
         }
     }
 
@@ -141,10 +141,3 @@ impl<C: StateCell<11>, N: LinkName> Hub<C, N> {
 fn are_bytes(bytes: &[u8])
     ensures { (i : ℕ) → slice_index bytes.now i < 256 }
 {}
-
-// Whether one of both holds.
-pub(super) fn either(one: bool, other: bool) -> bool
-    ensures { result ≡ (one || other) }
-{
-    one || other
-}

@@ -5,9 +5,8 @@ ghost use Rattle.client_state.specs.Commit.{IsTidyCommit};
 ghost use Rattle.link_node.specs.Config.{config_value};
 ghost use Rattle.link_node.specs.Event.{event_value, App, End};
 ghost use Rattle.link_node.specs.Opening.{opened};
-ghost use Rattle.link_node.specs.Runs.{replayed};
 ghost use Rattle.link_node.specs.Standing.{gates_of};
-ghost use Rattle.link_shared.specs.Hub.{read_events};
+ghost use Rattle.link_shared.specs.Hub.{IsReadOffered};
 ghost use Rattle.link_shared.specs.Journal.{IsOffered};
 
 use super::Keeper;
@@ -67,8 +66,7 @@ impl<C: StateCell<11>, N: LinkName> Keeper<C, N> {
         requires room { length sends.old + 129 ≤ 160 }
         ensures opening { (self.new.opened_at ≡ self.old.opened_at) × (self.new.most ≡ self.old.most) }
         ensures config { (config_value self.new.node.config ≡ config_value self.old.node.config) × (gates_of self.new.node ≡ gates_of self.old.node) }
-        ensures offered { IsOffered (opened (config_value self.old.node.config) self.old.opened_at) self.old.most
-            (read_events now (replayed (config_value self.old.node.config) self.old.opened_at (map event_value self.old.journal.items)).audio (read.now.number, read.now.row))
+        ensures offered { IsReadOffered (config_value self.old.node.config) self.old.opened_at self.old.most now (read.now.number, read.now.row)
             (map event_value self.old.journal.items) (map event_value self.new.journal.items) sends.old sends.new result }
         ensures sends { sends.new ≡ sends.old }
     {

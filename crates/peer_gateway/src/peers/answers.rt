@@ -1,12 +1,13 @@
 //! What a table answers of sessions, and when a row ends first.
 
-ghost use Rattle.std.specs.Prelude.{◌≡◌, ◌<◌, ◌^◌, None, length, option_map, slice_get};
+ghost use Rattle.std.specs.Prelude.{◌≡◌, option_map, slice_get};
 ghost use Rattle.std.specs.List.{find, list_any};
 ghost use Rattle.peer_gateway.specs.Answers.{is_in, target_at};
-ghost use Rattle.peer_gateway.specs.Picks.{is_answering, is_founding, is_last, is_counted, ids_counted};
+ghost use Rattle.peer_gateway.specs.Picks.{is_answering, is_founding};
 
 use crate::expiry::Expiry;
 use crate::peers::Peers;
+use crate::peers::counts::ids_in;
 use crate::row::{PeerRow, is_same};
 use lk_base::{NodeId, Target};
 
@@ -26,7 +27,11 @@ impl Peers {
     pub fn count(&self, session: NodeId) -> u32
         ensures { (life : List Happening) → StandsFor self.now life → result ≡ peers_in session life }
     {
-        ids_in(&self.rows, &session)
+        if is_same(&self.watched, &session) {
+            self.in_watched
+        } else {
+            ids_in(&self.rows, &session)
+        }
     }
 
     /// Whether a peer is in a session.
@@ -66,39 +71,6 @@ fn any_in(rows: &Vec<PeerRow>, session: &NodeId) -> bool
     ensures { result ≡ list_any (is_in session.now) rows.now.items }
 {
     rows.iter().any(|row| is_same(&row.session, session))
-}
-
-// How many ids have a row in the session. The rows of one id stand side by side.
-fn ids_in(rows: &Vec<PeerRow>, session: &NodeId) -> u32
-    requires { length rows.now.items < 2 ^ 32 }
-    ensures { result ≡ length (ids_counted session.now None rows.now.items) }
-{
-    let mut count = 0;
-    let mut last = None;
-    for row in rows.iter() {
-        if is_counted(session, &last, row) {
-            count += 1;
-            last = Some(row.id);
-        }
-    }
-    count
-}
-
-// Whether a row is in the session, and its id isn't the one that was counted last.
-fn is_counted(session: &NodeId, last: &Option<NodeId>, row: &PeerRow) -> bool
-    ensures { result ≡ is_counted session.now last.now row.now }
-{
-    is_same(&row.session, session) && !is_last(last, &row.id)
-}
-
-// Whether it was counted last.
-fn is_last(last: &Option<NodeId>, id: &NodeId) -> bool
-    ensures { result ≡ is_last last.now id.now }
-{
-    match last {
-        Some(last) => is_same(last, id),
-        None => false,
-    }
 }
 
 // The first row that is in the session and tells where it answers.

@@ -1,4 +1,4 @@
-use Rattle.std.proofs.Common.{rules, ap, ◌∙◌}
+use Rattle.std.proofs.Common.{rules, ap}
 use Rattle.std.proofs.lemmas.Nat.{be_bytes_8}
 use Rattle.client_state.proofs.words.word_of_id.Goals as goal
 

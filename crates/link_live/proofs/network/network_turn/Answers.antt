@@ -1,4 +1,4 @@
-use Rattle.std.proofs.Common.{sym, ◌∙◌, true≢false, w64}
+use Rattle.std.proofs.Common.{refl, sym, ◌∙◌, true≢false, w64}
 use Rattle.std.proofs.lemmas.Int.{to_z-of_z}
 use Rattle.link_live.proofs.LoopLemmas.{has_risen, not_failed, posts_on_gates}
 use Rattle.link_live.proofs.RunningLemmas.{run_turn}
@@ -15,7 +15,7 @@ post-line-requires g c = record {
 pub returns-clause-run : goal.returns-clause-run
 returns-clause-run g c = λ first told run.
     run_turn c.run_laws.ensures first _ _ told _ _ _ _ _ _ _ _ _ _ _ _ _ _ c.moment-opening.ensures.opening (to_z-of_z w64 _ (record { sfits = c.due-due.type_inv }) ∙ c.due-due.ensures) c.ask-got.ensures.asked c.turn-turned.ensures.turned
-    c.journal-taken.ensures.fits c.list.ensures c.post-line.ensures.posted c.either-line.ensures run
+    c.journal-taken.ensures.fits c.list.ensures c.post-line.ensures.posted refl run
 
 pub returns-clause-fails : goal.returns-clause-fails
 returns-clause-fails g c = λ works fails.

@@ -1,4 +1,4 @@
-use Rattle.std.proofs.Common.{rules, arith}
+use Rattle.std.proofs.Common.{rules}
 use Rattle.peer_gateway.proofs.NumberLemmas.{same_number}
 use Rattle.peer_gateway.proofs.row.is_same.Goals as goal
 

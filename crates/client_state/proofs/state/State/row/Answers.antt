@@ -1,4 +1,4 @@
-use Rattle.std.proofs.Common.{◌≡◌, ◌<◌, ◌^◌, rules, ap, sym, ◌∙◌}
+use Rattle.std.proofs.Common.{◌<◌, ◌^◌, rules, ap, sym, ◌∙◌}
 use Rattle.client_state.specs.Words.{id_of_word, state_of_words, words_of_state}
 use Rattle.client_state.proofs.WordLemmas.{state-again}
 use Rattle.client_state.proofs.state.State.row.Goals as goal

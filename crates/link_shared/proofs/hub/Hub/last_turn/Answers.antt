@@ -43,14 +43,14 @@ returns g c =
     record {
       ended = ended_again hub c.args.self audio c.args.audio c.args.now _ _ _ _ _ _ c.self.view_is c.audio.view_is c.settle-events.ensures.kept.0 c.settle-events.ensures.kept.1
           (has_ended hub audio c.args.now (c.settle-last.result.number, c.settle-last.result.row) (g.C.StateCell.writing c.audio.inside.writer).made
-          (map event_value end.journal.items) end.published.items (g.C.StateCell.reading desk.reader).seen (view two.new.pass).pushed desk.book.total three.new.sends c.either-2.result
+          (map event_value end.journal.items) end.published.items (g.C.StateCell.reading desk.reader).seen (view two.new.pass).pushed desk.book.total three.new.sends _
           (published_again _ _ _ _ _ _ config opening end.shown.published_are)
           (were_published_as _ _ _ c.hear_all.ensures.reader.1 c.settle-events.ensures.app)
           c.settle-events.ensures.audio
           (record {
-            offers = offers_all _ _ _ _ _ _ _ _ two.ensures.all (offers_of hub c.args.now _ _ _ _ _ _ _ _ _ _ _ _ _ _ _ _ _ _ _ _ _ _ (to_z-of_z w64 c.args.now c.ranges.now) c.clear.ensures one.ensures.sends two.ensures.sends
+            offers = offers_all _ _ _ _ _ _ _ _ two.ensures.all (offers_of hub c.args.now _ _ _ _ _ _ _ _ _ _ _ _ _ _ _ _ _ _ _ _ (to_z-of_z w64 c.args.now c.ranges.now) c.clear.ensures one.ensures.sends two.ensures.sends
                 one.ensures.config.0 one.ensures.opening.0 one.ensures.opening.1 two.ensures.config.0 two.ensures.opening.0 two.ensures.opening.1
-                (ap (λ hand. hand.popped) c.join_ends.ensures.whole) c.either.ensures c.either-2.ensures one.ensures.offered two.ensures.drained three.ensures.offered);
+                (ap (λ hand. hand.popped) c.join_ends.ensures.whole) one.ensures.offered two.ensures.drained three.ensures.offered);
             fitting = fitting_again _ _ _ gates end.fitting;
             first = first_of_view _ _ _ _ (length-map start.journal.items event_value) c.self.invariant.4;
             counted = sym (audio_stands start.node _ start.stands) ∙ start.numbered;

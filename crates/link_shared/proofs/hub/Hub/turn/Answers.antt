@@ -8,6 +8,6 @@ returns g c =
     let first : Bool = c.take_item-first.result.full in
     let second : Bool = c.take_audio-second.result in
     let third : Bool = c.take_got-third.result in record {
-      turned = turned_as _ _ _ _ _ _ _ c.either.result first second third c.either-2.result (to_z-of_z w64 c.args.now c.ranges.now) c.either.ensures c.either-2.ensures
+      turned = turned_as _ _ _ _ _ _ _ _ (to_z-of_z w64 c.args.now c.ranges.now)
           (turned _ _ _ _ _ _ _ _ _ _ _ first second third (search rules) c.take_item-first.ensures.taken c.take_audio-second.ensures.taken c.take_got-third.ensures.taken);
     }

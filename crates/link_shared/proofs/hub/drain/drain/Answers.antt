@@ -31,6 +31,6 @@ loop-preserved g c =
       pushed = e.pushed ∙ i.pushed;
       opening = (e.opening.0 ∙ i.opening.0, e.opening.1 ∙ i.opening.1);
       config = (e.config.0 ∙ i.config.0, e.config.1 ∙ i.config.1);
-      drained = drained_more _ _ _ _ _ _ _ _ _ _ _ _ _ _ _ _ i.config.0 i.opening.0 i.opening.1 c.either-full.ensures i.drained e.drained;
+      drained = drained_more _ _ _ _ _ _ _ _ _ _ _ _ _ _ _ i.config.0 i.opening.0 i.opening.1 i.drained e.drained;
       sends = e.sends;
     }

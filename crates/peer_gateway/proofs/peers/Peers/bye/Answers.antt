@@ -1,24 +1,19 @@
-use Rattle.std.proofs.Common.{sym, subst}
-use Rattle.peer_gateway.specs.Happenings.{StandsFor, said_goodbye}
-use Rattle.peer_gateway.specs.Table.{Table}
+use Rattle.std.proofs.Common.{sym}
 use Rattle.peer_gateway.proofs.AnswerLemmas.{had_found, had_none, none_left}
 use Rattle.peer_gateway.proofs.LifeLemmas.{stands_goodbye}
 use Rattle.peer_gateway.proofs.peers.Peers.bye.Goals as goal
 
 pub returns-in-Ok-clause-answer : goal.returns-in-Ok-clause-answer
 returns-in-Ok-clause-answer c life stands =
-    sym (had_found c.args.gate c.args.id _ life c.in-Ok.at (subst (λ (t : Table). StandsFor t life) (sym c.self.view_is) stands) c.in-Ok.ensures)
+    sym (had_found c.args.gate c.args.id c.args.self.now life c.in-Ok.at stands c.in-Ok.ensures.place)
 
 pub returns-in-Ok-clause-stands : goal.returns-in-Ok-clause-stands
-returns-in-Ok-clause-stands c life stands =
-    stands_goodbye c.args.gate c.args.id _ _ life (subst (λ (t : Table). StandsFor t life) (sym c.self.view_is) stands) c.end_row.ensures.ended
+returns-in-Ok-clause-stands c life stands = stands_goodbye c.args.gate c.args.id _ _ life stands c.end_row.ensures.ended
 
 pub returns-in-Err-clause-answer : goal.returns-in-Err-clause-answer
 returns-in-Err-clause-answer c life stands =
-    sym (had_none c.args.gate c.args.id _ life _ (subst (λ (t : Table). StandsFor t life) (sym c.self.view_is) stands) c.in-Err.ensures)
+    sym (had_none c.args.gate c.args.id c.args.self.now life _ stands c.in-Err.ensures.place)
 
 pub returns-in-Err-clause-stands : goal.returns-in-Err-clause-stands
 returns-in-Err-clause-stands c life stands =
-    subst (λ (t : Table). StandsFor t (said_goodbye c.args.gate c.args.id life)) c.self.view_is
-    (stands_goodbye c.args.gate c.args.id _ _ life (subst (λ (t : Table). StandsFor t life) (sym c.self.view_is) stands)
-    (none_left c.args.gate c.args.id _ _ c.in-Err.ensures))
+    stands_goodbye c.args.gate c.args.id _ _ life stands (none_left c.args.gate c.args.id _ _ c.in-Err.ensures.place)

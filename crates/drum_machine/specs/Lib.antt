@@ -1,0 +1,2 @@
+pub mod Callback
+pub mod Player

@@ -1,0 +1,33 @@
+//! The pattern on standard input.
+
+ghost use Rattle.std.specs.Prelude.{IfOk, IsErrOf};
+ghost use Rattle.lk_outside.specs.Faults.{Rose};
+ghost use Rattle.lk_outside.specs.Transfer.{ReadsWhole};
+ghost use Rattle.step_sequencer.specs.Pattern.{spelled_of};
+
+use crate::status::Status;
+use lk_outside::{InputFault, Source, read_all};
+use std::alloc::Global;
+use step_sequencer::{Pattern, read_pattern};
+
+/// How many bytes are read at most.
+const MOST_BYTES: usize = 4_096;
+
+/// The pattern that the source gives as a whole, or why there is none.
+///
+/// Waits: in the source. Memory: the text.
+pub fn read_input<S: Source>(alloc: Global, input: &mut S) -> Result<Pattern, Status>
+    ensures pattern { IfOk result (λ pattern. ReadsWhole (S.left input.old) (spelled_of pattern) (S.left input.new)) }
+    ensures failed { IsErrOf result Status.Input → Rose (S.faults input.old) (S.faults input.new) }
+{
+    let text = match read_all(alloc, input, MOST_BYTES) {
+        Ok(text) => text,
+        Err(InputFault::Failed) => return Err(Status::Input),
+        Err(InputFault::TooLong) => return Err(Status::TooLong),
+        Err(InputFault::Memory(_)) => return Err(Status::Memory),
+    };
+    match read_pattern(&text) {
+        Ok(pattern) => Ok(pattern),
+        Err(fault) => Err(Status::Pattern { line: fault.line }),
+    }
+}

@@ -1,0 +1,121 @@
+//! A drum machine that embeds the runtime: a pattern of 16 steps, on the beat of a session and at its tempo.
+//!
+//! In reading order: `callback` (the audio callback, and an edit of its own); `rehearsal` (four bars in memory, in one thread), `score`
+//! (what it tells); `player` (the loop of the audio thread), `sides` (that loop beside the network's), `session` (both over one link, and
+//! its end); last `words`, `input` and `status`.
+#![tactic(auto)]
+
+mod callback;
+mod input;
+mod player;
+mod rehearsal;
+mod score;
+mod session;
+mod sides;
+mod status;
+mod words;
+
+use crate::input::read_input;
+use crate::rehearsal::rehearse;
+use crate::session::{Devices, EVENTS, QUANTUM, play_session};
+use crate::status::Status;
+use crate::words::{Words, read_words};
+use link_adapters::{About, BehindName, ClickAudio, HostClock, StdSink, StdSource, UdpPort};
+use std::alloc::Global;
+use std::env;
+use std::io::{ErrorKind, Write};
+use std::net::Net;
+use std::process::ExitCode;
+use std::sync::Wait;
+use std::time::{Clock, SystemTime, UNIX_EPOCH};
+use step_sequencer::Pattern;
+
+// Without words it rehearses, and with words it joins the network. Either way the pattern comes on standard input.
+fn main(rt: HostRuntime) -> ExitCode {
+    let status = match asked(&rt) {
+        Ok((Words::Rehearsal, pattern)) => {
+            rehearse(&rt, rt.alloc(), pattern, &mut StdSink::new(rt.stdout()))
+        }
+        // What is sent to another thread stands on the runtime itself here, and not on a type parameter for it.
+        Ok((Words::Session(setup), pattern)) => {
+            match devices_of(
+                rt,
+                rt.alloc(),
+                setup.blocks,
+                rt.stdout(),
+                rt.stderr(),
+                rt.stderr(),
+            ) {
+                Ok(mut devices) => {
+                    let status = play_session(&rt, rt.alloc(), setup, pattern, &mut devices);
+                    devices.port.tell_refused();
+                    status
+                }
+                Err(status) => status,
+            }
+        }
+        Err(status) => status,
+    };
+    if status != Status::Done {
+        let _printed = eprintln!(rt; "drum_machine: {status}");
+    }
+    ExitCode::from(status.number())
+}
+
+// What the words ask for, and the pattern.
+fn asked(rt: &HostRuntime) -> Result<(Words, Pattern), Status> {
+    let words = words_of(rt)?;
+    let pattern = read_input(rt.alloc(), &mut StdSource::new(rt.stdin()))?;
+    Ok((words, pattern))
+}
+
+// What the words behind the program's name ask for.
+fn words_of(rt: &HostRuntime) -> Result<Words, Status> {
+    let behind = (BehindName { all: rt }, rt.alloc());
+    let Ok(args) = env::args(&behind) else {
+        return Err(Status::Words);
+    };
+    match args.collect::<Vec<String>>(rt.alloc()) {
+        Ok(words) => read_words(&words).ok_or(Status::Words),
+        Err(_) => Err(Status::Memory),
+    }
+}
+
+// The real things: sockets, and an audio device that asks for blocks by the machine's clock. The sound is written to `sound`, the MIDI
+// clock beside it to `midi`. The seed is the nanoseconds since 1970.
+fn devices_of<R: Net + Wait + Clock + Eprint + Copy + Drop, W: Write + Drop, E: Write + Drop>(
+    rt: R,
+    alloc: Global,
+    blocks: u32,
+    sound: W,
+    midi: E,
+    clicks: E,
+) -> Result<Devices<UdpPort<R>, ClickAudio<E, R>, StdSink<W>, StdSink<E>>, Status> {
+    let (Ok(clock), Ok(now)) = (HostClock::started(&rt), SystemTime::now(&rt)) else {
+        return Err(Status::Audio);
+    };
+    let about = About {
+        command: "drums",
+        blocks: Some(u64::from(blocks)),
+        events: EVENTS,
+        quantum: QUANTUM.unsigned_abs(),
+        group: 0,
+    };
+    let port = match UdpPort::new(rt, alloc, clock, about) {
+        Ok(port) => port,
+        Err(error) if error.kind() == ErrorKind::OutOfMemory => return Err(Status::Memory),
+        Err(_) => return Err(Status::Network),
+    };
+    let (Ok(opened_at), Ok(audio)) = (clock.moment(&rt), ClickAudio::new(clicks, rt, clock)) else {
+        return Err(Status::Audio);
+    };
+    let since = now.duration_since(UNIX_EPOCH).unwrap_or_default();
+    Ok(Devices {
+        seed: u64::try_from(since.as_nanos()).unwrap_or(u64::MAX),
+        opened_at,
+        port,
+        audio,
+        sound: StdSink::new(sound),
+        midi: StdSink::new(midi),
+    })
+}

@@ -1,0 +1,192 @@
+//! A rehearsal: four bars over a node in memory, in one thread, so that each run prints the same. It begins with 120 beats a minute; its
+//! own callback starts to play and goes over to 128 in the third bar, and a peer to 150 in the fourth.
+
+ghost use Rattle.std.specs.Prelude.{◌≡◌, ◌≤◌, ◌<◌, ◌+◌, ◌^◌, length};
+ghost use Rattle.lk_base.specs.Ranges.{IsMoment};
+ghost use Rattle.client_state.specs.State.{IsTidyState};
+ghost use Rattle.link_node.specs.Config.{config_value, IsConfig};
+ghost use Rattle.link_shared.specs.Hub.{IsOnGate};
+
+use crate::callback::{BLOCK_LENGTH, Change, Drums, FRAMES, callback, edit};
+use crate::score::Score;
+use crate::session::QUANTUM;
+use crate::status::Status;
+use arrayvec::ArrayVec;
+use asdp_messages::write_alive;
+use audio_handoff::StateCell;
+use link_midi::MidiEvents;
+use link_node::{Config, GateSetup, Sends};
+use link_payload::PeerFields;
+use link_shared::{AudioPass, Got, Link, LinkName, Opened, Parts};
+use lk_base::{Endpoint, Gate, IdSource, NodeId, SessionStart, Timeline};
+use lk_outside::Sink;
+use std::alloc::Global;
+use std::marker::Brand;
+use std::sync::Wait;
+use step_sequencer::{Pattern, Samples};
+use triple_buffer::Triple;
+
+/// When the node opens and the first block begins, in microseconds. It is later than 0: of two starts the one that was set later counts,
+/// and a node opens with one that was set at 0.
+const OPENED_AT: i64 = 1_000_000;
+
+/// The last block of the fourth bar; in the next one the fifth begins.
+const LAST_BLOCK: u32 = 372;
+
+/// How many events there can be: one that comes for each block, the commits, and the end.
+const EVENTS: u64 = 512;
+
+/// The block with which the third bar begins, after 4 seconds.
+const THIRD_BAR: u32 = 200;
+
+/// The block in which the fourth bar begins, after 5.86 seconds and a little.
+const FOURTH_BAR: u32 = 293;
+
+/// What the peer tells: from then on, where the session is at the beat 11.968, it goes on at 150 beats a minute. This beat origin is
+/// greater than the session's, the beat 8 at which the tempo was set. The time is ghost time, which counts from where the session was
+/// founded.
+const PEERS_TIMELINE: Timeline = Timeline {
+    mpb: 400_000,
+    beat: 11_968_000,
+    time: 5_860_000,
+};
+
+const PEERS_ENDPOINT: Endpoint = Endpoint {
+    addr: 0x7f00_0001,
+    port: 20_809,
+};
+
+/// Rehearses four bars of a pattern, and writes a line for each step that begins, one where the tempo shown has changed, and last how many
+/// steps and MIDI events there were.
+pub fn rehearse<R: Wait, K: Sink>(rt: &R, alloc: Global, pattern: Pattern, out: &mut K) -> Status {
+    let config = config_of_one();
+    let session = config.id;
+    let Ok(parts) = Parts::<Triple<11>>::new(alloc, &(), &config, OPENED_AT, EVENTS) else {
+        return Status::Memory;
+    };
+    let Ok(sends) = Sends::new(alloc) else {
+        return Status::Memory;
+    };
+    if rehearse_bars::<Brand, R, K>(rt, parts, session, sends, pattern, out) {
+        Status::Done
+    } else {
+        Status::Output
+    }
+}
+
+// A node that founds its session with 120 beats a minute, and has one gate.
+fn config_of_one() -> Config
+    ensures config { IsConfig (config_value result) }
+    ensures gates { length (config_value result).gates ≡ 1 }
+{
+    let mut gates = ArrayVec::new();
+    gates.push(GateSetup {
+        local: Endpoint {
+            addr: 0x7f00_0001,
+            port: 20_808,
+        },
+        peers: ArrayVec::new(),
+    });
+    Config {
+        id: IdSource::new(1, 1).draw(),
+        seed: 1,
+        mpb: 500_000,
+        sync: true,
+        group: 0,
+        quantum: QUANTUM,
+        gates,
+    }
+}
+
+// For each block a turn of the hub, the edit that is due, and the callback. Answers whether all lines were written.
+fn rehearse_bars<N: LinkName, R: Wait, K: Sink>(
+    rt: &R,
+    parts: Parts<Triple<11>>,
+    session: NodeId,
+    mut sends: Sends,
+    pattern: Pattern,
+    out: &mut K,
+) -> bool
+    requires cells { (parts.app_states ≡ N.app_states) × (parts.audio_states ≡ N.audio_states) × (parts.audio_commits ≡ N.audio_commits) }
+    requires queue { parts.queue ≡ N.queue }
+    requires ledger { (parts.ledger ≡ N.name) × (parts.shares ≡ N.parts) × (N.whole ≡ N.parts) }
+    requires gates { length parts.config.gates ≡ 1 }
+{
+    let Opened {
+        link,
+        mut hub,
+        audio: mut pass,
+        app,
+    } = Link::<Triple<11>, N>::make(parts);
+    let mut drums = Drums::new(pattern, OPENED_AT);
+    let mut samples = Samples::new();
+    let mut midi = MidiEvents::new();
+    let mut score = Score::new();
+    let mut written = true;
+    let mut block = 0;
+    while block <= LAST_BLOCK && written {
+        let now = start_of(block);
+        let first = block * FRAMES;
+        let _turned = hub.turn(rt, &link, &(), now, got_at(block, session), &mut sends);
+        edit_due(&link, &mut pass, block, now);
+        let capture = callback(&link, &mut pass, &mut drums, first, &mut samples, &mut midi);
+        written = score.tell_block(&capture, &drums, first, midi.len(), out);
+        block += 1;
+    }
+    let now = start_of(block);
+    hub.hand_in(app);
+    let _ended = hub.last_turn(rt, link, &(), pass, now, &mut sends);
+    written && score.tell_done(out)
+}
+
+// The host time at which a block begins.
+fn start_of(block: u32) -> i64
+    requires { block ≤ 373 }
+    ensures { IsMoment result }
+{
+    OPENED_AT + i64::from(block) * BLOCK_LENGTH
+}
+
+// The own edits: it plays as of the first block, and is faster from the third bar on. Waits: no. Memory: none.
+fn edit_due<C: StateCell<11, Way = ()>, N: LinkName>(
+    link: &Link<C, N>,
+    pass: &mut AudioPass<C, N>,
+    block: u32,
+    now: i64,
+)
+    requires moment { IsMoment now }
+    requires room { length pass.old.made + 1 < 2 ^ 60 }
+    ensures { length pass.new.made ≤ length pass.old.made + 1 }
+{
+    let change = match block {
+        0 => Change::Play,
+        THIRD_BAR => Change::Tempo(468_750),
+        _ => return,
+    };
+    let capture = link.capture_audio(&(), pass);
+    edit(link, pass, &capture, change, now);
+}
+
+// What comes before a block: time, and once the alive of a peer in this session.
+fn got_at(block: u32, session: NodeId) -> Got
+    ensures { IsOnGate 1 result }
+{
+    if block != FOURTH_BAR {
+        return Got::Tick;
+    }
+    let fields = PeerFields {
+        timeline: PEERS_TIMELINE,
+        session,
+        start: SessionStart {
+            playing: false,
+            beats: 0,
+            stamp: 0,
+        },
+        endpoint: Some(PEERS_ENDPOINT),
+    };
+    Got::Datagram {
+        gate: Gate(0),
+        from: PEERS_ENDPOINT,
+        bytes: write_alive(NodeId(*b"the peer"), 0, &fields),
+    }
+}

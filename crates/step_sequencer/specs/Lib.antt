@@ -1,0 +1,5 @@
+pub mod Frames
+pub mod Steps
+pub mod Pattern
+pub mod Sound
+pub mod Wav
