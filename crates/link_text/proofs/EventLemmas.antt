@@ -20,12 +20,13 @@ use Rattle.lk_base.specs.declared.start.ClientStart.{ClientStart}
 use Rattle.lk_base.specs.declared.timeline.Timeline.{Timeline}
 use Rattle.client_state.specs.Commit.{IsTidyCommit, IsTidyStart}
 use Rattle.client_state.specs.declared.commit.Commit.{Commit}
-use Rattle.link_node.specs.Event.{EventValue, Rx, Tick, App, Audio, End, moment_of, event_value}
-use Rattle.link_node.specs.declared.event.Event.{Event}
+use Rattle.link_node.specs.Event.{EventValue, Rx, Tick, App, Audio, End, moment_of}
 use Rattle.link_text.specs.Words.{joined, dotted, truth_text_of, endpoint_text_of}
 use Rattle.link_text.specs.EventDetails.{kind_of, details_of, SaysDetails}
 use Rattle.link_text.specs.LineWords.{words_of}
 use Rattle.link_text.specs.ReplayScript.{event_words, commit_words, timeline_words, start_words, quantum_words, IsHexOf, IsHexIn, IsEventKind, IsEventLine}
+use Rattle.link_text.specs.SaidEvent.{said_value}
+use Rattle.link_text.specs.declared.said_event.SaidEvent.{SaidEvent}
 use Rattle.link_text.proofs.NumberLemmas.{decimal_lacks, stored}
 use Rattle.link_text.proofs.LineWordLemmas.{words_cut, words_last, words_some}
 
@@ -251,19 +252,19 @@ to_line gates audio line kind now words e is moment says =
     says_event gates audio line says.hex e (subst IsMoment (sym says.moment_is) moment) says.range says.hex_is
     (is ∙ cc (says.kind_is, says.moment_is, says.words_are))
 
-pub some_line : (gates audio : ℕ) (line kind wanted : List ℕ) (now : ℤ) (words left : List (List ℕ)) (r : Option Event)
+pub some_line : (gates audio : ℕ) (line kind wanted : List ℕ) (now : ℤ) (words left : List (List ℕ)) (r : Option SaidEvent)
     → words_of line ≡ kind ∷ left → left ≡ signed_decimal now ∷ words → IsMoment now → kind ≡ wanted
-    → IfSome r (λ event. SaysDetails gates audio wanted now words (event_value event))
-    → IfSome r (λ event. IsEventLine gates audio line (event_value event))
-some_line gates audio line kind wanted now words left (Some event) is rest moment same says =
-    to_line gates audio line wanted now words (event_value event) (cc (is, rest, same)) moment says
+    → IfSome r (λ said. SaysDetails gates audio wanted now words (said_value said))
+    → IfSome r (λ said. IsEventLine gates audio line (said_value said))
+some_line gates audio line kind wanted now words left (Some said) is rest moment same says =
+    to_line gates audio line wanted now words (said_value said) (cc (is, rest, same)) moment says
 some_line gates audio line kind wanted now words left None is rest moment same says = tt
 
-pub none_line : (gates audio : ℕ) (line kind wanted : List ℕ) (now : ℤ) (words left : List (List ℕ)) (r : Option Event) → gates ≤ 2 ^ 64
+pub none_line : (gates audio : ℕ) (line kind wanted : List ℕ) (now : ℤ) (words left : List (List ℕ)) (r : Option SaidEvent) → gates ≤ 2 ^ 64
     → words_of line ≡ kind ∷ left → left ≡ signed_decimal now ∷ words → IsMoment now → kind ≡ wanted
     → IfNone r ((e : EventValue) → SaysDetails gates audio wanted now words e → ⊥)
     → IfNone r ((e : EventValue) → IsEventLine gates audio line e → ⊥)
-none_line gates audio line kind wanted now words left (Some event) few is rest moment same none = tt
+none_line gates audio line kind wanted now words left (Some said) few is rest moment same none = tt
 none_line gates audio line kind wanted now words left None few is rest moment same none = λ e says.
     none e (of_line gates audio line wanted now words e few (cc (is, rest, same)) moment says)
 
@@ -316,10 +317,10 @@ pub moment_stored : (n : ℤ) → IsMoment n → to_z w64 (of_z w64 n) ≡ n
 moment_stored n m = stored n (2 ^ 55) m.0 m.1 (omega arith)
 
 -- what is said for every number is said for one
-pub some_at : {A : Type 0} (P : A → Event → Type 0) (a : A) (r : Option Event) → IfSome r (λ event. (x : A) → P x event) → IfSome r (P a)
-some_at P a (Some event) h = h a
+pub some_at : {A : Type 0} (P : A → SaidEvent → Type 0) (a : A) (r : Option SaidEvent) → IfSome r (λ said. (x : A) → P x said) → IfSome r (P a)
+some_at P a (Some said) h = h a
 some_at P a None h = tt
 
-pub none_at : {A : Type 0} (P : A → Type 0) (a : A) (r : Option Event) → IfNone r ((x : A) → P x) → IfNone r (P a)
-none_at P a (Some event) h = tt
+pub none_at : {A : Type 0} (P : A → Type 0) (a : A) (r : Option SaidEvent) → IfNone r ((x : A) → P x) → IfNone r (P a)
+none_at P a (Some said) h = tt
 none_at P a None h = h a

@@ -38,7 +38,7 @@ pub(crate) enum SaidEvent<'a> {
 /// The event itself.
 pub(crate) fn event_of(said: SaidEvent<'_>) -> Event
     requires { HasHex said }
-    ensures { event_value result ≡ said_value said }
+    ensures { event_value result ≡ said_value said.entry }
 {
     match said {
         SaidEvent::Rx {

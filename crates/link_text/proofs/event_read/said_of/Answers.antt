@@ -1,10 +1,11 @@
 use Rattle.std.proofs.Common.{arith, codes, ℕ}
-use Rattle.link_node.specs.Event.{EventValue, event_value}
-use Rattle.link_node.specs.declared.event.Event.{Event}
+use Rattle.link_node.specs.Event.{EventValue}
 use Rattle.link_text.specs.EventDetails.{SaysDetails}
 use Rattle.link_text.specs.LineWords.{words_left}
+use Rattle.link_text.specs.SaidEvent.{said_value}
+use Rattle.link_text.specs.declared.said_event.SaidEvent.{SaidEvent}
 use Rattle.link_text.proofs.EventLemmas.{no_moment, some_line, none_line, of_line, to_line, no_more_words, no_kind, only_tick, only_end, moment_stored, some_at, none_at}
-use Rattle.link_text.proofs.event_read.event_of.Goals as goal
+use Rattle.link_text.proofs.event_read.said_of.Goals as goal
 
 pub returns-in_default-clause-none : goal.returns-in_default-clause-none
 returns-in_default-clause-none c = λ e says.
@@ -14,7 +15,7 @@ pub returns-then-is_word-clause-some : goal.returns-then-is_word-clause-some
 returns-then-is_word-clause-some c =
     some_line c.args.gates c.args.audio c.args.line.now _ (codes "rx") c.in-Some.now _ _ c.arrival_of.result c.first_word.ensures c.in-Some.ensures.some.1 c.in-Some.ensures.some.0
     (c.is_word.ensures.0 c.if-is_word.true)
-    (some_at (λ (x : ℕ) (event : Event). SaysDetails c.args.gates x (codes "rx") c.in-Some.now (words_left c.in-Some.left.now) (event_value event)) c.args.audio c.arrival_of.result (rw (moment_stored c.in-Some.now c.in-Some.ensures.some.0) at c.arrival_of.ensures.some))
+    (some_at (λ (x : ℕ) (said : SaidEvent). SaysDetails c.args.gates x (codes "rx") c.in-Some.now (words_left c.in-Some.left.now) (said_value said)) c.args.audio c.arrival_of.result (rw (moment_stored c.in-Some.now c.in-Some.ensures.some.0) at c.arrival_of.ensures.some))
 
 pub returns-then-is_word-clause-none : goal.returns-then-is_word-clause-none
 returns-then-is_word-clause-none c =
@@ -26,7 +27,7 @@ pub returns-then-is_word-2-clause-some : goal.returns-then-is_word-2-clause-some
 returns-then-is_word-2-clause-some c =
     some_line c.args.gates c.args.audio c.args.line.now _ (codes "app") c.in-Some.now _ _ c.app_of.result c.first_word.ensures c.in-Some.ensures.some.1 c.in-Some.ensures.some.0
     (c.is_word-2.ensures.0 c.if-is_word-2.true)
-    (some_at (λ (x : ℕ) (event : Event). SaysDetails c.args.gates x (codes "app") c.in-Some.now (words_left c.in-Some.left.now) (event_value event)) c.args.audio c.app_of.result (some_at (λ (y : ℕ) (event : Event). (x : ℕ) → SaysDetails y x (codes "app") c.in-Some.now (words_left c.in-Some.left.now) (event_value event)) c.args.gates c.app_of.result (rw (moment_stored c.in-Some.now c.in-Some.ensures.some.0) at c.app_of.ensures.some)))
+    (some_at (λ (x : ℕ) (said : SaidEvent). SaysDetails c.args.gates x (codes "app") c.in-Some.now (words_left c.in-Some.left.now) (said_value said)) c.args.audio c.app_of.result (some_at (λ (y : ℕ) (said : SaidEvent). (x : ℕ) → SaysDetails y x (codes "app") c.in-Some.now (words_left c.in-Some.left.now) (said_value said)) c.args.gates c.app_of.result (rw (moment_stored c.in-Some.now c.in-Some.ensures.some.0) at c.app_of.ensures.some)))
 
 pub returns-then-is_word-2-clause-none : goal.returns-then-is_word-2-clause-none
 returns-then-is_word-2-clause-none c =
@@ -38,7 +39,7 @@ pub returns-then-is_word-3-clause-some : goal.returns-then-is_word-3-clause-some
 returns-then-is_word-3-clause-some c =
     some_line c.args.gates c.args.audio c.args.line.now _ (codes "audio") c.in-Some.now _ _ c.audio_of.result c.first_word.ensures c.in-Some.ensures.some.1 c.in-Some.ensures.some.0
     (c.is_word-3.ensures.0 c.if-is_word-3.true)
-    (some_at (λ (x : ℕ) (event : Event). SaysDetails x c.args.audio (codes "audio") c.in-Some.now (words_left c.in-Some.left.now) (event_value event)) c.args.gates c.audio_of.result (rw (moment_stored c.in-Some.now c.in-Some.ensures.some.0) at c.audio_of.ensures.some))
+    (some_at (λ (x : ℕ) (said : SaidEvent). SaysDetails x c.args.audio (codes "audio") c.in-Some.now (words_left c.in-Some.left.now) (said_value said)) c.args.gates c.audio_of.result (rw (moment_stored c.in-Some.now c.in-Some.ensures.some.0) at c.audio_of.ensures.some))
 
 pub returns-then-is_word-3-clause-none : goal.returns-then-is_word-3-clause-none
 returns-then-is_word-3-clause-none c =
