@@ -3,3 +3,4 @@ pub mod Steps
 pub mod Pattern
 pub mod Sound
 pub mod Wav
+pub mod Reading

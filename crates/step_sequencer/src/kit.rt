@@ -97,8 +97,9 @@ impl Kit {
         ensures ages { self.new ≡ ages_from pattern.now state.now origin self.old first count }
     {
         samples.clear();
-        for frame in first..first + count {
-            samples.push(self.frame(pattern, state, origin, frame).sample);
+        for k in 0..count {
+            let sounded = self.frame(pattern, state, origin, first + k);
+            samples.push(sounded.sample);
         }
     }
 

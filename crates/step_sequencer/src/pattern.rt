@@ -1,7 +1,8 @@
 //! Patterns of 16 steps, and their text.
 
-ghost use Rattle.std.specs.Prelude.{◌≡◌, IfOk, IfErr};
-ghost use Rattle.step_sequencer.specs.Pattern.{spelled_of, IsFaultAt};
+ghost use Rattle.std.specs.Prelude.{◌≡◌, ◌≢◌, ℕ, Bool, List, ◌++◌, IfSome, IfNone, IfOk, IfErr};
+ghost use Rattle.step_sequencer.specs.Pattern.{mark_of, spelled_of, LacksRow, IsFaultAt};
+ghost use Rattle.step_sequencer.specs.Reading.{IsRowOf, AreMarksOf, LacksMarks};
 
 /// What each voice does at the 16 steps: whether it is struck.
 #[derive(Clone, Copy, Debug, PartialEq, Eq)]
@@ -51,43 +52,73 @@ pub fn read_pattern(text: &[u8]) -> Result<Pattern, PatternFault>
     ensures read { IfOk result (λ pattern. text.now ≡ spelled_of pattern) }
     ensures fault { IfErr result (λ fault. IsFaultAt text.now fault.line) }
 {
-    let Some(kick) = read_row(text, b"kick ") else {
-        return fault(1);
+    let Some(first) = read_row(text, b"kick") else {
+        return Err(PatternFault { line: 1 });
     };
-    let text = &text[22..];
-    let Some(snare) = read_row(text, b"snare ") else {
-        return fault(2);
+    let Some(second) = read_row(first.rest, b"snare") else {
+        return Err(PatternFault { line: 2 });
     };
-    let text = &text[23..];
-    let Some(hat) = read_row(text, b"hat ") else {
-        return fault(3);
+    let Some(third) = read_row(second.rest, b"hat") else {
+        return Err(PatternFault { line: 3 });
     };
-    if text.len() > 21 {
-        return fault(4);
+    if !third.rest.is_empty() {
+        return Err(PatternFault { line: 4 });
     }
+    let kick = first.marks;
+    let snare = second.marks;
+    let hat = third.marks;
     Ok(Pattern { kick, snare, hat })
 }
 
-fn fault(line: u8) -> Result<Pattern, PatternFault> {
-    Err(PatternFault { line })
+// The marks of a row, and what follows it.
+#[derive(Clone, Copy)]
+struct Row<'a> {
+    marks: [bool; 16],
+    rest: &'a [u8],
 }
 
-fn read_row(text: &[u8], name: &[u8]) -> Option<[bool; 16]> {
-    let marks = text.strip_prefix(name)?;
-    if marks.len() < 17 || marks[16] != b'\n' {
+// The row of this name at the front of a text.
+fn read_row<'a>(text: &'a [u8], name: &[u8]) -> Option<Row<'a>>
+    ensures some { IfSome result (λ row. IsRowOf name.now text.now row.marks row.rest.now) }
+    ensures none { IfNone result (LacksRow name.now text.now) }
+{
+    let spaced = after(text, name)?;
+    let marked = after(spaced, b" ")?;
+    let marks = read_marks(marked)?;
+    let rest = after(&marked[16..], b"\n")?;
+    Some(Row { marks, rest })
+}
+
+// What stands after a prefix of a text.
+fn after<'a>(text: &'a [u8], prefix: &[u8]) -> Option<&'a [u8]>
+    ensures some { IfSome result (λ rest. text.now ≡ prefix.now ++ rest.now) }
+    ensures none { IfNone result ((rest : List ℕ) → text.now ≢ prefix.now ++ rest) }
+{
+    text.strip_prefix(prefix)
+}
+
+// The 16 marks at the front of a text.
+fn read_marks(text: &[u8]) -> Option<[bool; 16]>
+    ensures some { IfSome result (AreMarksOf text.now) }
+    ensures none { IfNone result (LacksMarks text.now) }
+{
+    if text.len() < 16 {
         return None;
     }
-    read_marks(&marks[..16])
-}
-
-fn read_marks(text: &[u8]) -> Option<[bool; 16]> {
     let mut marks = [false; 16];
     for k in 0..16 {
-        match text[k] {
-            b'x' => marks[k] = true,
-            b'.' => {}
-            _ => return None,
-        }
+        marks[k] = read_mark(text[k])?;
     }
     Some(marks)
+}
+
+fn read_mark(byte: u8) -> Option<bool>
+    ensures some { IfSome result (λ struck. byte ≡ mark_of struck) }
+    ensures none { IfNone result ((struck : Bool) → byte ≢ mark_of struck) }
+{
+    match byte {
+        b'x' => Some(true),
+        b'.' => Some(false),
+        _ => None,
+    }
 }

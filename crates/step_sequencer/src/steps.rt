@@ -1,11 +1,12 @@
 //! The steps that begin in frames.
 
-ghost use Rattle.std.specs.Prelude.{◌≡◌, ◌+◌, ◌^◌, ◌<◌, ◌≤◌, Bool};
+ghost use Rattle.std.specs.Prelude.{◌≡◌, ◌+◌, ◌^◌, ◌<◌, ◌≤◌, ◌++◌, length};
 ghost use Rattle.lk_base.specs.Ranges.{IsMoment, IsWithinLimit};
 ghost use Rattle.lk_base.specs.Timeline.{IsTidy};
 ghost use Rattle.client_state.specs.State.{IsTidyState};
+ghost use Rattle.step_sequencer.specs.Frames as frames_spec;
 ghost use Rattle.step_sequencer.specs.Steps as spec;
-ghost use Rattle.step_sequencer.specs.Steps.{struck_from};
+ghost use Rattle.step_sequencer.specs.Steps.{hits_of, struck_from};
 
 use crate::frames::frame_time;
 use arrayvec::ArrayVec;
@@ -49,16 +50,23 @@ pub fn step_in(state: &State, origin: i64, frame: u32) -> Option<i64>
     requires frame { frame < 2 ^ 31 }
     ensures { result ≡ spec.step_in state.now origin frame }
 {
-    let end = frame_time(origin, frame + 1) - 1;
+    let end = before(origin, frame + 1);
     if !plays_at(state, end) {
         return None;
     }
+    let last = step_at(&state.timeline, before(origin, frame));
     let step = step_at(&state.timeline, end);
-    if step_at(&state.timeline, frame_time(origin, frame) - 1) < step {
-        Some(step)
-    } else {
-        None
-    }
+    if last < step { Some(step) } else { None }
+}
+
+// The last microsecond before a frame.
+#[tactic(auto, unfolding(crate::specs::Frames::frame_time))]
+fn before(origin: i64, frame: u32) -> i64
+    requires { IsMoment origin }
+    ensures value { result ≡ frames_spec.before origin frame }
+    ensures within { IsWithinLimit result }
+{
+    frame_time(origin, frame) - 1
 }
 
 #[tactic(auto, unfolding(crate::specs::Steps::plays_at))]
@@ -79,10 +87,21 @@ pub fn steps_begun(state: &State, origin: i64, first: u32, count: u32) -> Hits
     ensures { result.items ≡ struck_from state.now origin first count }
 {
     let mut hits = Hits::new();
-    for frame in first..first + count {
-        if let Some(step) = step_in(state, origin, frame) {
-            hits.push(Hit { frame, step });
-        }
+    for k in 0..count {
+        add_hit(state, origin, first + k, &mut hits);
     }
     hits
+}
+
+// Adds the step that begins in a frame, if one does.
+fn add_hit(state: &State, origin: i64, frame: u32, hits: &mut Hits)
+    requires tidy { IsTidyState state.now }
+    requires origin { IsMoment origin }
+    requires frame { frame < 2 ^ 31 }
+    requires room { length (hits.old.items ++ hits_of frame (spec.step_in state.now origin frame)) ≤ 2 }
+    ensures { hits.new.items ≡ hits.old.items ++ hits_of frame (spec.step_in state.now origin frame) }
+{
+    if let Some(step) = step_in(state, origin, frame) {
+        hits.push(Hit { frame, step });
+    }
 }

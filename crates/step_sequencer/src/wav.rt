@@ -1,7 +1,8 @@
 //! WAV files: the RIFF/WAVE format of Microsoft and IBM (Multimedia Programming Interface and Data Specifications 1.0), in PCM.
 
-ghost use Rattle.std.specs.Prelude.{◌≡◌, ◌^◌, ◌<◌};
-ghost use Rattle.step_sequencer.specs.Wav.{header_of, samples_bytes};
+ghost use Rattle.std.specs.Prelude.{◌≡◌, ◌^◌, ◌<◌, ◌≤◌, ◌++◌};
+ghost use Rattle.arrayvec.specs.ArrayVec.{array_vec_len};
+ghost use Rattle.step_sequencer.specs.Wav.{header_of, sample_bytes, samples_bytes};
 
 use crate::kit::Samples;
 use arrayvec::ArrayVec;
@@ -30,8 +31,16 @@ pub fn put_samples(samples: &Samples, bytes: &mut ArrayVec<u8, 1920>)
 {
     bytes.clear();
     for sample in samples.iter() {
-        let [low, high] = sample.to_le_bytes();
-        bytes.push(low);
-        bytes.push(high);
+        put_sample(*sample, bytes);
     }
+}
+
+// Adds the two bytes of a sample.
+fn put_sample(sample: i16, bytes: &mut ArrayVec<u8, 1920>)
+    requires { array_vec_len bytes.old ≤ 1_918 }
+    ensures { bytes.new.items ≡ bytes.old.items ++ sample_bytes sample }
+{
+    let [low, high] = sample.to_le_bytes();
+    bytes.push(low);
+    bytes.push(high);
 }

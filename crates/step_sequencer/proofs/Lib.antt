@@ -1,0 +1,5 @@
+pub mod StepLemmas
+pub mod HitLemmas
+pub mod SoundLemmas
+pub mod PatternLemmas
+pub mod WavLemmas
