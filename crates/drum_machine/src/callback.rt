@@ -113,11 +113,21 @@ pub fn edit<C: StateCell<11, Way = ()>, N: LinkName>(
     ensures { pass.new ≡ after_making pass.old
         (commit_between capture.now.state capture.now.shown (changed_by change at capture.now.shown) at) }
 {
-    let mut edited = capture.shown;
+    let edited = changed(&capture.shown, change, at);
+    let commit = Commit::between(&capture.state, &capture.shown, &edited, at);
+    let _number = link.commit_audio(&(), pass, &commit);
+}
+
+fn changed(shown: &State, change: Change, at: i64) -> State
+    requires tidy { IsTidyState shown.now }
+    requires moment { IsMoment at }
+    ensures value { result ≡ changed_by change at shown.now }
+    ensures tidy { IsTidyState result }
+{
+    let mut edited = *shown;
     match change {
         Change::Play => edited.set_playing(true, at),
         Change::Tempo(mpb) => edited.set_tempo(mpb, at),
     }
-    let commit = Commit::between(&capture.state, &capture.shown, &edited, at);
-    let _number = link.commit_audio(&(), pass, &commit);
+    edited
 }

@@ -41,31 +41,30 @@ pub fn play<C: StateCell<11, Way = ()>, N: LinkName, A: Audio, W: Sink, M: Sink>
     requires ready { CanPlay pass.old drums.old.origin blocks }
     ensures played { HasPlayed pass.old pass.new }
 {
+    // A law, for the proof: what the callback gives are messages that have bytes.
+    positions_are_short();
     if !write_whole(sound, &wav_header(blocks * FRAMES)) {
         return PlayEnd::Output;
     }
+    let Next::Block(block) = audio.next() else {
+        return PlayEnd::Device;
+    };
+    drums.origin = block.start;
+    start(link, pass, block.start);
     let mut sheet = Sheet::new();
     let mut number = 0;
     while number < blocks {
-        let Next::Block(block) = audio.next() else {
-            return PlayEnd::Device;
-        };
-        if number == 0 {
-            drums.origin = block.start;
-            start(link, pass, block.start);
-        }
-        callback(
-            link,
-            pass,
-            drums,
-            number * FRAMES,
-            &mut sheet.samples,
-            &mut sheet.events,
-        );
+        let first = number * FRAMES;
+        let (samples, events) = (&mut sheet.samples, &mut sheet.events);
+        callback(link, pass, drums, first, samples, events);
         if !sheet.write(sound, midi) {
             return PlayEnd::Output;
         }
         number += 1;
+        // The next block begins where this one has been played.
+        let Next::Block(_) = audio.next() else {
+            return PlayEnd::Device;
+        };
     }
     PlayEnd::Played
 }
