@@ -14,13 +14,11 @@ ROWS = [  # the call, the loop without it, and the aim in nanoseconds, if there 
     ("set_quantum", "state_and_number", None),
     ("clicks", "state_and_number", None),
     ("between", "three_states", 15),
-    ("row", "state", 10),
     ("from_row", "one_row", 10),
 ]
 SHOWN = {
     "clicks": "`State::clicks` of 20,000 microseconds, every second state playing",
     "between": "`Commit::between`",
-    "row": "`State::row`",
     "from_row": "`State::from_row`",
 }
 for name, base, aim in ROWS:

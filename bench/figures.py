@@ -6,7 +6,7 @@ import sys
 import time
 from collections import namedtuple
 
-HEAD = "| what | figure | aim | script | on what | date |\n|---|---|---|---|---|---|"
+HEAD = "| what | figure | aim | script | beside | date |\n|---|---|---|---|---|---|"
 # Whether the figures are to be read by a program.
 RAW = os.environ.get("FIGURES") == "raw"
 
@@ -61,16 +61,16 @@ class Table:
         if after is None or self.before is None:
             return f"load {os.getloadavg()[0]:.1f}"
         others = (after[0] - self.before[0] - (after[1] - self.before[1])) / (time.perf_counter() - self.start)
-        return "nothing else" if others < 0.1 else f"beside other work on {others:.1f} of them"
+        return "" if others < 0.1 else f"other work on {others:.1f} processors"
 
     def show(self):
-        """Prints the table; where it is to be raw, only what each row is of and its figure, with a tab between."""
+        """Prints the table, below the machine; where it is to be raw, only what each row is of and its figure, with a tab between."""
         if RAW:
             for what, figure, _ in self.rows:
                 print(f"{what}\t{figure}")
             return
-        end = f"`{os.environ['SCRIPT']}` | {machine()}, {self.beside()} | {time.strftime('%Y-%m-%d')} |"
-        print(HEAD)
+        end = f"`{os.environ['SCRIPT']}` | {self.beside()} | {time.strftime('%Y-%m-%d')} |"
+        print(f"{machine()}; nothing else unless a row says so.\n\n{HEAD}")
         for what, figure, told in self.rows:
             print(f"| {what} | {figure} | {told} | {end}")
 

@@ -6,7 +6,6 @@ from figures import Table, add_call, timed
 table = Table()
 ROUNDS = 100
 SHOWN = {  # what is printed, and which answer each call has: kept, full or stayed
-    "saw_current": ("`Sessions::saw` of the current session", 0),
     "saw_last": ("`Sessions::saw` of the last other one", 0),
     "saw_stranger": ("`Sessions::saw` of one that has no room", 1),
     "measured_last": ("`Sessions::measured` of the last other one, which stays", 2),
