@@ -2,10 +2,11 @@
 """Compares what tools/session.py tells of recordings, over the built program, with what is written here: checks/session.py PROGRAM.
 
 Each examples/NAME.script is told as examples/NAME.told has it, by the program's own run and by stored output; docs/session.svg is the
-picture of three-peers.script. Then scripts made here: events of one moment, a ping that carries a session, ids that aren't text, a record
-with its summary, moments that fall, a session that is joined where nothing else changes, bars that change. Of pictures is looked at whether
-they are XML, and how many steps, marks and bands they have. Input that can't be told has to end with status 2 and one sentence on standard
-error. The last line is 'N passed, N failed'.
+picture of three-peers.script. The marks that the tool puts between events change nothing: without the pongs to them the output is
+examples/NAME.expected. Then scripts made here: events of one moment, a ping that carries a session, ids that aren't text, a record with its
+summary, moments that fall, a session that is joined where nothing else changes, bars that change. Of pictures is looked at whether they are
+XML, and how many steps, marks and bands they have. Input that can't be told has to end with status 2 and one sentence on standard error.
+The last line is 'N passed, N failed'.
 """
 import os
 import re
@@ -65,8 +66,9 @@ SCRIPTS = [
         "datagrams of two peers at one moment, of which one brings a tempo",
         response(1_100_000, b"ABCDEFGH") + response(1_300_000, b"ABCDEFGH", line=FAST) + response(1_300_000, b"IJKLMNOP", b"IJKLMNOP"),
         "0:00.100  ABCDEFGH at 127.0.0.1:20808 comes: 1 peer\n"
-        "0:00.300  the tempo is now 150.00 beats per minute, 400000 microseconds per beat (one of several datagrams)\n"
-        "0:00.300  the beat moves: beat 0.000000 is now at 0:00.060000, and this moment is beat 0.600, as before (one of several datagrams)\n"
+        "0:00.300  the tempo is now 150.00 beats per minute, 400000 microseconds per beat (peer ABCDEFGH at 127.0.0.1:20808)\n"
+        "0:00.300  the beat moves: beat 0.000000 is now at 0:00.060000, and this moment is beat 0.600, as before "
+        "(peer ABCDEFGH at 127.0.0.1:20808)\n"
         "0:00.300  the recording ends: 3 events, 3 states shown, 0 datagrams sent\n",
     ),
     (
@@ -96,6 +98,11 @@ SCRIPTS = [
         "a ping whose payload tells a session, which its pong gives back, and one that is cut",
         ping(1_100_000, node.entry(b"sess", b"OTHERONE")) + ping(1_200_000, b"\1\2\3"),
         "0:00.200  the recording ends: 2 events, 1 state shown, 2 datagrams sent\n",
+    ),
+    (
+        "an empty ping, from where the tool's marks come else",
+        "rx 1100000 0 127.0.0.1:1 5f6c696e6b5f760101\n",
+        "0:00.100  the recording ends: 1 event, 1 state shown, 1 datagram sent\n",
     ),
     (
         "an id that is no text, a peer that goes over to its own session, and silence",
@@ -250,14 +257,31 @@ def examples(program, folder):
         told = read(EXAMPLES, name + ".told") if os.path.exists(os.path.join(EXAMPLES, name + ".told")) else None
         yield name, tell(["--program", program, "--svg", drawn, script]), (0, told, "")
         yield f"the picture of {name}", counted(read(drawn)), PICTURES.get(name, counted(read(drawn)))
-        # Without the program, but for one run of decode in between, and over standard input.
-        output = ["--output", os.path.join(EXAMPLES, name + ".expected"), "--program", os.path.join(folder, "none")]
+        # Without the program, but for its runs in between, and over standard input.
         text = read(script).encode()
+        marked = replayed(program, text)
+        yield f"{name} with marks", unmarked(marked), read(EXAMPLES, name + ".expected")
+        output = ["--output", write(folder, "output", marked), "--program", os.path.join(folder, "none")]
         status, digits, error = tell([*output, "--datagrams"], text)
         decoded = subprocess.run([program, "decode"], input=digits.encode(), capture_output=True, timeout=600, check=False).stdout
         stored = tell([*output, "--decoded", write(folder, "decoded", decoded), "-"], text)
         yield f"{name} of stored output", (status, error, stored), (0, "", (0, told, ""))
     yield "docs/session.svg", read(folder, "three-peers.svg") == read(HERE, "docs", "session.svg"), True
+
+
+def replayed(program, text):
+    """What the program writes for the recording with its marks."""
+    _, marked, _ = tell(["--marked"], text)
+    return subprocess.run([program, "replay"], input=marked.encode("latin-1"), capture_output=True, timeout=600, check=False).stdout.decode()
+
+
+def unmarked(output):
+    """That without the pongs to the marks, which go to the port 1 in what is told here."""
+    lines = output.splitlines(keepends=True)
+    kept = [line for line in lines if not re.match(r"tx -?[0-9]+ 0 127\.0\.0\.1:1 ", line)]
+    events, states, sent = map(int, kept[-1].split(" ")[1:])
+    marks = len(lines) - len(kept)
+    return "".join(kept[:-1]) + f"done {events - marks} {states} {sent - marks}\n"
 
 
 def made_here(program, folder):
@@ -288,10 +312,13 @@ def made_here(program, folder):
 def refused(program, folder):
     """The words, the input, and what has to stand on standard error."""
     two_peers, none = os.path.join(EXAMPLES, "two-peers.script"), os.path.join(folder, "none")
-    names = "one-alive", "several-peers", "two-peers"
-    one_output, several_output, two_output = (os.path.join(EXAMPLES, name + ".expected") for name in names)
+    one_output, several_output, two_output = (
+        write(folder, f"{name}.output", replayed(program, read(EXAMPLES, f"{name}.script").encode()))
+        for name in ("one-alive", "several-peers", "two-peers")
+    )
     output = read(two_output).splitlines(keepends=True)
     opening = "state 0 500000 0 1000000 0 0 0 1 0 1000000 0 0\n"
+    pong_line = "tx 1000000 0 127.0.0.1:1 5f6c696e6b5f760102\n"
     run = ["--program", program]
     stored = lambda text: ["--output", write(folder, "output", text)]  # noqa: E731
     path = os.path.join(folder, "output")
@@ -350,7 +377,7 @@ def refused(program, folder):
         (
             ["--output", one_output, two_peers],
             b"",
-            f"{one_output}: line 3: expected the output of this recording, which has 10 events, found that of 1",
+            f'{one_output}: line 3: expected the pong to the mark behind line 11 of the recording, found "tx 1000100 0 127.0.0.1:1 5f6c696e6b5f760" and more',
         ),
         (
             ["--output", several_output, two_peers],
@@ -364,37 +391,37 @@ def refused(program, folder):
     # Of the output: each written anew, since all have one path.
     whole = "".join(output)
     for name, text, events, sentence in [
-        ("without its end", "".join(output[:-1]), None, "line 15: expected `done` and three counts, found the end of the text"),
-        ("with lines behind", whole + "done\n", None, 'line 16: expected nothing behind the line `done`, found "done"'),
+        ("without its end", "".join(output[:-1]), None, "line 25: expected `done` and three counts, found the end of the text"),
+        ("with lines behind", whole + "done\n", None, 'line 26: expected nothing behind the line `done`, found "done"'),
         (
             "without a datagram",
             "".join(output[:1] + output[2:]),
             None,
-            'line 14: expected `done 10 5 8` behind these lines, found "done 10 5 9"',
+            'line 24: expected `done 20 5 18` behind these lines, found "done 20 5 19"',
         ),
         (
             "with a datagram of another moment",
             whole.replace("tx 1200000", "tx 1200001"),
             None,
-            'line 6: expected a line that follows from this recording up to its line 30, found "tx 1200001 0 127.0.0.1:20808"',
+            'line 12: expected the pong to the mark behind line 23 of the recording, found "tx 1200001 0 127.0.0.1:1 5f6c696e6b5f760" and more',
         ),
         (
-            "with a state behind the last event",
-            opening + opening.replace("state 0", "state 1") + "done 1 2 0\n",
+            "with a state behind the last mark",
+            opening + pong_line + opening.replace("state 0", "state 1") + "done 2 2 1\n",
             "tick 1000000\n",
-            'line 2: expected a line that follows from this recording, found "state 1"',
+            'line 3: expected `done 2 1 1` behind these lines, found "state 1 500000 0 1000000 0 0 0 1 0 10000" and more',
         ),
         (
-            "of a commit without its state",
+            "of the recording without marks",
             opening + "done 1 1 0\n",
-            "app 1000000 1000000 s 1 1000000 1000000\n",
-            "line 2: expected the state behind the commit in line 5 of the recording, found `done`",
+            "tick 1000000\n",
+            'line 2: expected the pong to the mark behind line 5 of the recording, found "done 1 1 0"',
         ),
         (
-            "of an end without its goodbye",
-            opening + "done 1 1 0\n",
-            "end 5\n",
-            "line 2: expected the goodbyes of the end in line 5 of the recording, found `done`",
+            "with a ping to a mark",
+            opening + pong_line.replace("0102", "0101") + "done 2 1 1\n",
+            "tick 1000000\n",
+            'line 2: expected the pong to the mark behind line 5 of the recording, found "tx 1000000 0 127.0.0.1:1 5f6c696e6b5f760" and more',
         ),
         (
             "that says something else",
@@ -419,7 +446,7 @@ def refused(program, folder):
         words = [*stored(f"{first}{more}\ndone 0 1 0\n"), *run, "-"]
         yield f"an opening state with {more!r}", tell(words, head.encode()), (2, "", f"session: {path}: line 1: expected {expected}, found {found}\n")
     decoded = write(folder, "decoded", "bye 4142434445464748 0 0\n")
-    sentence = f"session: {decoded}: line 2: expected a line for each of the 12 datagrams of this recording, found 1\n"
+    sentence = f"session: {decoded}: line 2: expected a line for each of the 16 datagrams of this recording, found 1\n"
     yield "decoded datagrams of something else", tell(["--output", two_output, "--decoded", decoded, two_peers]), (2, "", sentence)
     # What replay has to say is handed on.
     status, told, error = tell(run, HEAD.replace("500000", "60059").encode())

@@ -1,11 +1,17 @@
-"""Reading a recording, and what `replay` and `decode` write for it."""
+"""Reading a recording, and what `replay` and `decode` write for it.
+
+Which event a line of the output follows from, the output of a recording doesn't tell where several events have one moment. So it is read of
+the recording with marks: behind each event a ping with nothing in it, of the same moment and from an endpoint that the recording doesn't
+have. The node answers it with a pong to there and does nothing else (docs/FORMULAS.md, *Arrival*), so that the pong ends what the event
+brought. It tells the session that the node is in then.
+"""
 import re
 from collections import namedtuple
 
 from shared import fault, lines_of, quoted
 
 # A pong that is sent ends in the ping's payload, whatever that was: what the node says stands in the digits before.
-PONG, PONG_DIGITS = "5f6c696e6b5f760102", 82
+PING, PONG, PONG_DIGITS = "5f6c696e6b5f760101", "5f6c696e6b5f760102", 82
 
 NUMBER, ENDPOINT = "(0|-?[1-9][0-9]{0,19})", r"([0-9.]{7,15}:[0-9]{1,5})"
 NODE = re.compile(f"node ([!-~]{{8}}) {NUMBER} {NUMBER} ([01]) {NUMBER}")
@@ -30,14 +36,15 @@ DECODED = re.compile(
     f"|pong {ID}( -?[0-9]+){{3}}|(other|fault) .+"
 )
 
-# The moment is the node's, the greatest so far. Of commits: how many applications' were taken, and the audio thread's last number.
-Event = namedtuple("Event", "line kind now moment apps audio gate endpoint digits")
+# The moment is the node's, the greatest so far.
+Event = namedtuple("Event", "line kind now moment gate endpoint digits")
 Script = namedtuple("Script", "version name opened mpb sync group quantum places events")
 # The session is in hex, or None in version 1.
 State = namedtuple("State", "line number mpb beat time playing start stamp sync peers moment apps audio session quantum")
 Sent = namedtuple("Sent", "line now gate endpoint digits")
-# The lines in their order, each a State or a Sent.
-Output = namedtuple("Output", "states sent lines done")
+# The opening state; what follows from each event, each a State or a Sent; the pong to each mark; and how many states there are, and
+# datagrams but these pongs.
+Output = namedtuple("Output", "opening behind pongs states sent")
 
 
 def read_script(text):
@@ -90,7 +97,7 @@ def read_gates(said):
 
 
 def read_events(said, opened, gates):
-    events, moment, apps, audio = [], opened, 0, 0
+    events, moment = [], opened
     for number, line in said:
         kind = line.split(" ", 1)[0]
         form, expected = EVENTS.get(kind, (None, EVENT))
@@ -105,45 +112,68 @@ def read_events(said, opened, gates):
                 raise fault("", number, f"a gate below {gates}", quoted(found[2]))
             if len(digits) % 2 or len(digits) > 1026:
                 raise fault("", number, "two hex digits for each byte, of 513 bytes at most", f"{len(digits)} digits")
-        elif kind == "app":
-            apps += 1
-        elif kind == "audio":
-            audio = int(found[2])
-        events.append(Event(number, kind, now, moment, apps, audio, gate, endpoint, digits))
+        events.append(Event(number, kind, now, moment, gate, endpoint, digits))
     return events
 
 
+def mark_of(script):
+    """An endpoint that nobody in the recording has, so that only the pongs to its marks go there."""
+    taken = {event.endpoint for event in script.events} | {endpoint for _, endpoint in script.places}
+    return next(endpoint for endpoint in (f"127.0.0.1:{port}" for port in range(1, 65_536)) if endpoint not in taken)
+
+
+def marked(script, text):
+    """The recording with its marks."""
+    lines, mark, done = text.split(b"\n"), mark_of(script), 0
+    parts = []
+    for event in script.events:
+        parts += [*lines[done : event.line], f"rx {event.now} 0 {mark} {PING}".encode()]
+        done = event.line
+    return b"\n".join([*parts, *lines[done:]])
+
+
 def read_output(text, where, script):
-    """What `replay` writes, where it can be that of this script."""
-    states, sent, lines, done = [], [], [], None
-    all_lines = lines_of(text, where)
-    for number, line in enumerate(all_lines, 1):
+    """What `replay` writes of the recording with its marks."""
+    mark, events, lines = mark_of(script), script.events, lines_of(text, where)
+    opening, behind, pongs, states, sent, done = None, [[] for _ in events], [], 1, 0, False
+    for number, line in enumerate(lines, 1):
         if done:
             raise fault(where, number, "nothing behind the line `done`", quoted(line))
-        if found := STATES[script.version].fullmatch(line):
-            states.append(read_state(number, found.groups(), script))
-            lines.append(states[-1])
-            if states[-1].number != len(states) - 1:
-                raise fault(where, number, f"state {len(states) - 1}", f"state {states[-1].number}")
-        elif (found := SENT.fullmatch(line)) and len(found[4]) % 2 == 0:
-            sent.append(Sent(number, int(found[1]), int(found[2]), found[3], found[4]))
-            lines.append(sent[-1])
-        elif found := DONE.fullmatch(line):
-            done = number
-            counts, wanted = tuple(map(int, found.groups())), (len(script.events), len(states), len(sent))
-            if counts[0] != wanted[0]:
-                raise fault(where, number, f"the output of this recording, which has {wanted[0]} events", f"that of {counts[0]}")
-            if counts != wanted:
-                raise fault(where, number, f"`done {wanted[0]} {wanted[1]} {wanted[2]}` behind these lines", quoted(line))
-        elif STATES[3 - script.version].fullmatch(line):
-            raise fault(where, number, STATE_FORMS[script.version], quoted(line))
-        else:
-            raise fault(where, number, "a line that `replay` writes: `state`, `tx` or `done`", quoted(line))
+        at, one = len(pongs), read_line(number, line, where, script)
         if number == 1:
-            check_opening(where, line, states, script)
+            opening = check_opening(where, line, one, script)
+        elif at == len(events):
+            wanted, done = f"done {2 * at} {states} {sent + at}", True
+            if line != wanted:
+                raise fault(where, number, f"`{wanted}` behind these lines", quoted(line))
+        elif one is None or isinstance(one, Sent) and one.endpoint == mark:
+            if one is None or (one.now, one.gate, one.digits[: len(PONG)]) != (events[at].now, 0, PONG):
+                raise fault(where, number, f"the pong to the mark behind line {events[at].line} of the recording", quoted(line))
+            pongs.append(one)
+        elif isinstance(one, State):
+            if one.number != states:
+                raise fault(where, number, f"state {states}", f"state {one.number}")
+            behind[at].append(one)
+            states += 1
+        else:
+            behind[at].append(one)
+            sent += 1
     if not done:
-        raise fault(where, len(all_lines) + 1, "`done` and three counts" if states else "the opening state", "the end of the text")
-    return Output(states, sent, lines, done)
+        raise fault(where, len(lines) + 1, "`done` and three counts" if opening else "the opening state", "the end of the text")
+    return Output(opening, behind, pongs, states, sent)
+
+
+def read_line(number, line, where, script):
+    """A State or a Sent; None for a line `done`."""
+    if found := STATES[script.version].fullmatch(line):
+        return read_state(number, found.groups(), script)
+    if (found := SENT.fullmatch(line)) and len(found[4]) % 2 == 0:
+        return Sent(number, int(found[1]), int(found[2]), found[3], found[4])
+    if DONE.fullmatch(line):
+        return None
+    if STATES[3 - script.version].fullmatch(line):
+        raise fault(where, number, STATE_FORMS[script.version], quoted(line))
+    raise fault(where, number, "a line that `replay` writes: `state`, `tx` or `done`", quoted(line))
 
 
 def read_state(number, words, script):
@@ -151,12 +181,14 @@ def read_state(number, words, script):
     return State(number, *map(int, words[:12]), session, quantum)
 
 
-def check_opening(where, line, states, script):
+def check_opening(where, line, one, script):
+    """The opening state, where that is what the line has."""
     session = script.name.encode().hex() if script.version == 2 else None
-    wanted = (script.mpb, script.sync, script.opened, 0, 0, 0, session, script.quantum)
-    found = [(one.mpb, one.sync, one.moment, one.peers, one.apps, one.audio, one.session, one.quantum) for one in states]
-    if found != [wanted]:
+    wanted = (0, script.mpb, script.sync, script.opened, 0, 0, 0, session, script.quantum)
+    found = isinstance(one, State) and (one.number, one.mpb, one.sync, one.moment, one.peers, one.apps, one.audio, one.session, one.quantum)
+    if found != wanted:
         raise fault(where, 1, "the opening state of this recording's node", quoted(line))
+    return one
 
 
 def said_in(digits):
@@ -165,9 +197,15 @@ def said_in(digits):
 
 
 def datagrams(script, output):
-    """Those that came and those that were sent, each once."""
+    """Those that came, those that were sent, and where states have no session the pongs to marks that tell it; each once."""
     came = (event.digits for event in script.events if event.kind == "rx")
-    return list(dict.fromkeys([*came, *(said_in(sent.digits) for sent in output.sent)]))
+    sent = (one.digits for lines in output.behind for one in lines if isinstance(one, Sent))
+    pongs = (output.pongs[k].digits for k in range(len(script.events)) if script.version == 1 and shows(output.behind[k]))
+    return list(dict.fromkeys([*came, *map(said_in, sent), *map(said_in, pongs)]))
+
+
+def shows(lines):
+    return any(isinstance(one, State) for one in lines)
 
 
 def read_decoded(text, where, digits):

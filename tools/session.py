@@ -8,24 +8,25 @@ which is asked once for all that came and all that were sent (and again where th
 taken the node's id, its group, the moment of its opening, and its events. Times are since the opening, m:ss.mmm in minutes and seconds;
 those of beats have microseconds. In brackets behind a change stands whose it was.
 
-A line of the output is told of the event that it follows from. Where several events have one moment, the output doesn't always tell which
-of them it was: a state is then told of a datagram rather than of a tick, and of no peer where the datagrams of several could have brought
-it. A peer that is heard no more is told by the number of peers alone. Which session the node is in, and how long its bars are, each state
-of a script of version 2 has. One of version 1 has bars of four beats, and the datagrams that the node sends tell its session. A new one
-stands there where the output tells when it began: at the pong or the departure behind which a state is shown; and where there is none at
-the datagram that tells it, with the words "by now".
+A line of the output is told of the event that it follows from. So that the output tells which one that is, `replay` is given the recording
+with a mark behind each event: an empty ping of the same moment, from an endpoint that the recording doesn't have. The node answers it with
+a pong and does nothing else, so the pong ends what the event brought. A peer that is heard no more is told by the number of peers alone.
+Which session the node is in, and how long its bars are, each state of a script of version 2 has. One of version 1 has bars of four beats,
+and the pong to the mark tells the session.
 """
 import sys
-from collections import deque, namedtuple
+from collections import namedtuple
 
 sys.dont_write_bytecode = True
-from recording import Sent, State, datagrams, read_decoded, read_output, read_script, said_in  # noqa: E402
-from shared import Drawing, Lane, Words, clock, decimals, end_of, fault, quoted, read_file, round_step, run  # noqa: E402
+from recording import State, datagrams, marked, read_decoded, read_output, read_script, said_in  # noqa: E402
+from shared import Drawing, Lane, Words, clock, decimals, end_of, read_file, round_step, run  # noqa: E402
 from shared import LEFT_X, RIGHT_X, SECOND, write_picture  # noqa: E402
 
 OPTIONS = """\
-Without the program: `--output` has what `replay` writes for the recording, and `--decoded` what `decode` tells of those of `--datagrams`:
+Without the program: `--output` has what `replay` writes for the recording with its marks, which `--marked` writes, and `--decoded` what
+`decode` tells of those of `--datagrams`:
 
+  session.py --marked run.script | (elsewhere) jorazhil replay > run.output
   session.py --datagrams --output run.output run.script | (elsewhere) jorazhil decode > run.decoded
   session.py --output run.output --decoded run.decoded --svg run.svg run.script
 
@@ -59,16 +60,10 @@ def run_decode(program, digits):
     return b"".join(told)
 
 
-# Which event a line follows from.
-
-# What an event can lead to, in the order in which it would be written. The rule says which states can follow, or that one has to.
-Slot = namedtuple("Slot", "event key rule")
-# What was written: a state, a datagram, or the datagrams that go to all places. The keys are those of the slots that it can stand in. Of a
-# state: by how much the peers fell, and whether it tells of a session that is joined.
-Item = namedtuple("Item", "line keys fell joins text first")
-FELL, FELL_BY_ONE, MEASURED, REQUIRED = "fell", "fell by one", "measured", "required"
-# Where more slots than these have one moment, nobody looks through them for the sender.
-MANY = 200
+def run_replay(program, script, text):
+    """Of the recording with its marks. First of the recording alone, so that a fault is told by its own lines."""
+    run(program, "replay", text)
+    return run(program, "replay", marked(script, text))
 
 
 def is_heard(words, group):
@@ -76,126 +71,9 @@ def is_heard(words, group):
     return words[0] not in ("alive", "response", "bye") or int(words[3]) == group
 
 
-def slots_of(script, told):
-    slots = []
-    for index, event in enumerate(script.events):
-        state = ("state", event.moment, event.apps, event.audio)
-        here = (event.now, event.gate, event.endpoint)
-        if event.kind == "tick":
-            slots += [Slot(index, ("ping", event.now), None), Slot(index, ("alive", event.now), None), Slot(index, state, FELL)]
-        elif event.kind == "end":
-            if script.places:
-                slots.append(Slot(index, ("bye", event.now), REQUIRED))
-        elif event.kind != "rx":
-            slots.append(Slot(index, state, REQUIRED))
-        elif is_heard(told[event.digits], script.group):
-            kind = told[event.digits][0]
-            if kind == "alive":
-                slots += [Slot(index, ("response", *here), None), Slot(index, state, None)]
-            elif kind == "response":
-                slots.append(Slot(index, state, None))
-            elif kind == "bye":
-                slots.append(Slot(index, state, FELL_BY_ONE))
-            elif kind == "ping":
-                slots.append(Slot(index, ("pong", *here), None))
-            elif kind == "pong":
-                slots += [Slot(index, ("ping", *here), None), Slot(index, state, MEASURED)]
-    return slots
-
-
 def is_left(before, state):
     """All others are gone from the session, so the node has founded one."""
     return before.peers > 0 and state.peers == 0
-
-
-def items_of(script, output, told, where):
-    items, at, before = [], 1, output.states[0]
-    while at < len(output.lines):
-        line = output.lines[at]
-        if isinstance(line, State):
-            key = ("state", line.moment, line.apps, line.audio)
-            joins = line.session != before.session and not is_left(before, line)
-            items.append(Item(line.line, (key,), before.peers - line.peers, joins, f"state {line.number}", line))
-            before, at = line, at + 1
-            continue
-        kind = told[said_in(line.digits)][0]
-        text = f"tx {line.now} {line.gate} {line.endpoint}"
-        if kind in ("alive", "bye"):
-            block = output.lines[at : at + max(1, len(script.places))]
-            found = [(sent.gate, sent.endpoint, sent.now, told[said_in(sent.digits)][0]) for sent in block if isinstance(sent, Sent)]
-            if found != [(*place, line.now, kind) for place in script.places]:
-                raise fault(where, line.line, "the datagrams to all destinations of this recording", quoted(text))
-            items.append(Item(line.line, ((kind, line.now),), 0, False, text, line))
-            at += len(block)
-        else:
-            items.append(Item(line.line, ((kind, line.now, line.gate, line.endpoint), (kind, line.now)), 0, False, text, line))
-            at += 1
-    return items
-
-
-def is_place(slot, item):
-    """Only a measurement brings a node into another session."""
-    if slot.key not in item.keys or item.joins and slot.rule != MEASURED:
-        return False
-    return item.fell > 0 if slot.rule == FELL else item.fell == 1 if slot.rule == FELL_BY_ONE else True
-
-
-def first_slots(slots, items, script, where, end):
-    """The first slot in which each item can stand, behind those before it."""
-    found, at = [], 0
-    for item in items:
-        while at < len(slots) and not is_place(slots[at], item):
-            if slots[at].rule == REQUIRED:
-                number = script.events[slots[at].event].line
-                raise fault(where, item.line, f"a line that follows from this recording up to its line {number}", quoted(item.text))
-            at += 1
-        if at == len(slots):
-            raise fault(where, item.line, "a line that follows from this recording", quoted(item.text))
-        found.append(at)
-        at += 1
-    for slot in slots[at:]:
-        if slot.rule == REQUIRED:
-            what = "the goodbyes of the end" if slot.key[0] == "bye" else "the state behind the commit"
-            raise fault(where, end, f"{what} in line {script.events[slot.event].line} of the recording", "`done`")
-    return found
-
-
-def last_slots(slots, items, first):
-    """The last ones. What stands in a slot that has to be filled can stand in no other: it is the first that fits there."""
-    found, at = [], len(slots) - 1
-    for item, fixed in zip(reversed(items), reversed(first)):
-        if slots[fixed].rule == REQUIRED:
-            at = fixed
-        while slots[at].rule == REQUIRED and at != fixed or not is_place(slots[at], item):
-            at -= 1
-        found.append(at)
-        at -= 1
-    return found[::-1]
-
-
-class Placed:
-    """The items of an output, each with the event that it follows from."""
-
-    def __init__(self, script, output, told, where):
-        self.script, self.told = script, told
-        self.slots, self.items = slots_of(script, told), items_of(script, output, told, where)
-        self.first = first_slots(self.slots, self.items, script, where, output.done)
-        self.last = last_slots(self.slots, self.items, self.first)
-
-    def event(self, k):
-        """The event of the k-th item, and whether the peer that it came from is sure."""
-        first, last = self.first[k], self.last[k]
-        if first == last:
-            return self.slots[first].event, True
-        between = [slot.event for slot in self.slots[first : min(last, first + MANY) + 1] if is_place(slot, self.items[k])]
-        datagrams = [event for event in between if self.script.events[event].kind == "rx"]
-        senders = {self.sender(event) for event in datagrams}
-        return (datagrams or between)[0], len(senders) < 2 and last < first + MANY
-
-    def sender(self, index):
-        event = self.script.events[index]
-        words = self.told[event.digits]
-        return "state" if words[0] in ("alive", "response") else words[0], words[1], event.endpoint
 
 
 # Words.
@@ -237,35 +115,29 @@ def peers_words(count):
 # The story.
 
 # Whose a change is, in the order of the legend.
-APPLICATION, AUDIO, PEER, SESSION = "application", "audio thread", "peer", "measured session"
-LEFT, UNCLEAR = "nobody else is left", "one of several datagrams"
+APPLICATION, AUDIO, PEER, SESSION, LEFT = "application", "audio thread", "peer", "measured session", "nobody else is left"
 # What follows from one event is told in this order.
 OPENING, PEERS, JOINING, TEMPO, BEAT, BARS, START, ENDING = range(8)
 
 Fact = namedtuple("Fact", "event order moment text")
 # A change for the picture: when, to what, whose it is, and how it is told.
 Change = namedtuple("Change", "moment value whose text")
-# A state that may tell when a session began: the event, whether no peer is left, and the session that was measured.
-Shown = namedtuple("Shown", "event left measured")
 
 
 class Story:
     """What there is to tell, and what there is to draw."""
 
-    def __init__(self, script, output, told, where):
+    def __init__(self, script, output, told):
         self.script, self.told, self.facts = script, told, []
-        self.placed = Placed(script, output, told, where)
         self.last = script.events[-1].moment if script.events else script.opened
         self.tempo, self.peers, self.beats, self.bars, self.starts, self.offsets = [], [], [], [], [], []
-        self.states = [output.states[0]]
+        self.states = [output.opening._replace(session=script.name.encode().hex())]
         self.sessions = [Change(script.opened, script.name, "", f"{script.name} opens in a session of its own")]
-        # For version 1: the id and the session of the node, as its last datagram told them, and where that stands.
-        self.id = self.session = script.name.encode().hex()
-        self.since = -1
-        # Which peers are told already; and for version 1 at which event a session was first heard of, and the states that may tell of one.
-        self.heard, self.heard_at, self.shown = set(), {}, deque()
-        self.opening(output.states[0])
-        self.follow()
+        # Which peers are told already.
+        self.heard = set()
+        self.opening(output.opening)
+        for event, lines in enumerate(output.behind):
+            self.follow(event, lines, output.pongs[event])
         self.ending(output)
         self.facts.sort(key=lambda fact: fact[:2])
 
@@ -284,45 +156,29 @@ class Story:
         self.bars.append(Change(state.moment, state.quantum, "", ""))
 
     def ending(self, output):
-        counts = (len(self.script.events), "event"), (len(output.states), "state"), (len(output.sent), "datagram")
+        counts = (len(self.script.events), "event"), (output.states, "state"), (output.sent, "datagram")
         events, states, sent = (f"{count} {word}{'' if count == 1 else 's'}" for count, word in counts)
         self.tell(len(self.script.events), ENDING, f"the recording ends: {events}, {states} shown, {sent} sent")
 
-    def follow(self):
-        """Takes the items in their order, and beside them the datagrams that came."""
-        placed = [(*self.placed.event(k), item.first) for k, item in enumerate(self.placed.items)]
-        for k in range(len(placed) - 1):
-            # The alives of a tick are written before its state, and tell of what it shows.
-            if self.is_alive(placed[k]) and isinstance(placed[k + 1][2], State) and placed[k][0] == placed[k + 1][0]:
-                placed[k], placed[k + 1] = placed[k + 1], placed[k]
-        heard_until = 0
-        for event, is_sure, line in placed:
-            self.hear(heard_until, event)
-            heard_until = max(heard_until, event)
+    def follow(self, event, lines, pong):
+        """Takes what follows from an event, and the event."""
+        for line in lines:
             if isinstance(line, State):
-                self.show(event, is_sure, line)
+                self.show(event, line if line.session else line._replace(session=self.told[said_in(pong.digits)][1]))
             else:
-                self.send(event, is_sure, line)
-        for index, event in enumerate(self.script.events):
-            if event.kind == "end":
-                places = [endpoint for _, endpoint in self.script.places]
-                listed = ", ".join(places) if len(places) < 4 else f"{len(places)} places"
-                self.tell(index, ENDING, f"the node says goodbye to {listed}" if places else "the node ends")
+                self.send(event, line)
+        kind, words = self.script.events[event].kind, self.words(event)
+        if words[0] == "bye" and is_heard(words, self.script.group):
+            self.heard.discard(words[1])
+        if kind == "end":
+            places = [endpoint for _, endpoint in self.script.places]
+            listed = ", ".join(places) if len(places) < 4 else f"{len(places)} places"
+            self.tell(event, ENDING, f"the node says goodbye to {listed}" if places else "the node ends")
 
-    def is_alive(self, placed):
-        return isinstance(placed[2], Sent) and self.told[said_in(placed[2].digits)][0] == "alive"
-
-    def hear(self, first, event):
-        """Takes in which sessions the datagrams before this event told of, and who said goodbye."""
-        for index in range(first, event):
-            digits = self.script.events[index].digits
-            words = self.told[digits] if digits is not None else [""]
-            if not is_heard(words, self.script.group):
-                continue
-            if words[0] in ("alive", "response"):
-                self.heard_at.setdefault(words[7], index)
-            elif words[0] == "bye":
-                self.heard.discard(words[1])
+    def words(self, event):
+        """What the datagram of an event says; of another event its kind."""
+        came = self.script.events[event]
+        return [came.kind] if came.digits is None else self.told[came.digits]
 
     def time(self, host, digits=3):
         return clock(host - self.script.opened, digits)
@@ -333,78 +189,30 @@ class Story:
 
     # A datagram that is sent.
 
-    def send(self, event, is_sure, sent):
+    def send(self, event, sent):
         words = self.told[said_in(sent.digits)]
         if words[0] == "pong":
-            self.locate(2 * event, None, words[1], event)
             moment = self.script.events[event].moment
             self.offsets.append((moment, int(words[2]) - moment + self.script.opened))
-        elif words[0] == "bye":
-            self.locate(2 * event, words[1], None, event)
-        elif words[0] == "alive":
-            # It is written as the node is behind the event, and a response as it was before.
-            self.locate(2 * event + 2, words[1], words[7], event)
         elif words[0] == "response":
-            self.locate(2 * event, words[1], words[7], event)
-            if is_sure:
-                self.answer(event)
+            self.answer(event)
 
     def answer(self, event):
         """An alive that is answered was heard."""
-        words = self.told[self.script.events[event].digits]
+        words = self.words(event)
         if words[1] not in self.heard:
             self.heard.add(words[1])
             self.tell(event, PEERS, f"{self.peer(event)} is heard, in the session of {id_words(words[7])}")
 
-    def locate(self, place, own, session, event):
-        """A datagram tells the node's own id, its session or both. A session is founded of an id that nobody has told before. In version 2
-        the states have told it already."""
-        if self.script.version == 2:
-            return
-        if own not in (None, self.id) or session not in (None, self.session) and not self.is_heard_of(session, place):
-            self.id = self.session = own or session
-            self.enter(place, event, self.id, True)
-        if session not in (None, self.session):
-            self.session = session
-            self.enter(place, event, session, False)
-        self.since = place
-
-    def between(self, place):
-        """The states between the last datagram that told the session and this one."""
-        return [shown for shown in self.shown if self.since < 2 * shown.event + 1 < place]
-
-    def is_heard_of(self, session, place):
-        left = [shown.event for shown in self.between(place) if shown.left]
-        return session in self.heard_at and not (left and left[-1] < self.heard_at[session])
-
-    def enter(self, place, event, session, is_founded):
-        """The session is another one since the datagram before: a state between them may tell when."""
-        now, between = "", self.between(place)
-        left, measured = [shown.event for shown in between if shown.left], [shown.event for shown in between if shown.measured == session]
-        if is_founded and left:
-            event = left[-1]
-        elif measured and not is_founded:
-            event = measured[0]
-        else:
-            now = " by now"
-        self.begin(event, session, is_founded, now)
-
-    def begin(self, event, session, is_founded, now=""):
-        name = id_words(session)
-        text = f"a session of the new id {name} is founded{now}" if is_founded else f"the session of {name} is joined{now}"
-        self.sessions.append(Change(self.tell(event, JOINING, text), name, "", text))
-
     # A state that is shown.
 
-    def show(self, event, is_sure, state):
+    def show(self, event, state):
         before = self.states[-1]
         self.states.append(state)
         left = is_left(before, state)
-        whose, words = self.whose(event, is_sure, left)
-        if self.script.version == 1:
-            self.note(event, is_sure, left)
+        whose, words = self.whose(event, left)
         if state.peers != before.peers:
-            text = self.peers_told(event, is_sure, before.peers, state.peers)
+            text = self.peers_told(event, before.peers, state.peers)
             self.peers.append(Change(self.tell(event, PEERS, text), state.peers, whose, text))
         if state.session != before.session:
             self.begin(event, state.session, left)
@@ -421,33 +229,26 @@ class Story:
             text = self.start_told(before, state) + words
             self.starts.append(Change(self.tell(event, START, text), state.playing, whose, text))
 
-    def note(self, event, is_sure, left):
-        """What a state can tell of a session that is joined or founded."""
-        while self.shown and 2 * self.shown[0].event + 1 <= self.since:
-            self.shown.popleft()
-        digits = self.script.events[event].digits
-        words = self.told[digits] if digits is not None and is_sure else [""]
-        measured = words[1] if words[0] == "pong" else None
-        if left or measured:
-            self.shown.append(Shown(event, left, measured))
+    def begin(self, event, session, is_founded):
+        name = id_words(session)
+        text = f"a session of the new id {name} is founded" if is_founded else f"the session of {name} is joined"
+        self.sessions.append(Change(self.tell(event, JOINING, text), name, "", text))
 
-    def whose(self, event, is_sure, left):
-        """Whose the changes of a state are. Who is left by all peers goes on in a session of its own."""
-        kind = self.script.events[event].kind
-        if kind == "app":
+    def whose(self, event, left):
+        """Whose the changes of a state are. Who is left by all peers goes on in a session of its own, and a tick changes nothing else."""
+        words = self.words(event)
+        if words[0] == "app":
             return APPLICATION, f" ({APPLICATION})"
-        if kind == "audio":
+        if words[0] == "audio":
             return AUDIO, f" ({AUDIO})"
-        words = self.told[self.script.events[event].digits] if kind == "rx" and is_sure and not left else [""]
-        if words[0] in ("alive", "response"):
+        if not left and words[0] in ("alive", "response"):
             return PEER, f" (peer {self.peer(event)})"
-        if words[0] == "pong":
+        if not left and words[0] == "pong":
             return SESSION, f" (the session of {id_words(words[1])} was measured)"
-        return (LEFT, f" ({LEFT})") if left else (UNCLEAR, f" ({UNCLEAR})")
+        return LEFT, f" ({LEFT})"
 
-    def peers_told(self, event, is_sure, before, peers):
-        kind = self.script.events[event].kind
-        words = self.told[self.script.events[event].digits] if kind == "rx" and is_sure else [kind if is_sure else ""]
+    def peers_told(self, event, before, peers):
+        words = self.words(event)
         left = f"{peers_words(peers)} {'are' if peers > 1 else 'is'} left"
         if words[0] in ("alive", "response"):
             if peers > before:
@@ -462,9 +263,7 @@ class Story:
         if words[0] == "pong":
             now = f"{peers_words(peers)} {'are' if peers > 1 else 'is'} in the session now"
             return f"{now} (the session of {id_words(words[1])} was measured)"
-        if words[0] == "tick":
-            return f"{peers_words(before - peers)} {'are' if before - peers > 1 else 'is'} heard no more: {left}"
-        return f"a peer comes: {peers_words(peers)}" if peers > before else f"a peer goes: {left}"
+        return f"{peers_words(before - peers)} {'are' if before - peers > 1 else 'is'} heard no more: {left}"
 
     def beat_told(self, before, state):
         """Where the origin is, and which beat it is at this moment, by the timeline of before and by the new one."""
@@ -490,7 +289,7 @@ class Story:
 
 # The picture.
 
-COLOURS = {APPLICATION: "#1f5fa8", AUDIO: "#c25700", PEER: "#2b7a2b", SESSION: "#7a3fa0", LEFT: "#7a3fa0", UNCLEAR: "#777"}
+COLOURS = {APPLICATION: "#1f5fa8", AUDIO: "#c25700", PEER: "#2b7a2b", SESSION: "#7a3fa0", LEFT: "#7a3fa0"}
 
 
 class Picture(Drawing):
@@ -522,10 +321,8 @@ class Picture(Drawing):
             shape = f'<path class="mark" d="M{x:.1f} {y - 6:.1f} l5.5 10 h-11 z" fill="{colour}"'
         elif whose == SESSION:
             shape = f'<path class="mark" d="M{x:.1f} {y - 6:.1f} l6 6 l-6 6 l-6 -6 z" fill="{colour}"'
-        elif whose == LEFT:
-            shape = f'<path class="mark" d="M{x:.1f} {y - 6:.1f} l6 6 l-6 6 l-6 -6 z" fill="#fff" stroke="{colour}" stroke-width="1.5"'
         else:
-            shape = f'<path class="mark" d="M{x - 5:.1f} {y - 5:.1f} l10 10 m0 -10 l-10 10" fill="none" stroke="{colour}" stroke-width="2"'
+            shape = f'<path class="mark" d="M{x:.1f} {y - 6:.1f} l6 6 l-6 6 l-6 -6 z" fill="#fff" stroke="{colour}" stroke-width="1.5"'
         self.titled(shape, text)
 
     def marks(self, changes, y_of):
@@ -670,10 +467,11 @@ def parser_of_words():
     parser.add_argument("recording", metavar="RECORDING", nargs="?", default="-", help="a replay script; `-`, or none: standard input")
     parser.add_argument("--svg", metavar="FILE", help="also draws it all over time, as a picture that any browser opens")
     parser.add_program()
-    parser.add_argument("--output", metavar="FILE", help="what `replay` wrote for the recording; it isn't run then")
+    parser.add_argument("--output", metavar="FILE", help="what `replay` wrote for --marked; it isn't run then")
     parser.add_argument("--decoded", metavar="FILE", help="what `decode` wrote for --datagrams; it isn't run then")
     datagrams_help = "writes all datagrams in hex, one a line, each once, and ends (`decode` takes 16,777,216 bytes of them at once)"
     parser.add_argument("--datagrams", action="store_true", help=datagrams_help)
+    parser.add_argument("--marked", action="store_true", help="writes the recording with its marks, and ends")
     parser.add_argument("--help", action="store_true", help="this text")
     return parser
 
@@ -686,14 +484,16 @@ def tell(arguments):
         return [parser.format_help()]
     text = read_file(words.recording)
     script = read_script(text)
+    if words.marked:
+        return marked(script, text)
     where = f"{words.output}: " if words.output else "the output of `replay`: "
-    output = read_output(read_file(words.output) if words.output else run(words.program, "replay", text), where, script)
+    output = read_output(read_file(words.output) if words.output else run_replay(words.program, script, text), where, script)
     digits = datagrams(script, output)
     if words.datagrams:
         return [one + "\n" for one in digits]
     decoded = read_file(words.decoded) if words.decoded else run_decode(words.program, digits)
     told = read_decoded(decoded, f"{words.decoded}: " if words.decoded else "the output of `decode`: ", digits)
-    story = Story(script, output, told, where)
+    story = Story(script, output, told)
     if words.svg:
         write_picture(words.svg, Picture(story).text(), (words.recording, words.output, words.decoded))
     return story.lines()
