@@ -33,25 +33,36 @@ use step_sequencer::Pattern;
 // Without words it rehearses, and with words it joins the network. Either way the pattern comes on standard input.
 fn main(rt: HostRuntime) -> ExitCode {
     let status = match asked(&rt) {
-        Ok((Words::Rehearsal, pattern)) => {
-            rehearse(&rt, rt.alloc(), pattern, &mut StdSink::new(rt.stdout()))
-        }
-        // What is sent to another thread stands on the runtime itself here, and not on a type parameter for it.
-        Ok((Words::Session(setup), pattern)) => {
-            match devices_of(
-                rt,
-                rt.alloc(),
-                setup.blocks,
-                rt.stdout(),
-                rt.stderr(),
-                rt.stderr(),
-            ) {
-                Ok(mut devices) => {
-                    let status = play_session(&rt, rt.alloc(), setup, pattern, &mut devices);
-                    devices.port.tell_refused();
-                    status
+        Ok(asked) => {
+            let (words, pattern) = asked;
+            match words {
+                Words::Rehearsal => {
+                    rehearse(&rt, rt.alloc(), pattern, &mut StdSink::new(rt.stdout()))
                 }
-                Err(status) => status,
+                // What is sent to another thread stands on the runtime itself here, and not on a type parameter for it.
+                Words::Session(setup) => {
+                    match devices_of(
+                        rt,
+                        rt.alloc(),
+                        setup.blocks,
+                        rt.stdout(),
+                        rt.stderr(),
+                        rt.stderr(),
+                    ) {
+                        Ok(mut devices) => {
+                            let status = play_session(
+                                &rt,
+                                rt.alloc(),
+                                setup,
+                                pattern,
+                                &mut devices,
+                            );
+                            devices.port.tell_refused();
+                            status
+                        }
+                        Err(status) => status,
+                    }
+                }
             }
         }
         Err(status) => status,
