@@ -1,1 +1,2 @@
+mod CallbackLemmas
 mod PlayerLemmas

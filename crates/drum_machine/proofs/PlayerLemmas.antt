@@ -1,37 +1,30 @@
--- The frames of a callback lie within the limit, and what a pass has played goes on.
-use Rattle.std.proofs.Common.{◌≡◌, ℕ, ◌+◌, ◌<◌, ◌^◌, ℤ, pos, ◌+ℤ◌, ◌-ℤ◌, ◌≤ℤ◌, FitsSigned, sym, subst, arith, to_z, of_z, w64}
-use Rattle.std.proofs.lemmas.Int.{ints, to_z-of_z}
-use Rattle.lk_base.specs.Ranges.{IsMoment, IsWithinLimit}
-use Rattle.link_live.proofs.AskLemmas.{moment_fits}
-use Rattle.step_sequencer.specs.Frames.{frame_time}
+-- What a pass has played goes on with a callback, whose MIDI events are messages that have bytes.
+use Rattle.std.proofs.Common.{◌≡◌, ℕ, ◌+◌, ◌≤◌, ℤ, Bool, List, [], ◌∷◌, ◌++◌, length, All, ap, sym, subst, ◌∙◌, append_assoc, append-nil}
+use Rattle.std.proofs.lemmas.List.Elements.{All-same}
+use Rattle.audio_handoff.specs.Cell.{Pair}
+use Rattle.client_state.specs.declared.commit.Commit.{Commit}
+use Rattle.client_state.specs.declared.state.State.{State}
+use Rattle.link_midi.specs.Events.{Part, all_events_of, events_from, span}
+use Rattle.link_midi.specs.Messages.{IsMessage}
+use Rattle.link_midi.specs.declared.message.MidiEvent.{MidiEvent}
+use Rattle.link_shared.specs.Audio.{AudioView, HasReadAudio}
+use Rattle.drum_machine.specs.Player.{HasPlayed}
 
--- ---- the time of a frame, as it is stored
+pub played_on : (before pass after : AudioView) (number : ℕ) (state shown : State)
+    → HasPlayed before pass → HasReadAudio pass after number state shown → HasPlayed before after
+played_on before pass after number state shown played read =
+    let last : List Pair = (number, read.row) ∷ [] in
+    record {
+      seen = (played.seen.0 ++ last, read.seen ∙ ap (λ l. l ++ last) played.seen.1 ∙ append_assoc before.seen played.seen.0 last);
+      made = (played.made.0, read.commits_stay ∙ played.made.1);
+      once = subst (λ (l : List Commit). length l ≤ length before.made + 1) (sym read.commits_stay) played.once;
+    }
 
-frame_range : (origin : ℤ) (frame : ℕ) → IsMoment origin → frame + 960 < 2 ^ 31
-    → (pos 0 ≤ℤ frame_time origin frame) × (frame_time origin frame ≤ℤ pos (2 ^ 56))
-unfolding frame_time
-frame_range origin frame moment few = (omega (arith, ints, moment.0, moment.1, few), omega (arith, ints, moment.0, moment.1, few))
-
-range_fits : (time : ℤ) → (pos 0 ≤ℤ time) × (time ≤ℤ pos (2 ^ 56)) → FitsSigned w64 time
-range_fits time range = grind (arith, ints)
-
-stored_moment : (origin : ℤ) → IsMoment origin → IsMoment (to_z w64 (of_z w64 origin))
-stored_moment origin moment = subst IsMoment (sym (to_z-of_z w64 origin (moment_fits origin moment))) moment
-
-before_range : (time : ℤ) → (pos 0 ≤ℤ time) × (time ≤ℤ pos (2 ^ 56)) → IsWithinLimit (time -ℤ pos 1)
-before_range time range = omega (arith, ints, range.0, range.1)
-
-end_range : (time : ℤ) → (pos 0 ≤ℤ time) × (time ≤ℤ pos (2 ^ 56)) → IsWithinLimit (time +ℤ pos 20_000)
-end_range time range = omega (arith, ints, range.0, range.1)
-
-pub before_within : (origin time : ℤ) (frame : ℕ) → time ≡ frame_time (to_z w64 (of_z w64 origin)) frame → IsMoment origin → frame + 960 < 2 ^ 31
-    → IsWithinLimit (to_z w64 (of_z w64 time) -ℤ pos 1)
-before_within origin time frame is moment few =
-    let range = subst (λ (t : ℤ). (pos 0 ≤ℤ t) × (t ≤ℤ pos (2 ^ 56))) (sym is) (frame_range _ frame (stored_moment origin moment) few) in
-    subst (λ (t : ℤ). IsWithinLimit (t -ℤ pos 1)) (sym (to_z-of_z w64 time (range_fits time range))) (before_range time range)
-
-pub end_within : (origin time : ℤ) (frame : ℕ) → time ≡ frame_time (to_z w64 (of_z w64 origin)) frame → IsMoment origin → frame + 960 < 2 ^ 31
-    → IsWithinLimit (to_z w64 (of_z w64 time) +ℤ pos 20_000)
-end_within origin time frame is moment few =
-    let range = subst (λ (t : ℤ). (pos 0 ≤ℤ t) × (t ≤ℤ pos (2 ^ 56))) (sym is) (frame_range _ frame (stored_moment origin moment) few) in
-    subst (λ (t : ℤ). IsWithinLimit (t +ℤ pos 20_000)) (sym (to_z-of_z w64 time (range_fits time range))) (end_range time range)
+-- what the law says of all parts holds of a block
+pub block_messages : ((running : Bool) (parts : List Part) → All (λ event. IsMessage event.message) (all_events_of running parts))
+    → (state : State) (running : Bool) (time : ℤ) (n : ℕ) (sent : List MidiEvent)
+    → sent ≡ events_from state running time n → All (λ event. IsMessage event.message) sent
+unfolding all_events_of
+block_messages law state running time n sent is =
+    All-same (λ event. IsMessage event.message) sent (events_from state running time n ++ []) (is ∙ sym (append-nil (events_from state running time n)))
+    (law running (record { state = state; block = span time n } ∷ []))

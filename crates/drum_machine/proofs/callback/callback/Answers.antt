@@ -1,4 +1,4 @@
-use Rattle.drum_machine.proofs.PlayerLemmas.{before_within, end_within}
+use Rattle.drum_machine.proofs.CallbackLemmas.{before_within, end_within}
 use Rattle.drum_machine.proofs.callback.callback.Goals as goal
 
 pub block_into-requires-clause-before : goal.block_into-requires-clause-before

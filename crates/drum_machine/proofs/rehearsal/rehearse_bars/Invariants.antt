@@ -1,0 +1,14 @@
+use Rattle.std.proofs.Common.{◌-◌, ◌≡◌, ◌≤◌, length, pos, []}
+use Rattle.drum_machine.proofs.rehearsal.rehearse_bars.Given as goal
+
+abbrev pub invariant-loop-block : goal.invariant-loop-block
+invariant-loop-block g l = record {
+  within : l.block ≤ 373;
+  gates : length l.hub.config.gates ≡ 1;
+  handed : l.hub.handed ≡ [];
+  made : length l.pass.made ≤ l.block;
+  origin : l.drums.origin ≡ pos 1_000_000;
+}
+
+abbrev pub decreases-loop-block : goal.decreases-loop-block
+decreases-loop-block g l = 373 - l.block
