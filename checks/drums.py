@@ -4,8 +4,8 @@
 PROGRAM is jorazhil's own, and DRUMS the drum machine's. The live run's clicks are lines on its standard error, each with its host time. It
 starts to play, and changes its tempo twice between two beats. The drum machine has a stroke on each beat; the onsets in its WAV are found
 by their level alone. The two clocks begin apart, by how much nobody knows: so the onsets have to be where the clicks are, but for one
-distance that all of them share, to within a millisecond; and each click that falls into the WAV has its onset. Its MIDI clock has 24 clocks
-from one onset to the next. Then a pattern of sixteenths, whose onsets are quarters of a beat apart; the WAV's header; a rehearsal by
+distance that all of them share, to within a millisecond; and each click that falls into the WAV has its onset. Its MIDI clock comes 24
+times a beat of the last tempo. Then a pattern of sixteenths, whose onsets are quarters of a beat apart; the WAV's header; a rehearsal by
 another pattern, which has the stored one's steps; and patterns and words at fault, with their statuses and texts.
 The last line is 'N passed, N failed'.
 """
@@ -94,22 +94,15 @@ def session(program, drums):
     want("how many onsets there are from the first of these clicks on", len(heard), len(inside))
     clocks = [int(at) for at in re.findall(r"^midi (\d+) f8$", midi, re.M)]
     want("that clocks rise", clocks, sorted(clocks))
-    counts = clocks_between(clocks, inside, apart, onsets)
-    want("how many MIDI clocks come from one onset to the next", set(counts), {24})
+    # 24 of them to a beat of the last tempo, to a microsecond.
+    gaps = [other - one for one, other in zip(clocks[-100:], clocks[-99:])]
+    want("that the last clocks are 24 to a beat", [gap for gap in gaps if abs(gap - CHANGES[1][1] / 24) > 1], [])
 
 
 def best_distance(clicks, onsets):
     """How much an onset is later than its click, by the two clocks: the distance that most of them share."""
     ends = [onset - click for click in clicks for onset in onsets]
     return max(ends, key=lambda apart: (sum(abs(other - apart) <= NEAR / 2 for other in ends), -abs(apart)))
-
-
-def clocks_between(clocks, inside, apart, onsets):
-    """MIDI times are the drum machine's host times: those of frame 0 is that of the first block."""
-    ends = [clock - onset for clock in clocks for onset in onsets[-6:]]
-    start = max(set(round(end, -2) for end in ends), key=lambda at: sum(abs(end - at) <= 200 for end in ends))
-    steady = [onset + start for onset in onsets if onset >= inside[1] + apart - NEAR]
-    return [sum(one - NEAR <= clock < other - NEAR for clock in clocks) for one, other in zip(steady, steady[1:])]
 
 
 def alone(drums):
