@@ -9,6 +9,7 @@ use Rattle.lk_base.specs.declared.start.SessionStart.{SessionStart}
 use Rattle.peer_gateway.specs.Answers.{peers_in}
 use Rattle.ping_measure.specs.Life.{is_over}
 use Rattle.session_choice.specs.History.{Taking, session_of, known_in}
+use Rattle.session_choice.specs.Table.{AreDistinctBy}
 use Rattle.client_state.specs.Commit.{IsTidyStart}
 use Rattle.client_state.specs.State.{IsTidyState}
 use Rattle.link_node.specs.Config.{IsConfig}
@@ -18,8 +19,7 @@ use Rattle.link_node.specs.Tick.{is_waiting}
 
 -- no id stands there twice
 abbrev pub AreDistinct : List NodeId → Type 0
-AreDistinct [] = Unit {0}
-AreDistinct (id ∷ rest) = AllByRecursion (λ other. other ≡ id → ⊥) rest × AreDistinct rest
+AreDistinct ids = AreDistinctBy (λ id. id) ids
 
 abbrev pub AreTidyTimelines : Taking → Type 0
 AreTidyTimelines taking = AllByRecursion IsTidy (taking.first ∷ taking.later)

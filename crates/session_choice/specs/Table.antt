@@ -9,10 +9,13 @@ pub record Table : Type 0 where
   pub offset : ℤ
   pub others : List Known
 
--- no two have the same id
+-- no two have the same key
+abbrev pub AreDistinctBy : {A B : Type 0} → (A → B) → List A → Type 0
+AreDistinctBy key [] = Unit {0}
+AreDistinctBy key (a ∷ rest) = AllByRecursion (λ other. key other ≡ key a → ⊥) rest × AreDistinctBy key rest
+
 abbrev pub AreDistinct : List Known → Type 0
-AreDistinct [] = Unit {0}
-AreDistinct (known ∷ rest) = AllByRecursion (λ other. other.session ≡ known.session → ⊥) rest × AreDistinct rest
+AreDistinct rows = AreDistinctBy (λ known. known.session) rows
 
 abbrev pub HasDistinctIds : Table → Type 0
 HasDistinctIds table = AreDistinct (table.current ∷ table.others)

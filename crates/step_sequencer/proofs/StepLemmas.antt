@@ -1,23 +1,12 @@
 -- Steps rise, by at most one in 15,000 microseconds and two in 20,000; frames rise, by 20,000 microseconds in 960.
-use Rattle.std.proofs.Common.{◌≡◌, ℕ, suc, ◌+◌, ◌*◌, ◌<◌, ◌≤◌, ℤ, pos, negsuc, ◌+ℤ◌, ◌-ℤ◌, ◌*ℤ◌, ◌≤ℤ◌, refl, ap, arith}
-use Rattle.std.proofs.lemmas.Int.{ints, clamps, by_lt_z}
-use Rattle.std.specs.Int.{int_div_euclid}
-use borrow.Author.Differences.{up, down}
-use native.Mathlib.Nat.{mul-le-mul_left}
-use Rattle.lk_base.specs.Rounding.{nearest_of}
+use Rattle.std.proofs.Common.{◌≡◌, ℕ, ◌+◌, ◌≤◌, ℤ, pos, ◌+ℤ◌, ◌≤ℤ◌, refl, arith}
+use Rattle.std.proofs.lemmas.Int.{ints}
 use Rattle.lk_base.specs.Timeline.{IsTidy}
 use Rattle.lk_base.specs.declared.timeline.Timeline.{Timeline}
-use Rattle.lk_base.proofs.RoundingLemmas.{scaled_le, nearest_of-IsNearest}
-use Rattle.timeline_math.specs.Beats.{beat_at}
 use Rattle.timeline_math.specs.Clicks.{since}
-use Rattle.timeline_math.proofs.ClickLemmas.{since-le}
+use Rattle.timeline_math.proofs.ClickLemmas.{since-le, since-apart, div_parts}
 use Rattle.step_sequencer.specs.Frames.{frame_time, before}
 use Rattle.step_sequencer.specs.Steps.{IsStep, step_at}
-
--- what the quotient that rounds down is
-div_parts : (a : ℤ) (k : ℕ) → 0 < k → (up (int_div_euclid a (pos k)) * k + down a ≤ down (int_div_euclid a (pos k)) * k + up a) × (down (int_div_euclid a (pos k)) * k + up a < up (int_div_euclid a (pos k)) * k + down a + k)
-div_parts (pos a) k h = omega arith
-div_parts (negsuc a) k h = omega arith
 
 pub step_at-IsStep : (tl : Timeline) (time : ℤ) → IsStep tl time (step_at tl time)
 unfolding step_at
@@ -42,28 +31,6 @@ step-le tl a b tidy le =
     let low = (step_at-IsStep tl a).low in
     let high = (step_at-IsStep tl b).high in
     omega (arith, ints)
-
--- numbers c apart have nearest numbers at most k apart, where k tempos are more than c
-nearest_apart : (n d : ℤ) (c k : ℕ) → pos 60_060 ≤ℤ d → c < k * 60_060 → nearest_of (n +ℤ pos c) d ≤ℤ (nearest_of n d +ℤ pos k)
-nearest_apart n (pos m) c k h small =
-    let a = nearest_of n (pos m) in
-    let b = nearest_of (n +ℤ pos c) (pos m) in
-    let neara = (nearest_of-IsNearest n (pos m) (omega (arith, ints))).near in
-    let nearb = (nearest_of-IsNearest (n +ℤ pos c) (pos m) (omega (arith, ints))).near in
-    let slow : k * 60_060 ≤ k * m = mul-le-mul_left k (omega (arith, ints)) in
-    by_lt_z (a +ℤ pos k) b
-    (λ lt. let apart = scaled_le a b (suc k) m (omega (arith, ints)) in absurd (omega (arith, ints)))
-    (λ le. le)
-nearest_apart n (negsuc m) c k h small = absurd (omega (arith, ints))
-
-since-apart : (tl : Timeline) (time : ℤ) (gap c k : ℕ) → IsTidy tl → c ≡ gap * 1_000_000 → c < k * 60_060 → since tl (time +ℤ pos gap) ≤ℤ (since tl time +ℤ pos k)
-unfolding since beat_at
-since-apart tl time gap c k tidy e small =
-    let n = (time -ℤ tl.time) *ℤ pos 1_000_000 in
-    let next : (time +ℤ pos gap -ℤ tl.time) *ℤ pos 1_000_000 ≡ n +ℤ pos c = omega (arith, ints) in
-    let same = ap (λ z. nearest_of z tl.mpb) next in
-    let apart = nearest_apart n tl.mpb c k tidy.fastest small in
-    omega (arith, ints, clamps)
 
 pub step-single : (tl : Timeline) (a b : ℤ) → IsTidy tl → b ≤ℤ (a +ℤ pos 15_000) → step_at tl b ≤ℤ (step_at tl a +ℤ pos 1)
 step-single tl a b tidy near =

@@ -8,7 +8,7 @@ ghost use Rattle.client_state.specs.Commit.{IsTidyCommit, IsTidyStart};
 ghost use Rattle.link_node.specs.Standing.{gates_of, app_of, audio_of};
 
 use super::{config, numbered, payload, ping};
-use crate::tests::{FIRST, OPENING, OWN, STILL, endpoint, fields, wire_of};
+use crate::tests::{FIRST, OPENING, OWN, STILL, endpoint, expect, fields, wire_of};
 use asdp_messages::write_alive;
 use client_state::Commit;
 use link_node::{Change, Event, Node, Sends};
@@ -126,9 +126,9 @@ impl Stage {
         self.change = self.node.step(&event, &mut self.sends);
     }
 
-    // Fails, telling both and the step, where the two are not the same.
+    // Fails, telling the step as a row, and both, where the two are not the same.
     pub(super) fn expect<T: PartialEq + Debug>(&self, rt: &impl Abort, found: &T, wanted: &T) {
-        assert_eq!(rt; *found, *wanted, "step {}", self.step);
+        expect(rt, self.step, found, wanted);
     }
 
     // Fails, telling the step, where it is not so.
