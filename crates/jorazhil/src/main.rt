@@ -181,6 +181,7 @@ fn about_of(alloc: Global, words: &[String]) -> Result<About, Status> {
 fn about_live(alloc: Global, words: &[String]) -> Result<About, WordsFault> {
     let options = live_options(alloc, words)?;
     Ok(About {
+        program: "jorazhil",
         command: CommandName::Live.word(),
         blocks: Some(options.blocks),
         events: options.events,
@@ -193,6 +194,7 @@ fn about_live(alloc: Global, words: &[String]) -> Result<About, WordsFault> {
 fn about_control(alloc: Global, words: &[String]) -> Result<About, WordsFault> {
     let options = control_options(alloc, words)?;
     Ok(About {
+        program: "jorazhil",
         command: CommandName::Control.word(),
         blocks: None,
         events: options.events,

@@ -9,11 +9,12 @@ const BLOCK_LENGTH: u64 = 20_000;
 /// A million: the microseconds of a second, and the microbeats of a beat.
 const MILLION: u64 = 1_000_000;
 
-/// How a run was set up: the command's word, how many blocks of 20 milliseconds it plays at most, where it plays any, how many events find
-/// room, the quantum that bars are counted in at first, in microbeats, which is 0 where there is none, and the group of the messages that
-/// are heard and sent.
+/// How a run was set up: the program's name, which begins each line that is told, the command's word, how many blocks of 20 milliseconds it
+/// plays at most, where it plays any, how many events find room, the quantum that bars are counted in at first, in microbeats, which is 0
+/// where there is none, and the group of the messages that are heard and sent.
 #[derive(Clone, Copy, Debug)]
 pub struct About {
+    pub program: &'static str,
     pub command: &'static str,
     pub blocks: Option<u64>,
     pub events: u64,

@@ -40,6 +40,7 @@ impl<W: Write + Drop, R: Clock + Wait + Drop> ClickAudio<W, R> {
     pub fn new(inner: W, rt: R, clock: HostClock) -> io::Result<Self>
         ensures inner { IfOk result (λ device. device.inner ≡ inner) }
         ensures faultless { IfOk result (λ device. device.faults ≡ 0) }
+        ensures clock { IfOk result (λ device. device.clock ≡ clock) }
     {
         let start = clock.moment(&rt)?;
         Ok(ClickAudio {

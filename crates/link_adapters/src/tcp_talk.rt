@@ -131,6 +131,10 @@ impl<R: Net + Wait + Eprint + Copy + Drop> Talk for TcpTalk<R> {
     fn listen(&mut self, at: Endpoint) -> Bound
         ensures opened { Opens self.old.opened self.new.opened at result }
         ensures cause { HasBindCause self.old.faults self.new.faults result }
+
+        // Whoever was there before stays, unless it listens anew.
+        ensures fresh { result ≡ Bound.Ready → self.new.client ≡ None }
+        ensures kept { result ≡ Bound.Failed → (self.new.client ≡ self.old.client) × (self.new.listener ≡ self.old.listener) }
     {
         match TcpListener::bind(&self.rt, address_of(at)) {
             Ok(listener) => {

@@ -59,6 +59,7 @@ impl<R: Net + Clock + Wait + Eprint + Copy + Drop> UdpPort<R> {
     pub fn new(rt: R, alloc: Global, clock: HostClock, about: About) -> io::Result<Self>
         ensures gates { IfOk result (λ port. locals_of port.gates.items ≡ []) }
         ensures faultless { IfOk result (λ port. port.faults ≡ 0) }
+        ensures given { IfOk result (λ port. (port.clock ≡ clock) × (port.about ≡ about)) }
     {
         let poll = Poll::new(&rt)?;
         let events = Events::with_capacity(alloc, EVENTS)?;
@@ -80,7 +81,7 @@ impl<R: Net + Clock + Wait + Eprint + Copy + Drop> UdpPort<R> {
 
     /// Prints on standard error what the system refused to send, in a line for each of the first 32 destinations.
     pub fn tell_refused(&self) {
-        self.refused.tell(&self.rt);
+        self.refused.tell(&self.rt, self.about.program);
     }
 
     // Sockets in place of those of before. At an error those stay.
@@ -102,17 +103,17 @@ impl<R: Net + Clock + Wait + Eprint + Copy + Drop> UdpPort<R> {
         let rt = &self.rt;
         let gates = Named(locals);
         let about = self.about;
-        let command = about.command;
-        let _printed = eprintln!(rt; "jorazhil: {command} at {gates}; {about}");
+        let (program, command) = (about.program, about.command);
+        let _printed = eprintln!(rt; "{program}: {command} at {gates}; {about}");
     }
 
     // Tells why no gates could be bound, and of the run.
     fn tell_unbound(&self, unbound: Unbound) {
         let rt = &self.rt;
         let about = self.about;
-        let _printed = eprintln!(rt; "jorazhil: {unbound}; the run goes on without the network");
-        let command = about.command;
-        let _told = eprintln!(rt; "jorazhil: {command} without the network; {about}");
+        let (program, command) = (about.program, about.command);
+        let _printed = eprintln!(rt; "{program}: {unbound}; the run goes on without the network");
+        let _told = eprintln!(rt; "{program}: {command} without the network; {about}");
     }
 
     // Takes note of a datagram that wasn't sent: one that the system refused is counted by its destination; of a port that failed it is
@@ -127,8 +128,9 @@ impl<R: Net + Clock + Wait + Eprint + Copy + Drop> UdpPort<R> {
             self.faults = self.faults.saturating_add(1);
             let rt = &self.rt;
             let to = address_of(to);
+            let program = self.about.program;
             let _printed = eprintln!(rt;
-                "jorazhil: a send to {to} failed: {error}; the run goes on without the network"
+                "{program}: a send to {to} failed: {error}; the run goes on without the network"
             );
         } else {
             self.refused.count(to, error);
@@ -238,8 +240,9 @@ impl<R: Net + Clock + Wait + Eprint + Copy + Drop> Port for UdpPort<R> {
             Err(error) => {
                 self.faults = self.faults.saturating_add(1);
                 let rt = &self.rt;
+                let program = self.about.program;
                 let _printed = eprintln!(rt;
-                    "jorazhil: a receive failed: {error}; the run goes on without the network"
+                    "{program}: a receive failed: {error}; the run goes on without the network"
                 );
                 Arrival::Failed
             }

@@ -15,6 +15,7 @@ use Rattle.link_control.specs.Lines.{whole_lines_of}
 use Rattle.link_control.specs.Log.{Answered, Numbered, act_asked, commits_in, entries_of, own_behind}
 use Rattle.link_control.specs.Serving.{ArePaced, EndsServing, HasUsed, IsAnswered, IsCutShort, TalkSeen, lines_in, pairs_in}
 use Rattle.link_control.specs.declared.log.LineLog.{LineLog}
+use Rattle.link_control.specs.declared.server.Kept.{Kept}
 use Rattle.link_control.specs.declared.server.Served.{Served}
 use Rattle.link_control.specs.declared.server.Served.TheVariants as served
 
@@ -111,3 +112,11 @@ pub record HasStopped (late : Option ℤ) (start now : TalkSeen) (before pass : 
 abbrev pub GoesOn : Option ℤ → TalkSeen → TalkSeen → AppView → AppView → List LineLog → ℤ → List ℕ → List ℕ → Option Served → Type 0
 GoesOn late start now before pass log last bytes kept None = IsServing late start now before pass log last bytes kept
 GoesOn late start now before pass log last bytes kept (Some end) = HasStopped late start now before pass log bytes end
+
+-- Some bytes of the client were taken: wherever serving stood before them, it goes on or ended there. `kept` is what is kept of the line
+-- that is read, with the moment that was answered last.
+abbrev pub TakesBytes : Option ℤ → TalkSeen → TalkSeen → AppView → AppView → List LineLog → List LineLog → Kept → Kept → List ℕ → Option Served → Type 0
+TakesBytes late now now_then pass pass_then log log_then kept kept_then bytes ended =
+    (start : TalkSeen) (before : AppView) (earlier : List ℕ)
+    → IsServing late start now before pass log kept.last earlier kept.line.items
+    → GoesOn late start now_then before pass_then log_then kept_then.last (earlier ++ bytes) kept_then.line.items ended

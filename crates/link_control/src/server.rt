@@ -1,15 +1,14 @@
 //! Serving one client: each line is captured for, committed where it changes something, logged and answered.
 
-ghost use Rattle.std.specs.Prelude.{◌≡◌, ◌≤◌, ◌<◌, ◌∷◌, ◌++◌, ℕ, List, [], IfOk, IfSome, IsSome, OnErr, option_map, vec_capacity, vec_len};
+ghost use Rattle.std.specs.Prelude.{◌≡◌, ◌≤◌, ◌<◌, ◌∷◌, ◌++◌, [], IfOk, IfSome, IsSome, OnErr, option_map, vec_capacity, vec_len};
 ghost use Rattle.client_state.specs.State.{IsTidyState};
 ghost use Rattle.lk_base.specs.Ranges.{IsMoment};
-ghost use Rattle.link_shared.specs.Passes.{AppView};
 ghost use Rattle.link_text.specs.ControlLine.{IsControlLine};
 ghost use Rattle.link_text.specs.LiveScript.{IsAct};
 ghost use Rattle.link_live.specs.Clients.{commit_of_act};
 ghost use Rattle.link_control.specs.Log.{act_asked};
-ghost use Rattle.link_control.specs.Serving.{HasServed, TalkSeen, seen_talk};
-ghost use Rattle.link_control.specs.ServingNow.{GoesOn, HasMade, IsDone, IsServing, number_of};
+ghost use Rattle.link_control.specs.Serving.{HasServed, seen_talk};
+ghost use Rattle.link_control.specs.ServingNow.{HasMade, IsDone, TakesBytes, number_of};
 
 use crate::answer::{put_answer, say};
 use crate::line::{LineHead, asked_in, keep};
@@ -110,11 +109,9 @@ fn take_bytes<C: StateCell<11>, N: LinkName, L: Talk, T: Pace, R: Wait>(
     requires opened { IsSome (L.opened talk.old) }
     requires room { 4_096 ≤ vec_capacity log.old.lines }
     requires moment { IsMoment kept.old.last }
-    ensures taken { (start : TalkSeen) (before : AppView) (earlier : List ℕ)
-        → IsServing (T.late pace.old) start (seen_talk L.left L.written L.opened L.faults talk.old) before pass.old
-        log.old.lines.items kept.old.last earlier kept.old.line.items
-        → GoesOn (T.late pace.old) start (seen_talk L.left L.written L.opened L.faults talk.new) before pass.new
-        log.new.lines.items kept.new.last (earlier ++ bytes.now) kept.new.line.items result }
+    ensures taken { TakesBytes (T.late pace.old) (seen_talk L.left L.written L.opened L.faults talk.old)
+        (seen_talk L.left L.written L.opened L.faults talk.new) pass.old pass.new log.old.lines.items log.new.lines.items kept.old kept.new
+        bytes.now result }
     ensures left { L.left talk.new ≡ L.left talk.old }
     ensures opened { L.opened talk.new ≡ L.opened talk.old }
     ensures late { T.late pace.new ≡ T.late pace.old }
@@ -145,11 +142,9 @@ fn take_byte<C: StateCell<11>, N: LinkName, L: Talk, T: Pace, R: Wait>(
     requires opened { IsSome (L.opened talk.old) }
     requires room { 4_096 ≤ vec_capacity log.old.lines }
     requires moment { IsMoment kept.old.last }
-    ensures taken { (start : TalkSeen) (before : AppView) (earlier : List ℕ)
-        → IsServing (T.late pace.old) start (seen_talk L.left L.written L.opened L.faults talk.old) before pass.old
-        log.old.lines.items kept.old.last earlier kept.old.line.items
-        → GoesOn (T.late pace.old) start (seen_talk L.left L.written L.opened L.faults talk.new) before pass.new
-        log.new.lines.items kept.new.last (earlier ++ byte ∷ []) kept.new.line.items result }
+    ensures taken { TakesBytes (T.late pace.old) (seen_talk L.left L.written L.opened L.faults talk.old)
+        (seen_talk L.left L.written L.opened L.faults talk.new) pass.old pass.new log.old.lines.items log.new.lines.items kept.old kept.new
+        (byte ∷ []) result }
     ensures left { L.left talk.new ≡ L.left talk.old }
     ensures opened { L.opened talk.new ≡ L.opened talk.old }
     ensures late { T.late pace.new ≡ T.late pace.old }
@@ -179,11 +174,9 @@ fn answer_line<C: StateCell<11>, N: LinkName, L: Talk, T: Pace, R: Wait>(
     requires opened { IsSome (L.opened talk.old) }
     requires room { 4_096 ≤ vec_capacity log.old.lines }
     requires moment { IsMoment kept.old.last }
-    ensures taken { (start : TalkSeen) (before : AppView) (earlier : List ℕ)
-        → IsServing (T.late pace.old) start (seen_talk L.left L.written L.opened L.faults talk.old) before pass.old
-        log.old.lines.items kept.old.last earlier kept.old.line.items
-        → GoesOn (T.late pace.old) start (seen_talk L.left L.written L.opened L.faults talk.new) before pass.new
-        log.new.lines.items kept.new.last (earlier ++ 10 ∷ []) kept.new.line.items result }
+    ensures taken { TakesBytes (T.late pace.old) (seen_talk L.left L.written L.opened L.faults talk.old)
+        (seen_talk L.left L.written L.opened L.faults talk.new) pass.old pass.new log.old.lines.items log.new.lines.items kept.old kept.new
+        (10 ∷ []) result }
     ensures left { L.left talk.new ≡ L.left talk.old }
     ensures opened { L.opened talk.new ≡ L.opened talk.old }
     ensures late { T.late pace.new ≡ T.late pace.old }

@@ -50,3 +50,6 @@ pub record AllSeen : Type 0 where
   pub outside : Outside
   pub talk : TalkSeen
   pub log : List LineLog
+
+abbrev pub all_seen_of : Outside → TalkSeen → List LineLog → AllSeen
+all_seen_of outside talk log = record { outside = outside; talk = talk; log = log }

@@ -6,12 +6,10 @@ ghost use Rattle.link_node.specs.Config.{config_value, gate_value};
 ghost use Rattle.link_text.specs.LiveScript.{IsLiveHead};
 ghost use Rattle.link_live.specs.Report.{report_value};
 ghost use Rattle.link_control.specs.ControlRun.{IsReady, told_of};
-ghost use Rattle.link_control.specs.Serving.{seen_talk};
 ghost use Rattle.link_commands.specs.Statuses.{seen};
-ghost use Rattle.link_daemon.specs.ControlEnds.{EndsControl, EndsControlled};
+ghost use Rattle.link_daemon.specs.ControlEnds.{EndsControl, EndsControlled, control_seen_of};
 ghost use Rattle.link_daemon.specs.ControlSetup.{control_setup_from, control_status_from, controlled_config_from};
 ghost use Rattle.link_daemon.specs.LiveEnds.{IfNotBegun};
-ghost use Rattle.link_daemon.specs.Outside.{seen_port};
 
 use crate::input::read_head;
 use crate::summary::write_report;
@@ -57,22 +55,10 @@ pub fn control_main<
     log: &mut SessionLog,
 ) -> Status
     ensures ends { EndsControl words.now seed (seen S.left S.faults input.old) (seen S.left S.faults input.new)
-        (record {
-          port = seen_port P.contents P.bound P.faults port.old;
-          talk = seen_talk L.left L.written L.opened L.faults talk.old;
-          late = T.late pace.old;
-          out = seen K.written K.faults out.old;
-          report = report_value report.old;
-          log = log.old.lines.items;
-        })
-        (record {
-          port = seen_port P.contents P.bound P.faults port.new;
-          talk = seen_talk L.left L.written L.opened L.faults talk.new;
-          late = T.late pace.new;
-          out = seen K.written K.faults out.new;
-          report = report_value report.new;
-          log = log.new.lines.items;
-        })
+        (control_seen_of P.contents P.bound P.faults L.left L.written L.opened L.faults T.late K.written K.faults
+        port.old talk.old pace.old out.old (report_value report.old) log.old.lines.items)
+        (control_seen_of P.contents P.bound P.faults L.left L.written L.opened L.faults T.late K.written K.faults
+        port.new talk.new pace.new out.new (report_value report.new) log.new.lines.items)
         result }
 
     // No object is called, or the input alone.
@@ -116,22 +102,10 @@ fn run_head<P: Port + Send, L: Talk + Send, T: Pace + Send, K: Sink, R: Threads 
     requires head { IsLiveHead head.mpb (map gate_value head.gates.items) }
     requires log { log.old.lines.items ≡ [] }
     ensures ends { EndsControlled (control_setup_from seed options.now head)
-        (record {
-          port = seen_port P.contents P.bound P.faults port.old;
-          talk = seen_talk L.left L.written L.opened L.faults talk.old;
-          late = T.late pace.old;
-          out = seen K.written K.faults out.old;
-          report = report_value report.old;
-          log = log.old.lines.items;
-        })
-        (record {
-          port = seen_port P.contents P.bound P.faults port.new;
-          talk = seen_talk L.left L.written L.opened L.faults talk.new;
-          late = T.late pace.new;
-          out = seen K.written K.faults out.new;
-          report = report_value report.new;
-          log = log.new.lines.items;
-        })
+        (control_seen_of P.contents P.bound P.faults L.left L.written L.opened L.faults T.late K.written K.faults
+        port.old talk.old pace.old out.old (report_value report.old) log.old.lines.items)
+        (control_seen_of P.contents P.bound P.faults L.left L.written L.opened L.faults T.late K.written K.faults
+        port.new talk.new pace.new out.new (report_value report.new) log.new.lines.items)
         result }
     ensures unbegun { result ≡ Status.Memory → report.new.published.items ≡ []
         → (port.new ≡ port.old) × (talk.new ≡ talk.old) × (out.new ≡ out.old) }

@@ -7,7 +7,7 @@ ghost use Rattle.link_control.specs.Serving.{seen_talk};
 ghost use Rattle.link_words.specs.ControlWords.{BeginsControl};
 ghost use Rattle.link_words.specs.LiveWords.{BeginsLive};
 ghost use Rattle.link_words.specs.LoadWords.{BeginsLoad};
-ghost use Rattle.link_daemon.specs.Outside.{outside_of};
+ghost use Rattle.link_daemon.specs.Outside.{all_seen_of, outside_of};
 ghost use Rattle.link_live.specs.Report.{report_value};
 ghost use Rattle.link_commands.specs.Statuses.{IfNothingWritten, seen};
 
@@ -50,18 +50,12 @@ pub fn link_main<
     log: &mut SessionLog,
 ) -> Status
     ensures ends { Ends words.now seed (seen S.left S.faults input.old) (seen S.left S.faults input.new)
-        (record {
-          outside = outside_of P.contents P.bound P.faults A.contents A.faults T.late K.written K.faults
-              port.old audio.old pace.old out.old (report_value report.old);
-          talk = seen_talk L.left L.written L.opened L.faults talk.old;
-          log = log.old.lines.items;
-        })
-        (record {
-          outside = outside_of P.contents P.bound P.faults A.contents A.faults T.late K.written K.faults
-              port.new audio.new pace.new out.new (report_value report.new);
-          talk = seen_talk L.left L.written L.opened L.faults talk.new;
-          log = log.new.lines.items;
-        })
+        (all_seen_of (outside_of P.contents P.bound P.faults A.contents A.faults T.late K.written K.faults
+        port.old audio.old pace.old out.old (report_value report.old))
+        (seen_talk L.left L.written L.opened L.faults talk.old) log.old.lines.items)
+        (all_seen_of (outside_of P.contents P.bound P.faults A.contents A.faults T.late K.written K.faults
+        port.new audio.new pace.new out.new (report_value report.new))
+        (seen_talk L.left L.written L.opened L.faults talk.new) log.new.lines.items)
         result }
 
     // No object is called, or just those of the command.

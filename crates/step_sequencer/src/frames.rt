@@ -4,10 +4,8 @@ ghost use Rattle.std.specs.Prelude.{◌≡◌};
 ghost use Rattle.lk_base.specs.Ranges.{IsMoment};
 ghost use Rattle.step_sequencer.specs.Frames as spec;
 
-/// Frames a second.
-pub const RATE: u32 = 48_000;
-
-/// The host time at which a frame begins, by the one at which frame 0 does: in whole microseconds, rounded down.
+/// The host time at which a frame begins, by the one at which frame 0 does: in whole microseconds, rounded down. There are 48,000 frames a
+/// second.
 ///
 /// Waits: never. Memory: none.
 #[tactic(auto, unfolding(crate::specs::Frames::frame_time))]

@@ -11,7 +11,7 @@ mod pattern;
 mod steps;
 mod wav;
 
-pub use frames::{RATE, frame_time};
+pub use frames::frame_time;
 pub use kit::{Kit, Samples, Sounded};
 pub use laws::{
     a_cut_changes_nothing, a_fault_is_no_pattern, each_step_is_struck_once, one_step,

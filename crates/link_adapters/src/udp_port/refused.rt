@@ -87,15 +87,16 @@ impl RefusedSends {
         }
     }
 
-    /// Prints a line for each row on standard error, and one for the further destinations, if there are any.
-    pub fn tell<R: Eprint>(&self, rt: &R) {
+    /// Prints a line for each row on standard error, and one for the further destinations, if there are any. Each begins with the program's
+    /// name.
+    pub fn tell<R: Eprint>(&self, rt: &R, program: &str) {
         for row in &self.rows {
-            let _printed = eprintln!(rt; "jorazhil: {row}");
+            let _printed = eprintln!(rt; "{program}: {row}");
         }
         if self.further > 0 {
             let datagrams = Counted(self.further, "datagram");
             let _printed = eprintln!(rt;
-                "jorazhil: the system refused {datagrams} to further destinations"
+                "{program}: the system refused {datagrams} to further destinations"
             );
         }
     }

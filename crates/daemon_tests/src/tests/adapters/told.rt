@@ -80,6 +80,7 @@ const ABOUTS: &[(u64, u64, u64, u16, &str)] = &[
 fn it_is_told_how_a_run_was_set_up(rt: HostRuntime) -> Result<(), Fail> {
     for (blocks, events, quantum, group, told) in ABOUTS {
         let about = About {
+            program: "jorazhil",
             command: "live",
             blocks: Some(*blocks),
             events: *events,
@@ -89,6 +90,7 @@ fn it_is_told_how_a_run_was_set_up(rt: HostRuntime) -> Result<(), Fail> {
         assert!(rt; tells(rt.alloc(), about, told)?, "{told}");
     }
     let about = About {
+        program: "jorazhil",
         command: "control",
         blocks: None,
         events: 1,
@@ -174,6 +176,6 @@ fn refusals_told(alloc: Global, count: u32, ends: u32, number: i32) -> Result<St
         };
         refused.count(to, io::Error::from_raw_os_error(number));
     }
-    refused.tell(&Heard { text: &text });
+    refused.tell(&Heard { text: &text }, "jorazhil");
     Ok(text.into_inner())
 }

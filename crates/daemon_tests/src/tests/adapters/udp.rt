@@ -28,8 +28,12 @@ const END: i64 = 40_000_000;
 
 const SOON: i64 = 20_000_000;
 
+/// After when it is sent, in microseconds: half a second after the wait begins.
+const SENT: i64 = 400_000;
+
 /// What is told of a run where a port is bound.
 const ABOUT: About = About {
+    program: "jorazhil",
     command: "live",
     blocks: Some(0),
     events: 1,
@@ -404,7 +408,7 @@ fn a_datagram_ends_the_wait_in_which_it_comes(rt: HostRuntime) -> Result<(), Fai
     Ok(())
 }
 
-// Whether it is the datagram that is sent below, on the gate 1, and came long before the end.
+// Whether it is the datagram that is sent below, on the gate 1, and came when it was sent, long before the end.
 fn is_soon(arrival: &Arrival) -> bool {
     match arrival {
         Arrival::Datagram {
@@ -412,7 +416,9 @@ fn is_soon(arrival: &Arrival) -> bool {
             bytes,
             now,
             ..
-        } => *gate == Gate(1) && bytes.as_slice() == b"a".as_slice() && *now < SOON,
+        } => {
+            *gate == Gate(1) && bytes.as_slice() == b"a".as_slice() && *now >= SENT && *now < SOON
+        }
         _ => false,
     }
 }

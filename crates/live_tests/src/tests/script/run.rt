@@ -105,7 +105,8 @@ fn drain<C: StateCell<11>, N: LinkName, R: Wait + Abort>(
         early = turn(rt, way, link, hub, sends, &mut full) | early;
     }
     let last = turn(rt, way, link, hub, sends, &mut full);
-    assert!(rt; last & !early & !full);
+    let more = turn(rt, way, link, hub, sends, &mut full);
+    assert!(rt; last & !early & !more & !full);
 }
 
 // Makes a turn, notes whether it finds the journal full, and answers whether it tells a quit.
