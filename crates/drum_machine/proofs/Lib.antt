@@ -1,2 +1,5 @@
 mod CallbackLemmas
 mod PlayerLemmas
+mod PlayedLemmas
+mod SessionLemmas
+mod WordLemmas

@@ -1,2 +1,6 @@
 pub mod Callback
+pub mod Statuses
+pub mod Words
+pub mod Written
+pub mod Ends
 pub mod Player

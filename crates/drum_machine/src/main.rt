@@ -106,7 +106,8 @@ fn devices_of<R: Net + Wait + Clock + Eprint + Copy + Drop, W: Write + Drop, E: 
         return Err(Status::Audio);
     };
     let about = About {
-        command: "drums",
+        program: "drum_machine",
+        command: "session",
         blocks: Some(u64::from(blocks)),
         events: EVENTS,
         quantum: QUANTUM.unsigned_abs(),
@@ -117,7 +118,8 @@ fn devices_of<R: Net + Wait + Clock + Eprint + Copy + Drop, W: Write + Drop, E: 
         Err(error) if error.kind() == ErrorKind::OutOfMemory => return Err(Status::Memory),
         Err(_) => return Err(Status::Network),
     };
-    let (Ok(opened_at), Ok(audio)) = (clock.moment(&rt), ClickAudio::new(clicks, rt, clock)) else {
+    // The device comes first: its blocks then begin no later than the node, whose beat 0 is where it opens.
+    let (Ok(audio), Ok(opened_at)) = (ClickAudio::new(clicks, rt, clock), clock.moment(&rt)) else {
         return Err(Status::Audio);
     };
     let since = now.duration_since(UNIX_EPOCH).unwrap_or_default();

@@ -1,9 +1,15 @@
 //! The loop of the audio thread: for each block that the device asks for, the callback, and what it gave written down.
 
-ghost use Rattle.std.specs.Prelude.{◌≡◌, ◌≤◌, ◌+◌, ◌<◌, ◌^◌, All, length};
+ghost use Rattle.std.specs.Prelude.{◌≡◌, ◌+◌, ◌<◌, ◌^◌, ◌⊎◌, All, length, IfSome, IfNone};
+ghost use Rattle.std.specs.Bool.{OnTrue, OnFalse};
 ghost use Rattle.lk_base.specs.Ranges.{IsMoment};
+ghost use Rattle.lk_outside.specs.Faults.{Rose};
+ghost use Rattle.lk_outside.specs.Sink.{Appends};
 ghost use Rattle.link_midi.specs.Messages.{IsMessage};
-ghost use Rattle.drum_machine.specs.Player.{CanPlay, HasPlayed};
+ghost use Rattle.step_sequencer.specs.Wav.{samples_bytes};
+ghost use Rattle.drum_machine.specs.Player.{CanPlay, HasPlayed, HasPlayedBlock};
+ghost use Rattle.drum_machine.specs.Written.{AreWrittenByReads, midi_line_of, midi_lines_of};
+ghost use Rattle.drum_machine.specs.Ends.{HasPlayCause, HasNoMore, counted};
 
 use crate::callback::{Change, Drums, FRAMES, callback, edit};
 use arrayvec::ArrayVec;
@@ -11,6 +17,7 @@ use audio_handoff::StateCell;
 use link_midi::{MidiEvent, MidiEvents, positions_are_short};
 use link_shared::{AudioPass, Link, LinkName};
 use link_text::{LineBuf, put, put_short_hex, put_signed};
+use lk_base::Block;
 use lk_outside::{Audio, Next, Sink, write_whole};
 use step_sequencer::{Samples, put_samples, wav_header};
 
@@ -40,33 +47,80 @@ pub fn play<C: StateCell<11, Way = ()>, N: LinkName, A: Audio, W: Sink, M: Sink>
 ) -> PlayEnd
     requires ready { CanPlay pass.old drums.old.origin blocks }
     ensures played { HasPlayed pass.old pass.new }
+    ensures whole { result ≡ PlayEnd.Played → AreWrittenByReads blocks drums.old.pattern drums.new.origin drums.old.kit drums.old.clock pass.new
+        (W.written sound.old) (W.written sound.new) (M.written midi.old) (M.written midi.new) }
+    ensures cause { HasPlayCause (counted (A.faults audio.old) (W.faults sound.old) (M.faults midi.old))
+        (counted (A.faults audio.new) (W.faults sound.new) (M.faults midi.new)) (A.contents audio.new) result }
 {
-    // A law, for the proof: what the callback gives are messages that have bytes.
-    positions_are_short();
     if !write_whole(sound, &wav_header(blocks * FRAMES)) {
         return PlayEnd::Output;
     }
-    let Next::Block(block) = audio.next() else {
+    let Some(block) = next_block(audio) else {
         return PlayEnd::Device;
     };
     drums.origin = block.start;
-    start(link, pass, block.start);
+    start(link, pass, start_at(block.start));
     let mut sheet = Sheet::new();
     let mut number = 0;
     while number < blocks {
-        let first = number * FRAMES;
-        let (samples, events) = (&mut sheet.samples, &mut sheet.events);
-        callback(link, pass, drums, first, samples, events);
-        if !sheet.write(sound, midi) {
+        if !play_block(link, pass, drums, number * FRAMES, &mut sheet, sound, midi) {
             return PlayEnd::Output;
         }
         number += 1;
         // The next block begins where this one has been played.
-        let Next::Block(_) = audio.next() else {
+        let Some(_) = next_block(audio) else {
             return PlayEnd::Device;
         };
     }
     PlayEnd::Played
+}
+
+// The device's next block, if it gives one. Waits: in the device. Memory: none.
+fn next_block<A: Audio>(audio: &mut A) -> Option<Block>
+    ensures some { IfSome result (λ block. IsMoment block.start × (A.faults audio.new ≡ A.faults audio.old)) }
+    ensures none { IfNone result (HasNoMore (counted (A.faults audio.old) 0 0) (counted (A.faults audio.new) 0 0) (A.contents audio.new)) }
+{
+    match audio.next() {
+        Next::Block(block) => Some(block),
+        Next::Closed => None,
+        Next::Failed => None,
+    }
+}
+
+// Plays the block that begins with the frame `first`: the callback, and what it gave written down. Answers whether it was written.
+// Waits: in the sinks. Memory: none.
+fn play_block<C: StateCell<11, Way = ()>, N: LinkName, W: Sink, M: Sink>(
+    link: &Link<C, N>,
+    pass: &mut AudioPass<C, N>,
+    drums: &mut Drums,
+    first: u32,
+    sheet: &mut Sheet,
+    sound: &mut W,
+    midi: &mut M,
+) -> bool
+    requires origin { IsMoment drums.old.origin }
+    requires first { first + 960 < 2 ^ 31 }
+    ensures played { HasPlayed pass.old pass.new }
+    ensures stays { (drums.new.pattern ≡ drums.old.pattern) × (drums.new.origin ≡ drums.old.origin) × (pass.new.made ≡ pass.old.made) }
+    ensures block { OnTrue result (HasPlayedBlock first drums.old drums.new pass.old pass.new
+        (W.written sound.old) (W.written sound.new) (M.written midi.old) (M.written midi.new)) }
+    ensures works { OnTrue result ((W.faults sound.new ≡ W.faults sound.old) × (M.faults midi.new ≡ M.faults midi.old)) }
+    ensures fails { OnFalse result (Rose (W.faults sound.old) (W.faults sound.new) ⊎ Rose (M.faults midi.old) (M.faults midi.new)) }
+{
+    // A law, for the proof: what the callback gives are messages that have bytes.
+    positions_are_short();
+    let (samples, events) = (&mut sheet.samples, &mut sheet.events);
+    callback(link, pass, drums, first, samples, events);
+    sheet.write(sound, midi)
+}
+
+// Where it starts that begins at a moment: not at 0. Of two starts the one that was set later counts, and a node opens with one that was
+// set at 0.
+fn start_at(begins: i64) -> i64
+    requires { IsMoment begins }
+    ensures { IsMoment result }
+{
+    if begins == 0 { 1 } else { begins }
 }
 
 // Starts to play as of a moment, if nobody plays yet. Waits: no. Memory: none.
@@ -107,24 +161,40 @@ impl Sheet {
     // Writes the sound, and a line for each MIDI event. Answers whether both went out. Waits: in the sinks. Memory: none.
     fn write<W: Sink, M: Sink>(&mut self, sound: &mut W, midi: &mut M) -> bool
         requires messages { All (λ event. IsMessage event.message) self.old.events.items }
+        ensures sound { OnTrue result (Appends (W.written sound.old) (samples_bytes self.old.samples.items) (W.written sound.new)) }
+        ensures midi { OnTrue result (Appends (M.written midi.old) (midi_lines_of self.old.events.items) (M.written midi.new)) }
+        ensures works { OnTrue result ((W.faults sound.new ≡ W.faults sound.old) × (M.faults midi.new ≡ M.faults midi.old)) }
+        ensures fails { OnFalse result (Rose (W.faults sound.old) (W.faults sound.new) ⊎ Rose (M.faults midi.old) (M.faults midi.new)) }
     {
         put_samples(&self.samples, &mut self.bytes);
         if !write_whole(sound, &self.bytes) {
             return false;
         }
-        for event in self.events.as_slice() {
-            put_midi(&mut self.line, event);
-            if !write_whole(midi, &self.line) {
-                return false;
-            }
-        }
-        true
+        write_lines(self.events.as_slice(), &mut self.line, midi)
     }
 }
 
+// Writes a line for each MIDI event. Answers whether all went out. Waits: in the sink. Memory: none.
+fn write_lines<M: Sink>(events: &[MidiEvent], line: &mut LineBuf, midi: &mut M) -> bool
+    requires { All (λ event. IsMessage event.message) events.now }
+    ensures lines { OnTrue result (Appends (M.written midi.old) (midi_lines_of events.now) (M.written midi.new)) }
+    ensures works { OnTrue result (M.faults midi.new ≡ M.faults midi.old) }
+    ensures fails { OnFalse result (Rose (M.faults midi.old) (M.faults midi.new)) }
+{
+    for event in events {
+        put_midi(line, event);
+        if !write_whole(midi, line.as_slice()) {
+            return false;
+        }
+    }
+    true
+}
+
 // Puts the line of a MIDI event in place of what the buffer held: its time in microseconds, and its bytes in hex.
+#[tactic(auto, unfolding(crate::specs::Written::midi_line_of))]
 fn put_midi(line: &mut LineBuf, event: &MidiEvent)
     requires { IsMessage event.now.message }
+    ensures { line.new.items ≡ midi_line_of event.now }
 {
     line.clear();
     put(line, b"midi ");

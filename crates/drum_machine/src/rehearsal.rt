@@ -2,10 +2,13 @@
 //! own callback starts to play and goes over to 128 in the third bar, and a peer to 150 in the fourth.
 
 ghost use Rattle.std.specs.Prelude.{◌≡◌, ◌≤◌, ◌<◌, ◌+◌, ◌^◌, length};
+ghost use Rattle.std.specs.Bool.{OnTrue, OnFalse};
 ghost use Rattle.lk_base.specs.Ranges.{IsMoment};
+ghost use Rattle.lk_outside.specs.Faults.{Rose};
 ghost use Rattle.client_state.specs.State.{IsTidyState};
 ghost use Rattle.link_node.specs.Config.{config_value, IsConfig};
 ghost use Rattle.link_shared.specs.Hub.{IsOnGate};
+ghost use Rattle.drum_machine.specs.Ends.{EndsRehearsal};
 
 use crate::callback::{BLOCK_LENGTH, Change, Drums, FRAMES, callback, edit};
 use crate::score::Score;
@@ -58,7 +61,9 @@ const PEERS_ENDPOINT: Endpoint = Endpoint {
 
 /// Rehearses four bars of a pattern, and writes a line for each step that begins, one where the tempo shown has changed, and last how many
 /// steps and MIDI events there were.
-pub fn rehearse<R: Wait, K: Sink>(rt: &R, alloc: Global, pattern: Pattern, out: &mut K) -> Status {
+pub fn rehearse<R: Wait, K: Sink>(rt: &R, alloc: Global, pattern: Pattern, out: &mut K) -> Status
+    ensures ends { EndsRehearsal (K.faults out.old) (K.faults out.new) result }
+{
     let config = config_of_one();
     let session = config.id;
     let Ok(parts) = Parts::<Triple<11>>::new(alloc, &(), &config, OPENED_AT, EVENTS) else {
@@ -111,6 +116,8 @@ fn rehearse_bars<N: LinkName, R: Wait, K: Sink>(
     requires queue { parts.queue ≡ N.queue }
     requires ledger { (parts.ledger ≡ N.name) × (parts.shares ≡ N.parts) × (N.whole ≡ N.parts) }
     requires gates { length parts.config.gates ≡ 1 }
+    ensures works { OnTrue result (K.faults out.new ≡ K.faults out.old) }
+    ensures fails { OnFalse result (Rose (K.faults out.old) (K.faults out.new)) }
 {
     let Opened {
         link,

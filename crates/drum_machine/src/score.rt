@@ -1,8 +1,10 @@
 //! What a rehearsal tells, line by line.
 
-ghost use Rattle.std.specs.Prelude.{◌≤◌, ◌<◌, ◌+◌, ◌^◌, length};
+ghost use Rattle.std.specs.Prelude.{◌≡◌, ◌≤◌, ◌<◌, ◌+◌, ◌^◌, length};
+ghost use Rattle.std.specs.Bool.{OnTrue, OnFalse};
 ghost use Rattle.arrayvec.specs.ArrayVec.{array_vec_len};
 ghost use Rattle.lk_base.specs.Ranges.{IsMoment};
+ghost use Rattle.lk_outside.specs.Faults.{Rose};
 ghost use Rattle.client_state.specs.State.{IsTidyState};
 
 use crate::callback::{Drums, FRAMES};
@@ -44,15 +46,12 @@ impl Score {
         requires tidy { IsTidyState capture.now.shown }
         requires origin { IsMoment drums.now.origin }
         requires first { first + 960 < 2 ^ 31 }
+        ensures works { OnTrue result (K.faults out.new ≡ K.faults out.old) }
+        ensures fails { OnFalse result (Rose (K.faults out.old) (K.faults out.new)) }
     {
         self.events = self.events.saturating_add(events as u64);
-        let mpb = capture.shown.timeline.mpb;
-        if mpb != self.mpb {
-            self.mpb = mpb;
-            put_tempo(&mut self.line, mpb, first);
-            if !write_whole(out, &self.line) {
-                return false;
-            }
+        if !self.tell_tempo(capture.shown.timeline.mpb, first, out) {
+            return false;
         }
         for hit in steps_begun(&capture.shown, drums.origin, first, FRAMES).as_slice() {
             self.steps = self.steps.saturating_add(1);
@@ -69,8 +68,24 @@ impl Score {
         true
     }
 
+    // Tells a tempo from a sample on, where it is another. Answers whether it was written.
+    fn tell_tempo<K: Sink>(&mut self, mpb: i64, sample: u32, out: &mut K) -> bool
+        ensures works { OnTrue result (K.faults out.new ≡ K.faults out.old) }
+        ensures fails { OnFalse result (Rose (K.faults out.old) (K.faults out.new)) }
+    {
+        if mpb == self.mpb {
+            return true;
+        }
+        self.mpb = mpb;
+        put_tempo(&mut self.line, mpb, sample);
+        write_whole(out, &self.line)
+    }
+
     /// Tells how many steps and MIDI events there were. Answers whether the line was written.
-    pub fn tell_done<K: Sink>(&mut self, out: &mut K) -> bool {
+    pub fn tell_done<K: Sink>(&mut self, out: &mut K) -> bool
+        ensures works { OnTrue result (K.faults out.new ≡ K.faults out.old) }
+        ensures fails { OnFalse result (Rose (K.faults out.old) (K.faults out.new)) }
+    {
         put_done(&mut self.line, self.steps, self.events);
         write_whole(out, &self.line)
     }

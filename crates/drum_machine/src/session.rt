@@ -1,8 +1,11 @@
 //! The drum machine on the network: two threads over one link, and their end.
 
-ghost use Rattle.std.specs.Prelude.{◌≡◌, ◌≤◌};
+ghost use Rattle.std.specs.Prelude.{◌≡◌, ◌≤◌, false};
 ghost use Rattle.lk_base.specs.Ranges.{IsMoment};
 ghost use Rattle.link_node.specs.Config.{config_value, IsConfig};
+ghost use Rattle.step_sequencer.specs.Sound.{silent};
+ghost use Rattle.drum_machine.specs.Ends.{EndsSession, IsPlayedWhole, counted};
+ghost use Rattle.drum_machine.specs.Statuses.{ended_as};
 
 use crate::callback::Drums;
 use crate::player::PlayEnd;
@@ -57,7 +60,13 @@ pub fn play_session<
     setup: Setup,
     pattern: Pattern,
     devices: &mut Devices<P, A, W, M>,
-) -> Status {
+) -> Status
+    ensures ends { EndsSession
+        (IsPlayedWhole setup.blocks pattern (W.written devices.old.sound) (W.written devices.new.sound) (M.written devices.old.midi) (M.written devices.new.midi))
+        (counted (A.faults devices.old.audio) (W.faults devices.old.sound) (M.faults devices.old.midi))
+        (counted (A.faults devices.new.audio) (W.faults devices.new.sound) (M.faults devices.new.midi))
+        (A.contents devices.new.audio) (P.faults devices.old.port) (P.faults devices.new.port) result }
+{
     let blocks = setup.blocks;
     let config = config_of(setup, devices.seed);
     let Ok(parts) = Parts::<Triple<11>>::new(alloc, &(), &config, devices.opened_at, EVENTS) else {
@@ -109,7 +118,13 @@ fn play_parts<
     requires ledger { (parts.ledger ≡ N.name) × (parts.shares ≡ N.parts) × (N.whole ≡ N.parts) }
     requires config { (parts.config ≡ config_value config.now) × IsConfig parts.config }
     requires origin { IsMoment drums.origin }
+    requires still { (drums.kit ≡ silent) × (drums.clock ≡ false) }
     requires few { blocks ≤ 524_288 }
+    ensures ends { EndsSession
+        (IsPlayedWhole blocks drums.pattern (W.written devices.old.sound) (W.written devices.new.sound) (M.written devices.old.midi) (M.written devices.new.midi))
+        (counted (A.faults devices.old.audio) (W.faults devices.old.sound) (M.faults devices.old.midi))
+        (counted (A.faults devices.new.audio) (W.faults devices.new.sound) (M.faults devices.new.midi))
+        (A.contents devices.new.audio) (P.faults devices.old.port) (P.faults devices.new.port) result }
 {
     // Laws, for the proof.
     run_laws();
@@ -139,7 +154,9 @@ fn play_parts<
 }
 
 // The first cause that holds.
-fn status_of(end: PlayEnd, failed: bool, full: bool) -> Status {
+fn status_of(end: PlayEnd, failed: bool, full: bool) -> Status
+    ensures { result ≡ ended_as end failed full }
+{
     match end {
         PlayEnd::Output => Status::Output,
         PlayEnd::Device => Status::Audio,

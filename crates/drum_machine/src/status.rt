@@ -1,5 +1,8 @@
 //! How a run of the program ends.
 
+ghost use Rattle.std.specs.Prelude.{◌≡◌};
+ghost use Rattle.drum_machine.specs.Statuses.{status_number_of};
+
 use std::fmt;
 
 /// How a run ended. Its number is the exit status, its text is for the person who ran it.
@@ -24,7 +27,10 @@ pub enum Status {
 }
 
 impl Status {
-    pub fn number(self) -> u8 {
+    /// The status's number.
+    pub fn number(self) -> u8
+        ensures { result ≡ status_number_of self }
+    {
         match self {
             Status::Done => 0,
             Status::Words => 2,
@@ -94,6 +100,6 @@ fn write_fault<W: fmt::Write>(f: &mut fmt::Formatter<W>, line: u8) -> fmt::Resul
     };
     write!(
         f,
-        "line {line} of the pattern is at fault: it has to be \"{word}\", a space and 16 marks, each x or a dot, as in \"{word} {marks}\""
+        "line {line} of the pattern is at fault: it has to be \"{word}\", a space, 16 marks, each x or a dot, and a line feed, as in \"{word} {marks}\""
     )
 }

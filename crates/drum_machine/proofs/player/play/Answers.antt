@@ -1,22 +1,72 @@
-use Rattle.std.proofs.Common.{sym, subst, arith}
+use Rattle.std.proofs.Common.{refl, sym, subst, ◌∙◌, inl, arith, rules}
+use Rattle.std.proofs.lemmas.Bool.{OnTrue_at, OnFalse_at}
 use Rattle.lk_base.specs.Ranges.{IsMoment}
-use Rattle.drum_machine.proofs.PlayerLemmas.{block_messages, played_on}
+use Rattle.drum_machine.proofs.PlayedLemmas.{has_begun, one_more_block, all_played}
+use Rattle.drum_machine.proofs.PlayerLemmas.{has_played_none, played_on}
+use Rattle.drum_machine.proofs.SessionLemmas.{counts_stay, device_is_early, no_more, one_rose, output_is_early}
 use Rattle.drum_machine.proofs.player.play.Goals as goal
 
-pub write-requires : goal.write-requires
-write-requires g c = record {
-  messages = block_messages c.positions_are_short.ensures c.callback.result.shown _ _ _ _ c.callback.ensures.events;
+pub returns-then-not-write_whole : goal.returns-then-not-write_whole
+returns-then-not-write_whole g c = record {
+  played = has_played_none _;
+  whole = λ is. absurd (output_is_early is);
+  cause = (refl, inl (OnFalse_at c.if-not-write_whole.true c.write_whole.ensures.cause));
 }
 
-pub returns-then-not-write : goal.returns-then-not-write
-returns-then-not-write g c = record { played = played_on _ _ _ _ _ _ c.loop-number.invariant.played c.callback.ensures.read }
+pub returns-in_default : goal.returns-in_default
+returns-in_default g c = record {
+  played = has_played_none _;
+  whole = λ is. absurd (device_is_early is);
+  cause = (c.in_default.ensures.none, OnTrue_at c.if-not-write_whole.false c.write_whole.ensures.quiet, refl);
+}
+
+pub loop-number-init : goal.loop-number-init
+loop-number-init g c = record {
+  played = c.start.ensures.played;
+  within = omega arith;
+  origin = search rules;
+  playing = has_begun _ _ _ _ _ _ _ _ _ _ refl refl refl c.wav_header.ensures (OnTrue_at c.if-not-write_whole.false c.write_whole.ensures.whole);
+  audio = c.in-Some.ensures.some.1;
+  sound = OnTrue_at c.if-not-write_whole.false c.write_whole.ensures.quiet;
+  midi = refl;
+}
+
+pub returns-then-not-play_block : goal.returns-then-not-play_block
+returns-then-not-play_block g c = record {
+  played = played_on _ _ _ c.loop-number.invariant.played c.play_block.ensures.played c.play_block.ensures.stays.2;
+  whole = λ is. absurd (output_is_early is);
+  cause = (
+    c.loop-number.invariant.audio,
+    one_rose _ _ _ _ _ _ c.loop-number.invariant.sound c.loop-number.invariant.midi (OnFalse_at c.if-not-play_block.true c.play_block.ensures.fails),
+  );
+}
 
 pub loop-number-preserved : goal.loop-number-preserved
-loop-number-preserved g c = record {
-  played = played_on _ _ _ _ _ _ c.loop-number.invariant.played c.callback.ensures.read;
-  within = omega (arith, c.loop-number-test.true);
-  origin = subst IsMoment (sym c.callback.ensures.stays.1) c.loop-number.invariant.origin;
-}
+loop-number-preserved g c =
+    let works = OnTrue_at c.if-not-play_block.false c.play_block.ensures.works in
+    record {
+      played = played_on _ _ _ c.loop-number.invariant.played c.play_block.ensures.played c.play_block.ensures.stays.2;
+      within = omega (arith, c.loop-number-test.true);
+      origin = subst IsMoment (sym c.play_block.ensures.stays.1) c.loop-number.invariant.origin;
+      playing = one_more_block c.loop-number.number c.args.blocks _ _ _ _ _ _ _ _ _ _ _ _ _ _ refl c.play_block.ensures.stays.0 c.play_block.ensures.stays.1 c.play_block.ensures.stays.2
+          c.loop-number.invariant.playing (OnTrue_at c.if-not-play_block.false c.play_block.ensures.block);
+      audio = c.in-Some-next_block.ensures.some.1 ∙ c.loop-number.invariant.audio;
+      sound = works.0 ∙ c.loop-number.invariant.sound;
+      midi = works.1 ∙ c.loop-number.invariant.midi;
+    }
 
-pub returns-in_default-next : goal.returns-in_default-next
-returns-in_default-next g c = record { played = played_on _ _ _ _ _ _ c.loop-number.invariant.played c.callback.ensures.read }
+pub returns-in_default-next_block : goal.returns-in_default-next_block
+returns-in_default-next_block g c =
+    let works = OnTrue_at c.if-not-play_block.false c.play_block.ensures.works in
+    record {
+      played = played_on _ _ _ c.loop-number.invariant.played c.play_block.ensures.played c.play_block.ensures.stays.2;
+      whole = λ is. absurd (device_is_early is);
+      cause = (no_more _ _ _ _ c.loop-number.invariant.audio c.in_default-next_block.ensures.none, works.0 ∙ c.loop-number.invariant.sound, works.1 ∙ c.loop-number.invariant.midi);
+    }
+
+pub returns : goal.returns
+returns g c = record {
+  played = c.loop-number.invariant.played;
+  whole = λ is. all_played c.loop-number.number c.args.blocks _ _ _ _ _ _ _ _ _ c.loop-number.invariant.within (omega (arith, c.loop-number-test.false)) c.loop-number.invariant.playing;
+  cause = counts_stay _ _ _ _ _ _ c.loop-number.invariant.audio c.loop-number.invariant.sound c.loop-number.invariant.midi;
+}

@@ -1,4 +1,6 @@
 use Rattle.std.proofs.Common.{◌-◌, ◌≡◌, ◌≤◌, length, pos, []}
+use Rattle.std.specs.Bool.{OnTrue, OnFalse}
+use Rattle.lk_outside.specs.Faults.{Rose}
 use Rattle.drum_machine.proofs.rehearsal.rehearse_bars.Given as goal
 
 abbrev pub invariant-loop-block : goal.invariant-loop-block
@@ -8,6 +10,8 @@ invariant-loop-block g l = record {
   handed : l.hub.handed ≡ [];
   made : length l.pass.made ≤ l.block;
   origin : l.drums.origin ≡ pos 1_000_000;
+  works : OnTrue l.written (g.K.Sink.faults l.out ≡ g.K.Sink.faults l.fn.out);
+  fails : OnFalse l.written (Rose (g.K.Sink.faults l.fn.out) (g.K.Sink.faults l.out));
 }
 
 abbrev pub decreases-loop-block : goal.decreases-loop-block
