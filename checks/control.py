@@ -189,12 +189,15 @@ def pieces_of(draw, text):
 
 # A run, and its client.
 
+WITHOUT_A_LINE = "jorazhil: the client left without a line; a line ends with a line feed\n"
+
 
 class Run:
     """A run under control, which listens where it was told to or can't."""
 
     def __init__(self, program, words=(), at="127.0.0.1:0", more="gate 127.0.0.1:0\n", out=subprocess.PIPE):
         self.error, self.out = tempfile.TemporaryFile(), out
+        self.room = f"{words[1]} event{'' if words[1] == '1' else 's'}" if "--events" in words else "262144 events"
         self.before = time.monotonic_ns() // 1000
         self.child = started([program, "control", at, *words], stdin=subprocess.PIPE, stdout=out, stderr=self.error)
         self.child.stdin.write((COMMENT + "link 1\nsetup 500000 1\n" + more).encode())
@@ -224,11 +227,16 @@ class Run:
         """It ends with this status, and its summary has so many lines logged, or any number for None, and so many commits."""
         out, _ = self.child.communicate(timeout=PATIENCE)
         want("the status, and where it isn't 0 what was told", (self.child.returncode, ""), (status, "" if self.child.returncode == status else self.told()))
+        left = lines == 0 and status not in (3, 9, 11)
+        want("whether it is told that the client left without a line", WITHOUT_A_LINE in self.told(), left)
+        if lines is not None:
+            self.want_told(f"jorazhil: the run took {lines} of at most 4096 lines of its client\n")
         if self.out != subprocess.PIPE:
             return
         summary = out.decode().split("\n")
         self.counts, self.state = numbers(summary[0], "# live", COUNTS), numbers(summary[1], "# state", STATE)
         want("what is behind the summary", summary[2:], [""])
+        self.want_told(f"jorazhil: the journal took {self.counts['events']} of {self.room}\n")
         lines = self.counts["captures"] if lines is None else lines
         wanted = {"reads": 0, "captures": lines, "app": commits, "audio": 0, "plays": 0, "clicks": 0}
         want("the summary", {name: self.counts[name] for name in wanted}, wanted)
@@ -366,6 +374,7 @@ class Beside:
         want("the last status", (mpb, playing), (400_000, 1))
         self.client.ends()
         self.run.end(0, len(self.lines), self.commits())
+        self.run.want_told("; room for 262144 events, bars of 4 beats, group 7\n")
         want("the last state", [self.run.state[name] for name in ("mpb", "playing", "peers", "sync")], [400_000, 1, 0, 1])
         want("whether it has left their session", self.run.state["session"] != other["session"], True)
 
@@ -406,7 +415,7 @@ def by_the_clock(program):
     run.end(0, client.asked, 6)
     want("the quantum of its words", run.state["quantum"], 3_000_000)
     want(f"whether it was started at {run.state['start']}", sent - run.behind - 10 <= run.state["start"] <= came - run.before + 10, True)
-    run.want_told("jorazhil: the journal took ")
+    run.want_told("jorazhil: control at 127.0.0.1:0; room for 262144 events, bars of 3 beats\n")
 
 
 def cut_in_any_way(program, seed):
@@ -503,7 +512,8 @@ def without_a_client(program):
 
 
 def second_client(program):
-    run = Run(program)
+    """In a run whose journal has the most room."""
+    run = Run(program, ["--events", "524288"])
     client = run.client()
     first = client.status()
     try:
@@ -555,6 +565,7 @@ def other_faults(program):
         want("the tempo without the network", client.status()[0], 400_000)
         client.ends()
         run.end(3, 3, 1)
+        run.want_told("jorazhil: control without the network; room for 262144 events, bars of 4 beats\n")
         Run(program, more=gate, at=f"127.0.0.1:{heard.getsockname()[1]}").end(3, 0, 0)
     run = Run(program, ["--events", "1"])
     client = run.client()
@@ -563,6 +574,7 @@ def other_faults(program):
     client.ends()
     run.end(6, 3, 1)
     want("the events of a full journal", run.counts["events"], 1)
+    run.want_told("; room for 1 event, bars of 4 beats\n")
     run = Run(program, ["--events", "1"])
     client = run.client()
     client.send(b"nope\n" * (MOST_LINES + 1))

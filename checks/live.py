@@ -4,19 +4,22 @@
 Each lists the other as a destination; one changes the tempo and its quantum, and the audio thread of the other starts to play. Looked at
 are, of each run, its status, its clicks, what else it tells on standard error, and what its summary counts; its record, whose head has the
 group and the quantum of the words, and which the program and the plain reading of checks/node.py replay to what the summary tells; and of
-both, that each has an id of its own, drawn from a seed of its own, that what one heard is what the other's replayed record sends, and that
-they end with one tempo, each with its own quantum, both playing, in the session that both told and showed before one said goodbye.
+both, that each has an id of its own, drawn from a seed of its own, that what one heard is what the other's replayed record sends, that
+they end with one tempo, each with its own quantum, both playing, in the session that both told and showed before one said goodbye, and that
+their last clicks come together, by what their datagrams tell of how far apart their clocks are.
 Then three runs beside each other, two of one group and one of another: the two count each other as peers, and the third counts nobody,
 though all of them hear what the others broadcast.
-Further runs: one finds its gate's port taken, one has a destination that the system refuses, one has no `at` command, one counts its
-accents in four microbeats, one is given another quantum by its audio thread and by its application, which its states show and its accents
-and a forced beat follow, and one has a command for a block past its last one.
+Further runs: one finds its gate's port taken, one has a destination that the system refuses, one a multicast group, one has no `at`
+command, one counts its accents in four microbeats, one is given another quantum by its audio thread and by its application, which its
+states show and its accents and a forced beat follow, and one has a command for a block past its last one.
 The last line is 'N passed, N failed'.
 """
 import os
 import socket
+import struct
 import subprocess
 import sys
+import time
 from collections import Counter
 
 sys.dont_write_bytecode = True
@@ -32,6 +35,8 @@ NEW_TEMPO, NEW_QUANTUM = 400_000, 3_000_000
 GROUPS, GROUP_BLOCKS = (258, 258, 513), 200
 TOLD = "jorazhil: "
 ROOM = "room for 262144 events"
+# The option of Linux by which a receiver is told how many more hops a datagram may make.
+IP_RECVTTL = 12
 COUNTS = "events states reads captures app audio plays clicks".split()
 STATE = "number mpb beat time playing start stamp sync peers moment app audio session quantum".split()
 
@@ -72,6 +77,7 @@ class Run:
         self.quantum, self.group = quantum, group or 0
         words, pipe = [program, "live", "--blocks", str(blocks), "--quantum", str(quantum), "--record"], subprocess.PIPE
         words += [] if group is None else ["--group", str(group)]
+        self.before = time.time_ns()
         self.child = subprocess.Popen(words, stdin=pipe, stdout=pipe, stderr=pipe, text=True)
         self.child.stdin.write(self.script)
         self.child.stdin.close()
@@ -81,6 +87,7 @@ class Run:
     def end(self):
         try:
             self.output, self.error = self.child.communicate(timeout=60)
+            self.after = time.time_ns()
         finally:
             self.child.kill()
         self.status, self.lines = self.child.returncode, self.output.splitlines()
@@ -149,9 +156,10 @@ class Run:
         self.sent = [line.split(" ") for line in lines if line.startswith("tx ")]
 
     def id_and_seed(self):
-        """Those of the node, which the head of the record tells. The id is the first one that the seed gives."""
+        """Those of the node, as the head of the record tells. The id is the first one that the seed gives, and that is the time of day."""
         [(name, seed)] = [line.split(" ")[1:3] for line in self.lines if line.startswith("node ")]
         want("the id", name, node.Ids(int(seed), 1).draw().decode())
+        want(f"whether the seed {seed} is of the run, {self.before} to {self.after}", self.before <= int(seed) <= self.after, True)
         return name, seed
 
     def gates(self, text):
@@ -235,6 +243,24 @@ def both_runs(one, other):
     want("the session that the second tells last", other.session(), one.session())
 
 
+def times_apart(sender, receiver):
+    """How much later by the receiver's clock each datagram came than it was sent by the sender's, of those that are there once."""
+    sent = [(words[4], int(words[1])) for words in sender.sent]
+    came = [(digits, moment) for moment, digits in receiver.heard()]
+    once = [{digits for digits, count in Counter(digits for digits, _ in told).items() if count == 1} for told in (sent, came)]
+    sent, came = dict(sent), dict(came)
+    return [came[digits] - sent[digits] for digits in once[0] & once[1]]
+
+
+def same_clicks(one, other):
+    """Between whose clocks lies what no datagram contradicts, since none comes before it was sent; so far apart are their clicks too."""
+    most, least = min(times_apart(one, other)), -min(times_apart(other, one))
+    want(f"whether the second clock is ahead by {least} to {most}", least <= most < least + 20_000, True)
+    late = [moment for moment, _ in one.clicks() if END - 1_000_000 <= moment < END - 300_000]
+    off = [min(abs(moment + (least + most) // 2 - there) for there, _ in other.clicks()) for moment in late]
+    want(f"whether there are clicks, which are off by {off}", bool(off) and max(off) <= 5_000 + (most - least) // 2, True)
+
+
 def three_runs(program):
     """Each lists both others as destinations."""
     ports, last = free_ports(3), [f"at {GROUP_BLOCKS * BLOCK} look"]
@@ -313,6 +339,31 @@ def refused(program):
     run.expect_told(setup_told(run.port, "at most 10 blocks of 20 milliseconds (0.2 seconds)"), before=[refusal])
 
 
+def hop_of(receiver):
+    """From where a datagram came, and how many more hops it may make."""
+    _, ancillary, _, (host, port) = receiver.recvmsg(513, 64)
+    return host, port, [struct.unpack("i", value)[0] for _, kind, value in ancillary if kind == socket.IP_TTL]
+
+
+def multicast(program):
+    """Alives go to a multicast group with one hop, and programs of this machine hear them: so Link programs do, by docs/BESIDE-LINK.md."""
+    group = ("224.76.78.75", free_ports(1)[0])
+    with socket.socket(socket.AF_INET, socket.SOCK_DGRAM) as heard, socket.socket(socket.AF_INET, socket.SOCK_DGRAM) as plain:
+        heard.bind(group)
+        heard.settimeout(5)
+        plain.bind(("127.0.0.1", 0))
+        try:
+            heard.setsockopt(socket.IPPROTO_IP, socket.IP_ADD_MEMBERSHIP, socket.inet_aton(group[0]) + socket.inet_aton("127.0.0.1"))
+            heard.setsockopt(socket.IPPROTO_IP, IP_RECVTTL, 1)
+            plain.sendto(b"-", group)
+            want("a datagram of our own", hop_of(heard), (*plain.getsockname(), [1]))
+        except OSError as error:
+            print(f"note: nothing can be heard in a multicast group here ({error}), so no alive is looked for there")
+            return
+        run = short_run(program, [f"to {group[0]}:{group[1]}", "at 300000 look"], 0)
+        want("the first that comes", hop_of(heard), ("127.0.0.1", run.port, [1]))
+
+
 def without_commands(program):
     """No `at` command: the node leaves at once, and its blocks go on."""
     run = short_run(program, [], 3)
@@ -385,9 +436,11 @@ def main(program):
         ("the run that starts to play", each_run, other, 0, 1),
         ("the ids of both runs", two_ids, one, other),
         ("both runs", both_runs, one, other),
+        ("the clocks and the clicks of both runs", same_clicks, one, other),
         ("three runs of two groups", groups_apart, *three),
         ("a run whose port is taken", taken_port, program),
         ("a run with a destination that the system refuses", refused, program),
+        ("a run with a destination that is a multicast group", multicast, program),
         ("a run without an at command", without_commands, program),
         ("a run with a quantum of four microbeats", short_quantum, program),
         ("a run that is given other quanta", new_quanta, program),

@@ -2,7 +2,8 @@
 """Runs the built program to each status that isn't 0 and can be brought about from outside: checks/statuses.py PROGRAM.
 
 Each run's exit status, standard output and whole text on standard error are compared with what is written here; of a live run that went on
-only how its output begins, since the rest hangs on the clock. Status 9, want of memory, has no run.
+only how its output begins, since the rest hangs on the clock. Status 9, want of memory, has no run, and 11 and 12 are brought about by
+checks/control.py.
 The last line is 'N passed, N failed'.
 """
 import os
@@ -407,7 +408,7 @@ def no_live_runs(program):
 
 def read_failures(program):
     """A standard input that can't be read: a directory, and one that is closed."""
-    for words in (["replay"], ["decode"], ["filter"], ["midi", "1", "1"], ["live"]):
+    for words in (["replay"], ["decode"], ["filter"], ["midi", "1", "1"], ["live"], ["control", "127.0.0.1:0"]):
         directory = os.open("/", os.O_RDONLY)
         found = run(program, words, stdin=directory, stdout=subprocess.PIPE)
         os.close(directory)
@@ -471,6 +472,8 @@ def live_failures(program):
     # An address that is set aside for documentation, and so is no machine's own.
     elsewhere = LINK.replace(b"127.0.0.1:0", b"192.0.2.1:17000")
     yield begins("at another's address", elsewhere + LOOK, ["--blocks", "0"], without_port(b"192.0.2.1:17000", NOT_HERE))
+    most = LIVE_AT % (b"127.0.0.1:0", b"524288 events") + JOURNAL % (2, b"524288 events")
+    yield begins("with the most room", LINK + LOOK, ["--blocks", "0", "--events", "524288"], (0, b"# live 2 1 0 1 0 0 0 0\n# state 0 ", most))
     full_journal = LIVE_AT % (b"127.0.0.1:0", b"1 event") + JOURNAL % (1, b"1 event") + EVENTS
     yield begins("with a full journal", LINK + LOOK, ["--blocks", "0", "--events", "1"], (6, b"# live 1 1 0 1 0 0 0 0\n# state 0 ", full_journal))
     status, output, error = run(program, ["live", "--blocks", "0"], input=LINK + b"gate 127.0.0.1:0\n", stdout=subprocess.PIPE)

@@ -442,6 +442,8 @@ def decoded():
         yield text, (8, "", line) if line else (0, None, None)
     # The alive with 406 bytes behind it has 513.
     yield ALIVE + "00" * 406, (0, "fault toolong 513\n", None)
+    # A text of as many bytes as are read.
+    yield ALIVE + "00" * (8_388_608 - 107), (0, "fault toolong 8388608\n", None)
     # More than a million bytes.
     yield (ALIVE + "\n" + RESPONSE + "\n") * 2400, (0, (ALIVE_TOLD + RESPONSE_TOLD) * 2400, None)
 
