@@ -75,11 +75,11 @@ def kind_costs(name, peers):
     table.add(f"`replay`, {KINDS[name]}, {peers} peers: whole; step; written", f"{ns[0]:,.0f} ns; {ns[1]:,.0f} ns; {os.path.getsize(out) / count:.0f} bytes")
 
 
-alone = whole("alives", 0, {"MB": 150})
+alone = whole("alives", 0, {"MB": 180})
 cat = min(run(["cat"], script, out)[0] for _ in range(3))
 note(f"alives: {alone * events / cat:.2f} times the time of cat ({cat:.3f} s)")
-few, many = whole("mixed", 10, {"events": 700_000}), whole("mixed", 500, {})
-table.add("`replay` of `mixed`: time an event with 500 peers over 10", f"{many / few:.2f} times", "at most 3 times", many <= 3 * few)
+few, many = whole("mixed", 10, {"events": 800_000}), whole("mixed", 500, {})
+table.add("`replay` of `mixed`: time an event with 500 peers over 10", f"{many / few:.2f} times", "at most 1.2 times", many <= 1.2 * few)
 note(f"the memory of the process that starts it: {resource.getrusage(resource.RUSAGE_SELF).ru_maxrss * 1024 / 1e6:.1f} MB")
 for name in KINDS:
     for peers in (10, 500):
