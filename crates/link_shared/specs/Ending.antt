@@ -28,10 +28,11 @@ pub record HasHeard (published : List State) (pushed : List Commit) (pass : AppV
   pub begins : Grows pass.pushed pushed
   pub sole : pass.sole ≡ true → pass.made ≡ length pushed
 
--- The last turn offers the last audio commit made, where it wasn't taken, all commits that the queue still holds, and the end. Then all is
--- known: every commit pushed by an application stands in the journal once, in the order of their numbers, and of the audio commits those
--- that do carry what was made under their numbers, which rise, the last one made among them. Where an event found no room, so much of this
--- as there was room for. What was published is what a replay of the journal publishes, and all that was read is of it.
+-- The last turn offers the last audio commit made, where it wasn't taken, commits that the queue still holds, and the end. Then all is
+-- known of the passes handed in: every commit that one of them knew to be pushed stands in the journal once, in the order of their numbers,
+-- and of the audio commits those that do carry what was made under their numbers, which rise, the last one made among them. Where an event
+-- found no room, so much of this as there was room for. What was published is what a replay of the journal publishes, and all that was read
+-- is of it.
 pub record HasEnded (before : HubView) (audio : AudioView) (now : ℤ) (events : List EventValue) (published : List State) (sends : List SendingValue) (full : Bool) : Type 0 where
   pub last : Pair
   pub rest : List Commit

@@ -9,6 +9,7 @@ use client_state::{Commit, State};
 use link_node::{Config, Event, Node};
 use std::alloc::{AllocError, Global};
 use std::marker::Model;
+use std::sync::Wait;
 use std::sync::ledger::Blank;
 
 /// A cell with its tokens, of which only the opening row was made and none was read.
@@ -109,7 +110,8 @@ impl<C: StateCell<11>> Parts<C> {
     ///
     /// Waits: by the way. Memory: three cells, a queue of 256 items, the node, the journal and the list of published states
     /// at their full length, and room for 16 passes that are handed in.
-    pub fn new(
+    pub fn new<R: Wait>(
+        _rt: &R,
         alloc: Global,
         way: &C::Way,
         config: &Config,
