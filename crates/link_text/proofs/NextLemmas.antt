@@ -1,10 +1,10 @@
 -- The next event of a text.
-use Rattle.std.proofs.Common.{◌≡◌, refl, ◌∙◌, ap, subst, arith, ℕ, ◌≤◌, List, [], ◌∷◌, length, drop}
+use Rattle.std.proofs.Common.{◌≡◌, refl, ◌∙◌, ap, subst, arith, ℕ, ◌≤◌, List, [], ◌∷◌, ◌++◌, length, drop}
 use Rattle.link_node.specs.Event.{EventValue, Rx, Tick, App, Audio, End, audio_after}
 use Rattle.link_text.specs.Lines.{lines_of, counting_in}
 use Rattle.link_text.specs.declared.place.Place.{Place}
 use Rattle.link_text.specs.Places.{HasPassed, counting_from}
-use Rattle.link_text.specs.ReplayScript.{IsEventKind, IsEventLine, AreEventLines, IsNextEvent, SaysFrom, SaysSome}
+use Rattle.link_text.specs.ReplayScript.{IsEventKind, IsEventLine, AreEventLines, IsBehindLine, IsNextEvent, SaysFrom, SaysSome}
 use Rattle.link_text.proofs.PlaceLemmas.{counting_same, counting_counted, counting_end}
 use Rattle.link_text.proofs.EventUniqueLemmas.{event_one}
 
@@ -47,6 +47,18 @@ pub here_lines : (text line : List ℕ) (start place : Place) (next : ℕ) → H
 here_lines text line start place next has lines =
     counting_same text start place has.walked ∙ ap counting_in lines
     ∙ counting_counted line (lines_of (drop next text)) (has.stops line (lines_of (drop next text)) lines)
+
+-- behind that line
+pub behind_line : (text line : List ℕ) (start place : Place) (next : ℕ) → HasPassed text start place
+    → lines_of (drop place.at text) ≡ line ∷ lines_of (drop next text) → next ≤ length text → IsBehindLine text start.at next
+behind_line text line start place next has lines within = record {
+  passed = has.walked.passed;
+  line = line;
+  lines = has.walked.lines ∙ ap (λ (ls : List (List ℕ)). has.walked.passed ++ ls) lines;
+  none = has.walked.none;
+  counts = has.stops line (lines_of (drop next text)) lines;
+  within = within;
+}
 
 pub next_end : (text : List ℕ) (start place : Place) → HasPassed text start place → length text ≤ place.at
     → (gates audio : ℕ) (es : List EventValue) → SaysFrom gates audio text start.at es → es ≡ []

@@ -538,6 +538,7 @@ pub checked : (text : List ℕ) (version : ℕ) (config : ConfigValue) (now : �
 checked text version config now place es ahead known head said are plain = record {
   es = es;
   script = record { known = known; head = head; rest = counting_from text place.at; said = said; events = are; plain = plain };
+  place = record { before = ahead.before; lines = ahead.lines; within = ahead.within; counts = ahead.stops };
   from = record { few = head.opens.few_gates; within = ahead.within; lines = are };
 }
 

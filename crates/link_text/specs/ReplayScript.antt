@@ -1,5 +1,5 @@
 -- Replay scripts: a head that says how a node is opened, and then a line for each of its events.
-use Rattle.std.specs.Prelude.{◌≡◌, ◌≤◌, ◌<◌, ◌^◌, ◌⊎◌, ℕ, ℤ, List, [], ◌∷◌, ◌++◌, length, map, codes, All, drop, if◌then◌else◌, nat_eq, pos, Ok, Option, Some, None}
+use Rattle.std.specs.Prelude.{◌≡◌, ◌≤◌, ◌<◌, ◌^◌, ◌⊎◌, ℕ, ℤ, false, List, [], ◌∷◌, ◌++◌, length, map, codes, All, drop, if◌then◌else◌, nat_eq, pos, Ok, Option, Some, None}
 use Rattle.std.specs.List.{AllByRecursion, flat_map}
 use Rattle.std.specs.Fmt.{decimal, signed_decimal}
 use Rattle.hex.specs.Hex.{decode_of, encode_lower}
@@ -14,7 +14,7 @@ use Rattle.client_state.specs.Commit.{IsTidyCommit}
 use Rattle.client_state.specs.declared.commit.Commit.{Commit}
 use Rattle.link_node.specs.Config.{ConfigValue, GateValue, IsConfig}
 use Rattle.link_node.specs.Event.{EventValue, Rx, Tick, App, Audio, End, moment_of, audio_after}
-use Rattle.link_text.specs.Lines.{lines_of, counting_in}
+use Rattle.link_text.specs.Lines.{lines_of, is_passed, counting_in}
 use Rattle.link_text.specs.FirstFault as faults
 use Rattle.link_text.specs.Words.{joined, truth_text_of, endpoint_text_of}
 
@@ -201,10 +201,27 @@ IsNextEvent text at next e =
 abbrev pub SaysSome : List ℕ → ℕ → Type 0
 SaysSome text at = (gates audio : ℕ) × (es : List EventValue) × SaysFrom gates audio text at es
 
--- the text is a script with this head, and its events are said from the place on
+-- behind whole lines, a line that counts begins at the place, or the text ends there
+pub record IsAtLine (text : List ℕ) (at : ℕ) : Type 0 where
+  pub before : List (List ℕ)
+  pub lines : lines_of text ≡ before ++ lines_of (drop at text)
+  pub within : at ≤ length text
+  pub counts : (line : List ℕ) (rest : List (List ℕ)) → lines_of (drop at text) ≡ line ∷ rest → is_passed line ≡ false
+
+-- the next place is behind the first line that counts from a place on
+pub record IsBehindLine (text : List ℕ) (at next : ℕ) : Type 0 where
+  pub passed : List (List ℕ)
+  pub line : List ℕ
+  pub lines : lines_of (drop at text) ≡ passed ++ line ∷ lines_of (drop next text)
+  pub none : counting_in passed ≡ []
+  pub counts : is_passed line ≡ false
+  pub within : next ≤ length text
+
+-- the text is a script with this head, and its events are said from the place on, which is that of the first one's line, or the text's end
 pub record IsChecked (text : List ℕ) (version : ℕ) (config : ConfigValue) (now : ℤ) (first : ℕ) : Type 0 where
   pub es : List EventValue
   pub script : IsScriptOf text version config now es
+  pub place : IsAtLine text first
   pub from : SaysFrom (length config.gates) 0 text first es
 
 -- what is written for a node and its events: hex in lower case

@@ -12,6 +12,7 @@ use Rattle.link_node.specs.Opening.{opened}
 use Rattle.link_node.specs.Runs.{shown_by, published_of, sent_of}
 use Rattle.link_node.specs.Step.{step_of, sends_of, change_of}
 use Rattle.link_text.specs.Line.{line_of}
+use Rattle.link_text.specs.ReplayScript.{hex_word}
 use Rattle.link_text.specs.Words.{truth_text_of, endpoint_text_of}
 
 -- the session, in 16 hex digits, and the quantum: version 1 tells neither
@@ -34,7 +35,7 @@ state_line_of version number state =
 -- a datagram that is sent, with the moment of the event that it follows from
 unfoldable pub sending_line_of : ℤ → SendingValue → List ℕ
 sending_line_of now sending =
-    line_of (codes "tx" ∷ signed_decimal now ∷ decimal sending.gate.0 ∷ endpoint_text_of sending.to ∷ encode_lower sending.bytes ∷ [])
+    line_of (codes "tx" ∷ signed_decimal now ∷ decimal sending.gate.0 ∷ endpoint_text_of sending.to ∷ hex_word sending.bytes ∷ [])
 
 -- how many events there were, how many states with the opening one, how many datagrams were sent
 unfoldable pub done_line_of : ℕ → ℕ → ℕ → List ℕ

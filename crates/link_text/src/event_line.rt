@@ -89,8 +89,8 @@ fn write_audio(line: &mut LineBuf, number: u64, commit: &Commit, now: i64)
     put(line, b"\n");
 }
 
-// Bytes in hex digits, and a hyphen for none.
-fn put_bytes(line: &mut LineBuf, bytes: &[u8])
+/// Bytes in hex digits, and a hyphen for none.
+pub(crate) fn put_bytes(line: &mut LineBuf, bytes: &[u8])
     requires short { length bytes.now ≤ 513 }
     requires room { array_vec_len line.old ≤ 173 }
     ensures items { line.new.items ≡ line.old.items ++ hex_word bytes.now }

@@ -108,8 +108,14 @@ pub fn put_hex(line: &mut LineBuf, bytes: &[u8])
     ensures items { line.new.items ≡ line.old.items ++ encode_lower bytes.now }
     ensures len { array_vec_len line.new ≡ array_vec_len line.old + 2 * length bytes.now }
 {
-    let mut digits = [0u8; 1026];
-    put_hex_by(line, bytes, &mut digits[..2 * bytes.len()]);
+    // The room is cleared before it is written, and most datagrams are short.
+    if bytes.len() <= 128 {
+        let mut digits = [0u8; 256];
+        put_hex_by(line, bytes, &mut digits[..2 * bytes.len()]);
+    } else {
+        let mut digits = [0u8; 1026];
+        put_hex_by(line, bytes, &mut digits[..2 * bytes.len()]);
+    }
 }
 
 /// Appends at most 8 bytes in hex digits of lower case.

@@ -6,7 +6,7 @@ ghost use Rattle.link_node.specs.Config.{ConfigValue, config_value};
 ghost use Rattle.link_node.specs.Event.{EventValue, event_value, audio_after};
 ghost use Rattle.link_text.specs.HeadParts.{IsFront, IsKnownVersion, IsNode, config_of, plain_of};
 ghost use Rattle.link_text.specs.Places.{AreOfVersion, HasBadEvent, IsAhead, IsOfVersion, counting_from};
-ghost use Rattle.link_text.specs.ReplayScript.{AreEventLines, IsChecked, IsEventLine, IsLineFault, IsNextEvent, IsWithoutQuantum, SaysFrom, SaysSome, group_line, node_line, quantum_line, version_line};
+ghost use Rattle.link_text.specs.ReplayScript.{AreEventLines, IsBehindLine, IsChecked, IsEventLine, IsLineFault, IsNextEvent, IsWithoutQuantum, SaysFrom, SaysSome, group_line, node_line, quantum_line, version_line};
 ghost use Rattle.link_text.specs.SaidEvent.{said_value};
 
 use crate::event_read::said_of;
@@ -41,6 +41,7 @@ pub fn check_replay(text: &[u8]) -> Result<Head, BadLine>
 pub fn next_event(text: &[u8], at: &mut usize) -> Option<Event>
     requires { SaysSome text.now at.old }
     ensures some { IfSome result (λ event. IsNextEvent text.now at.old at.new (event_value event)) }
+    ensures place { IfSome result (λ _. IsBehindLine text.now at.old at.new) }
     ensures none { IfNone result ((gates audio : ℕ) (es : List EventValue) → SaysFrom gates audio text.now at.old es → es ≡ []) }
     ensures stays { IfNone result (at.new ≡ at.old) }
 {

@@ -4,7 +4,8 @@ ghost use Rattle.std.specs.Prelude.{◌≡◌};
 ghost use Rattle.link_node.specs.Event.{sending_value};
 ghost use Rattle.link_text.specs.ReplayText.{sending_line_of};
 
-use crate::line::{LineBuf, put, put_decimal, put_endpoint, put_hex, put_signed};
+use crate::event_line::put_bytes;
+use crate::line::{LineBuf, put, put_decimal, put_endpoint, put_signed};
 use link_node::Sending;
 
 /// Puts the line of a datagram that follows from an event at the moment `now` in place of what the buffer held. Memory: none.
@@ -20,6 +21,6 @@ pub fn write_sending(line: &mut LineBuf, now: i64, sending: &Sending)
     put(line, b" ");
     put_endpoint(line, sending.to);
     put(line, b" ");
-    put_hex(line, &sending.bytes);
+    put_bytes(line, &sending.bytes);
     put(line, b"\n");
 }

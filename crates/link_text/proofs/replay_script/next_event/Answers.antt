@@ -1,7 +1,7 @@
 use Rattle.std.proofs.Common.{arith, subst, sym}
 use Rattle.link_node.specs.Event.{EventValue, event_value}
 use Rattle.link_text.specs.ReplayScript.{IsEventLine}
-use Rattle.link_text.proofs.NextLemmas.{here_lines, next_end, next_bad, next_some}
+use Rattle.link_text.proofs.NextLemmas.{behind_line, here_lines, next_end, next_bad, next_some}
 use Rattle.link_text.proofs.replay_script.next_event.Goals as goal
 
 pub returns-then-place-text-clause-none : goal.returns-then-place-text-clause-none
@@ -20,3 +20,8 @@ returns-clause-some c =
     (here_lines c.args.text.now _ (record { at = c.args.at.now; number = 1 }) c.pass-place.result c.line_at-next.result.1 c.pass-place.ensures c.line_at-next.ensures.lines)
     c.line_at-next.ensures.within
     (subst (λ (e : EventValue). IsEventLine 4 0 c.line_at-next.result.0.now e) (sym c.event_of.ensures) c.in-Some.ensures.some)
+
+pub returns-clause-place : goal.returns-clause-place
+returns-clause-place c =
+    behind_line c.args.text.now _ (record { at = c.args.at.now; number = 1 }) c.pass-place.result c.line_at-next.result.1 c.pass-place.ensures c.line_at-next.ensures.lines
+    c.line_at-next.ensures.within
