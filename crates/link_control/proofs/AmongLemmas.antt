@@ -1,11 +1,11 @@
 -- Elements by their places, pairs that stand among others in order, and commits by their numbers.
-use Rattle.std.proofs.Common.{◌≡◌, refl, sym, ◌∙◌, ap, subst, inl, inr, ⊎_elim, arith, ℕ, zero, suc, ◌+◌, ◌<◌, ◌≤◌, ◌⊎◌, List, [], ◌∷◌, ◌++◌, length}
+use Rattle.std.proofs.Common.{◌≡◌, refl, sym, subst, ⊎_elim, arith, ℕ, zero, suc, ◌+◌, ◌<◌, ◌≤◌, ◌⊎◌, List, [], ◌∷◌, ◌++◌, length}
 use Rattle.std.specs.List.{AllByRecursion}
 use mathlib.Core.Option.{some, some-injective, some-ne-none}
 use lib.ListN.{get_elem?}
 use Rattle.audio_handoff.specs.Cell.{NumbersNeverFall, Pair}
 use Rattle.link_control.specs.Log.{AreCounted, Numbered}
-use Rattle.link_control.specs.Serving.{AreAmong}
+use Rattle.link_live.specs.ScriptRun.{AreAmong}
 
 -- ---- elements by their places
 
@@ -23,27 +23,6 @@ module _ {A : Type 0} where
   all_at P [] k a all e = absurd (some-ne-none a (sym e))
   all_at P (x ∷ xs) zero a all e = subst P (some-injective x a e) all.0
   all_at P (x ∷ xs) (suc k) a all e = all_at P xs k a all.1 e
-
--- ---- pairs among others
-
--- what comes before them keeps none of them away
-pub among_behind : (front all pairs : List Pair) → AreAmong pairs all → AreAmong pairs (front ++ all)
-among_behind [] all pairs among = among
-among_behind (first ∷ front) all [] among = tt
-among_behind (first ∷ front) all (pair ∷ pairs) among = inr (among_behind front all (pair ∷ pairs) among)
-
-pub among_more : (all more pairs further : List Pair) → AreAmong pairs all → AreAmong further more → AreAmong (pairs ++ further) (all ++ more)
-among_more [] more [] further among then_among = then_among
-among_more [] more (pair ∷ pairs) further among then_among = absurd among
-among_more (first ∷ all) more [] further among then_among = among_behind (first ∷ all) more further then_among
-among_more (first ∷ all) more (pair ∷ pairs) further among then_among =
-    ⊎_elim
-    (λ (h : (first ≡ pair) × AreAmong pairs all). inl (h.0, among_more all more pairs further h.1 then_among))
-    (λ (h : AreAmong (pair ∷ pairs) all). inr (among_more all more (pair ∷ pairs) further h then_among))
-    among
-
-pub last_among : (between : List Pair) (last : Pair) → AreAmong (last ∷ []) (between ++ last ∷ [])
-last_among between last = among_behind between (last ∷ []) (last ∷ []) (inl (refl, tt))
 
 -- ---- numbers that never fall
 

@@ -1,9 +1,8 @@
 -- What was captured and committed for a client, once its link has ended: the report tells just what the log does.
-use Rattle.std.proofs.Common.{◌≡◌, ℕ, zero, suc, ◌+◌, ◌≤◌, ℤ, ⊎_elim, inl, inr, Bool, true, false, List, [], ◌∷◌, length, map, Option, Some, None, refl, sym, ap, subst, ◌∙◌, arith}
+use Rattle.std.proofs.Common.{◌≡◌, ℕ, suc, ◌+◌, ◌≤◌, ℤ, ⊎_elim, inl, inr, Bool, true, false, List, [], ◌∷◌, length, map, Option, Some, None, refl, sym, ap, subst, ◌∙◌, arith}
 use Rattle.std.specs.Prelude.{is_some}
 use Rattle.std.specs.List.{AllByRecursion}
 use Rattle.std.proofs.lemmas.List.{length-map}
-use mathlib.Core.Option.{some}
 use Rattle.audio_handoff.specs.Cell.{Grows, Pair}
 use Rattle.client_state.specs.declared.commit.Commit.{Commit}
 use Rattle.client_state.specs.declared.state.State.{State}
@@ -18,11 +17,12 @@ use Rattle.link_shared.specs.Passes.{AppView}
 use Rattle.link_shared.specs.declared.capture.Capture.{Capture}
 use Rattle.link_live.specs.Headline.{ArePublished}
 use Rattle.link_live.specs.Report.{ReportValue}
-use Rattle.link_live.specs.ScriptRun.{IsIn}
+use Rattle.link_live.specs.TakingRun.{IsIn}
+use Rattle.link_live.proofs.AmongLemmas.{among_in}
 use Rattle.link_live.proofs.AppLemmas.{AreOf, all_pushed, captures_published, was_heard}
 use Rattle.link_control.specs.ControlRun.{ControlSetup, IsClientPart, IsReady, IsTalked, only_pass}
 use Rattle.link_control.specs.Log.{Answered, AreCounted, Numbered, captured_over, captures_in, commits_in, entries_of, entry_of, own_after}
-use Rattle.link_control.specs.Serving.{AreAmong, HasServed, TalkSeen, pairs_in}
+use Rattle.link_control.specs.Serving.{HasServed, TalkSeen, pairs_in}
 use Rattle.link_control.specs.Sides.{CanServe, WasServed}
 use Rattle.link_control.specs.declared.log.LineLog.{LineLog}
 use Rattle.link_control.specs.declared.log.SessionLog.{SessionLog}
@@ -92,20 +92,6 @@ few_logged true late before after first pass log how was = few_entries late befo
 few_logged false late before after first pass log how was = subst (λ (l : List LineLog). length l ≤ 4_096) (sym (was.silent refl).3) (omega arith)
 
 -- ---- what the pass knows
-
--- what is in a list is in it behind one more
-in_later : (first : Pair) (all pairs : List Pair) → AllByRecursion (IsIn all) pairs → AllByRecursion (IsIn (first ∷ all)) pairs
-in_later first all [] each = tt
-in_later first all (pair ∷ pairs) each = ((suc each.0.0, each.0.1), in_later first all pairs each.1)
-
-among_in : (all pairs : List Pair) → AreAmong pairs all → AllByRecursion (IsIn all) pairs
-among_in all [] among = tt
-among_in [] (pair ∷ pairs) among = absurd among
-among_in (first ∷ all) (pair ∷ pairs) among =
-    ⊎_elim
-    (λ (here : (first ≡ pair) × AreAmong pairs all). ((zero, ap (λ (p : Pair). some p) here.0), in_later first all pairs (among_in all pairs here.1)))
-    (λ (there : AreAmong (pair ∷ pairs) all). in_later first all (pair ∷ pairs) (among_in all (pair ∷ pairs) there))
-    among
 
 -- the commits that are logged
 abbrev pub made_in : List LineLog → List Commit

@@ -9,9 +9,11 @@ use Rattle.client_state.specs.declared.commit.Commit.{Commit}
 use Rattle.client_state.specs.declared.state.State.{State}
 use Rattle.link_shared.specs.Passes.{AppView, HasCaptured, HasCommitted}
 use Rattle.link_control.specs.Log.{AreCounted, Numbered, own_after, put_before}
-use Rattle.link_control.specs.Serving.{AreAmong, HasUsed, StandsIn}
+use Rattle.link_live.specs.ScriptRun.{AreAmong}
+use Rattle.link_control.specs.Serving.{HasUsed, StandsIn}
 use Rattle.link_control.specs.ServingNow.{HasMade}
-use Rattle.link_control.proofs.AmongLemmas.{among_behind, among_more, at_end, at_longer, counted_more, last_among, never_fall_among}
+use Rattle.link_live.proofs.AmongLemmas.{among_behind, among_more, last_among}
+use Rattle.link_control.proofs.AmongLemmas.{at_end, at_longer, counted_more, never_fall_among}
 
 pub nothing_used : (pass : AppView) → HasUsed pass pass [] []
 nothing_used pass = record {

@@ -12,6 +12,7 @@ use Rattle.lk_outside.specs.Sink.{Appends}
 use Rattle.lk_outside.specs.Source.{IsAtEnd, Takes}
 use Rattle.link_shared.specs.Passes.{AppView}
 use Rattle.link_text.specs.ControlLine.{IsAsked}
+use Rattle.link_live.specs.ScriptRun.{AreAmong}
 use Rattle.link_control.specs.Answers.{answers_of}
 use Rattle.link_control.specs.Lines.{whole_lines_of}
 use Rattle.link_control.specs.Log.{Answered, AreCounted, Numbered, commits_in, entries_of, own_behind}
@@ -51,12 +52,6 @@ AreLate late log =
     → entry.moment ≡ int_min (pos ((k + 1) * lateness)) (pos (2 ^ 55)))
 
 -- ---- the pass
-
--- each of these stands at a place of its own among those, in order
-abbrev pub AreAmong : List Pair → List Pair → Type 0
-AreAmong [] all = Unit {0}
-AreAmong (pair ∷ pairs) [] = ⊥
-AreAmong (pair ∷ pairs) (first ∷ all) = ((first ≡ pair) × AreAmong pairs all) ⊎ AreAmong (pair ∷ pairs) all
 
 -- the commit stands among those pushed at its number, which counts from 1
 abbrev pub StandsIn : List Commit → Numbered → Type 0

@@ -12,7 +12,7 @@ use Rattle.link_shared.specs.Ending.{HasHeard, WerePublished}
 use Rattle.link_shared.specs.Passes.{AppView}
 use Rattle.link_shared.specs.declared.capture.Capture.{Capture}
 use Rattle.link_live.specs.Headline.{ArePublished}
-use Rattle.link_live.specs.ScriptRun.{IsIn}
+use Rattle.link_live.specs.TakingRun.{IsIn}
 
 -- ---- its captures
 

@@ -9,6 +9,7 @@ pub mod RunningLemmas
 pub mod AskLemmas
 pub mod PostLemmas
 pub mod LoopLemmas
+pub mod AmongLemmas
 pub mod ScriptLemmas
 pub mod EndLemmas
 pub mod RecordedLemmas

@@ -20,8 +20,9 @@ use Rattle.link_text.specs.LiveScript.{Command, app, block, IsCommand, IsLiveTex
 use Rattle.link_text.specs.declared.live_script.AppCommand.{AppCommand}
 use Rattle.link_text.specs.declared.live_script.BlockCommand.{BlockCommand}
 use Rattle.link_live.specs.Clients.{capture_of, commit_of_act, apps_taken}
-use Rattle.link_live.specs.ScriptRun.{Taken, ArePaced, IsIn, IsScriptRun, is_look, commits_of_command, commands_captures, commands_commits, pairs_of}
-use Rattle.link_live.specs.TakingRun.{IsCommandAt, IsTaking}
+use Rattle.link_live.specs.ScriptRun.{AreAmong, Taken, ArePaced, IsScriptRun, is_look, commits_of_command, commands_captures, commands_commits, pairs_of}
+use Rattle.link_live.specs.TakingRun.{IsCommandAt, IsIn, IsTaking}
+use Rattle.link_live.proofs.AmongLemmas.{among_more, last_among}
 
 -- ---- elements by their places
 
@@ -199,6 +200,7 @@ nothing_taken late commands now captures commits sole empty = record {
   paced = none_paced late commands;
   captures_are = empty.0 ∙ sym (none_captured [] commands);
   commits_are = empty.1 ∙ sym (none_committed [] commands);
+  among = tt;
   seen = All-nil (IsIn now.seen);
   never_falls = λ j k first second le e f. absurd (some-ne-none first (sym e));
   pushed = sole.3 ∙ sym empty.1;
@@ -229,6 +231,10 @@ taken_more late commands count command at before between after captures commits 
   commits_are =
       ap (λ l. commits ++ l) made_is ∙ ap (λ l. l ++ commits_of_command l command one) run.commits_are
       ∙ sym (commits_more [] commands run.taken command one comes_then);
+  among = subst (λ (l : List Pair). AreAmong l after.seen) (sym pairs_are)
+      (subst (λ (l : List Pair). AreAmong (pairs_of run.taken ++ one.pair ∷ []) l)
+      (sym (append_assoc before.seen captured.between (one.pair ∷ [])) ∙ sym seen_is)
+      (among_more before.seen (captured.between ++ one.pair ∷ []) (pairs_of run.taken) (one.pair ∷ []) run.among (last_among captured.between one.pair)));
   seen = subst (λ (l : List Pair). All (IsIn after.seen) l) (sym pairs_are)
       (All-push (IsIn after.seen) (pairs_of run.taken) one.pair
       (All-weaker (IsIn before.seen) (IsIn after.seen) (λ pair known. still_in before.seen captured.between after.seen one.pair seen_is falls pair known) (pairs_of run.taken) run.seen)
@@ -317,7 +323,7 @@ has_run late commands count after captures commits all all_taken run = record {
   paced = run.paced;
   captures_are = run.captures_are;
   commits_are = run.commits_are;
-  seen = run.seen;
+  seen = run.among;
   never_falls = run.never_falls;
   pushed = run.pushed;
   made = run.made;

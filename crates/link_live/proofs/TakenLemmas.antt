@@ -1,6 +1,5 @@
 -- What a script's application captured and committed, once its link has ended.
 use Rattle.std.proofs.Common.{◌≡◌, ℤ, Bool, List, [], ◌∷◌, ◌++◌, Option, refl, sym, subst, ◌∙◌}
-use Rattle.std.proofs.lemmas.List.Elements.{recursion_from_All}
 use Rattle.audio_handoff.specs.Cell.{Grows}
 use Rattle.client_state.specs.declared.commit.Commit.{Commit}
 use Rattle.client_state.specs.declared.state.State.{State}
@@ -15,7 +14,8 @@ use Rattle.link_text.specs.declared.live_script.AppCommand.{AppCommand}
 use Rattle.link_live.specs.Clients.{capture_of}
 use Rattle.link_live.specs.Headline.{ArePublished, IsScriptPart, LiveSetup}
 use Rattle.link_live.specs.Report.{ReportValue}
-use Rattle.link_live.specs.ScriptRun.{IsScriptRun, IsIn, Taken, commands_captures, commits_of_command, pairs_of}
+use Rattle.link_live.specs.ScriptRun.{IsScriptRun, Taken, commands_captures, commits_of_command, pairs_of}
+use Rattle.link_live.proofs.AmongLemmas.{among_in}
 use Rattle.link_live.proofs.AppLemmas.{AreOf, all_pushed, captures_published, was_heard}
 
 -- each capture is of its command's pair
@@ -36,7 +36,7 @@ is_script_part hub app pass clock events published sends full setup captured lat
     run = run;
     published = subst (λ (l : List Capture). ArePublished published l) (sym run.captures_are)
         (captures_published published app.seen (commands_captures [] setup.apps run.taken) (pairs_of run.taken)
-        heard.seen (recursion_from_All (IsIn app.seen) (pairs_of run.taken) run.seen) (commands_each [] setup.apps run.taken));
+        heard.seen (among_in app.seen (pairs_of run.taken) run.seen) (commands_each [] setup.apps run.taken));
   };
   app_begin = subst (λ (l : List Commit). Grows (app_commits_in events) l) (sym pushed_are) last.taken_begin;
   app_commits = λ room. last.all_taken room ∙ sym pushed_are;

@@ -1,7 +1,5 @@
 -- What the loop of an application promises that takes its commands from a script.
-use Rattle.std.specs.Prelude.{◌≡◌, ℕ, ℤ, Bool, true, false, if◌then◌else◌, List, [], ◌∷◌, ◌++◌, length, map, All, Option}
-use mathlib.Core.Option.{some}
-use lib.ListN.{get_elem?}
+use Rattle.std.specs.Prelude.{◌≡◌, ◌⊎◌, ℤ, Bool, true, false, if◌then◌else◌, List, [], ◌∷◌, ◌++◌, length, map, Option}
 use Rattle.audio_handoff.specs.Cell.{Pair, NumbersNeverFall}
 use Rattle.lk_outside.specs.Pace.{IsPaced}
 use Rattle.client_state.specs.declared.commit.Commit.{Commit}
@@ -57,9 +55,11 @@ ArePaced late (command ∷ commands) (one ∷ taken) = IsPaced late command.at o
 abbrev pub pairs_of : List Taken → List Pair
 pairs_of taken = map (λ one. one.pair) taken
 
--- the pair was read for the applications by the time that the pass knows of
-abbrev pub IsIn : List Pair → Pair → Type 0
-IsIn seen pair = (k : ℕ) × (get_elem? seen k ≡ some pair)
+-- each of these stands at a place of its own among those, in order
+abbrev pub AreAmong : List Pair → List Pair → Type 0
+AreAmong [] all = Unit {0}
+AreAmong (pair ∷ pairs) [] = ⊥
+AreAmong (pair ∷ pairs) (first ∷ all) = ((first ≡ pair) × AreAmong pairs all) ⊎ AreAmong (pair ∷ pairs) all
 
 -- From the only pass of a link, which has captured and committed nothing, and lists that were empty: the first of the commands were taken
 -- in order, and all of them unless memory was wanting. Its commits are all that were pushed.
@@ -69,8 +69,8 @@ pub record IsScriptRun (late : Option ℤ) (commands : List AppCommand) (after :
   pub paced : ArePaced late commands taken
   pub captures_are : captures ≡ commands_captures [] commands taken
   pub commits_are : commits ≡ commands_commits [] commands taken
-  -- each capture was read, and none is older than one before it
-  pub seen : All (IsIn after.seen) (pairs_of taken)
+  -- for each command the applications' reader read once more, and no capture is older than one before it
+  pub seen : AreAmong (pairs_of taken) after.seen
   pub never_falls : NumbersNeverFall (pairs_of taken)
   -- the pass knows just these commits, all its own
   pub pushed : after.pushed ≡ commits

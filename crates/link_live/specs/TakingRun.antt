@@ -2,13 +2,17 @@
 use Rattle.std.specs.Prelude.{◌≡◌, ℕ, ℤ, true, List, [], length, All, Option}
 use mathlib.Core.Option.{some}
 use lib.ListN.{get_elem?}
-use Rattle.audio_handoff.specs.Cell.{NumbersNeverFall}
+use Rattle.audio_handoff.specs.Cell.{NumbersNeverFall, Pair}
 use Rattle.client_state.specs.declared.commit.Commit.{Commit}
 use Rattle.link_shared.specs.Audio.{last_of}
 use Rattle.link_shared.specs.Passes.{AppView}
 use Rattle.link_shared.specs.declared.capture.Capture.{Capture}
 use Rattle.link_text.specs.declared.live_script.AppCommand.{AppCommand}
-use Rattle.link_live.specs.ScriptRun.{Taken, ArePaced, IsIn, commands_captures, commands_commits, pairs_of}
+use Rattle.link_live.specs.ScriptRun.{AreAmong, Taken, ArePaced, commands_captures, commands_commits, pairs_of}
+
+-- the pair was read for the applications by the time that the pass knows of
+abbrev pub IsIn : List Pair → Pair → Type 0
+IsIn seen pair = (k : ℕ) × (get_elem? seen k ≡ some pair)
 
 abbrev pub IsCommandAt : List AppCommand → ℕ → AppCommand → Type 0
 IsCommandAt commands k command = get_elem? commands k ≡ some command
@@ -20,6 +24,7 @@ pub record IsTaking (late : Option ℤ) (commands : List AppCommand) (count : �
   pub paced : ArePaced late commands taken
   pub captures_are : captures ≡ commands_captures [] commands taken
   pub commits_are : commits ≡ commands_commits [] commands taken
+  pub among : AreAmong (pairs_of taken) now.seen
   pub seen : All (IsIn now.seen) (pairs_of taken)
   pub never_falls : NumbersNeverFall (pairs_of taken)
   pub pushed : now.pushed ≡ commits
