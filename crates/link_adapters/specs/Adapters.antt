@@ -1,6 +1,6 @@
 -- What the answers of the adapters say of the clock, the reader and the writer behind them. The standard library tells of a reader's and a
 -- writer's bytes where they are known.
-use Rattle.std.specs.Prelude.{◌≡◌, ℕ, ℤ, pos, ◌+ℤ◌, ◌≤ℤ◌, ◌<ℤ◌, ◌^◌, ◌-◌, ◌/◌, min, List, [], ◌∷◌, ◌++◌, take, codes, if◌then◌else◌, Option, IsSome}
+use Rattle.std.specs.Prelude.{◌≡◌, ℕ, ℤ, pos, ◌+ℤ◌, ◌≤ℤ◌, ◌<ℤ◌, ◌^◌, ◌-◌, ◌/◌, min, List, [], ◌∷◌, ◌++◌, take, codes, if◌then◌else◌, Option, None, Some, IsSome}
 use Rattle.std.specs.Fmt.{signed_decimal}
 use Rattle.std.specs.List.{flat_map}
 use Rattle.std.specs.Io.KnownBytes.{Appends, Consumes, IsAtEnd, Keeps}
@@ -41,6 +41,11 @@ KeepsReadError before after taken.Failed = IsSome after
 abbrev pub KeepsWriteError : Option Error → Option Error → Put → Type 0
 KeepsWriteError before after (put.Took n) = after ≡ before
 KeepsWriteError before after put.Failed = IsSome after
+
+-- What is known of the bytes of a client's stream. Of one that isn't there nothing is.
+abbrev pub known_of : {S : Type 0} → (S → Option (List ℕ)) → Option S → Option (List ℕ)
+known_of known None = None
+known_of known (Some stream) = known stream
 
 -- ---- the clock
 

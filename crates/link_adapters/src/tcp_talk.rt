@@ -2,10 +2,12 @@
 
 ghost use Rattle.std.specs.Prelude.{◌≡◌, ◌<◌, ◌≤◌, length, None, IfOk, IsSome};
 ghost use Rattle.std.specs.Io.{ReadsAtMost};
+ghost use Rattle.std.specs.Io.KnownBytes.{ReadConsumes, WriteAppends};
 ghost use Rattle.lk_outside.specs.Port.{HasBindCause};
 ghost use Rattle.lk_outside.specs.Sink.{Accepts, HasWriteCause};
 ghost use Rattle.lk_outside.specs.Source.{Gives, HasReadCause, KeepsRest};
 ghost use Rattle.lk_outside.specs.Talk.{Opens};
+ghost use Rattle.link_adapters.specs.Adapters.{IsReadFrom, IsWrittenTo, known_of};
 
 use crate::address_of;
 use lk_base::Endpoint;
@@ -77,6 +79,8 @@ impl<R: Net + Wait + Eprint + Copy + Drop> TcpTalk<R> {
     // Waits: for a client, if none was taken, and for its bytes. Memory: none.
     fn hear(&mut self, buf: &mut [u8]) -> io::Result<usize>
         ensures count { ReadsAtMost result buf.new }
+        ensures bytes { ReadConsumes (known_of R.Stream.remaining self.old.client) (known_of R.Stream.remaining self.new.client)
+            result buf.new }
         ensures opened { self.new.opened ≡ self.old.opened }
         ensures faults { self.new.faults ≡ self.old.faults }
     {
@@ -94,6 +98,8 @@ impl<R: Net + Wait + Eprint + Copy + Drop> TcpTalk<R> {
     // Waits: while the system has no room for more. Memory: none.
     fn say(&mut self, bytes: &[u8]) -> io::Result<usize>
         ensures count { IfOk result (λ count. (1 ≤ count) × (count ≤ length bytes.now)) }
+        ensures bytes { WriteAppends (known_of R.Stream.contents self.old.client) (known_of R.Stream.contents self.new.client)
+            result bytes.now }
         ensures opened { self.new.opened ≡ self.old.opened }
         ensures faults { self.new.faults ≡ self.old.faults }
     {
@@ -108,6 +114,7 @@ impl<R: Net + Wait + Eprint + Copy + Drop> TcpTalk<R> {
     fn tell_ended(&mut self)
         ensures opened { self.new.opened ≡ self.old.opened }
         ensures faults { self.new.faults ≡ self.old.faults }
+        ensures client { self.new.client ≡ self.old.client }
     {
         if !self.ended {
             self.ended = true;
@@ -165,6 +172,10 @@ impl<R: Net + Wait + Eprint + Copy + Drop> Talk for TcpTalk<R> {
         ensures rest { KeepsRest None buf.old buf.new result }
         ensures opened { self.new.opened ≡ self.old.opened }
         ensures cause { HasReadCause self.old.faults self.new.faults result }
+
+        // Of a client that was there, where its bytes are known.
+        ensures client { IsReadFrom (known_of R.Stream.remaining self.old.client) (known_of R.Stream.remaining self.new.client)
+            buf.new result }
     {
         match self.hear(buf) {
             Ok(0) => {
@@ -188,6 +199,10 @@ impl<R: Net + Wait + Eprint + Copy + Drop> Talk for TcpTalk<R> {
         ensures bytes { Accepts None None bytes.now result }
         ensures opened { self.new.opened ≡ self.old.opened }
         ensures cause { HasWriteCause self.old.faults self.new.faults result }
+
+        // Of the client, where its bytes are known.
+        ensures client { IsWrittenTo (known_of R.Stream.contents self.old.client) (known_of R.Stream.contents self.new.client)
+            bytes.now result }
     {
         match self.say(bytes) {
             Ok(count) => Put::Took(count),
@@ -204,7 +219,8 @@ impl<R: Net + Wait + Eprint + Copy + Drop> Talk for TcpTalk<R> {
 // Reads some bytes, again where a signal interrupts it; 0 of them at the end.
 // Waits: for a byte, or the end. Memory: none.
 fn read_some<R: Wait, S: Read>(rt: &R, client: &mut S, buf: &mut [u8]) -> io::Result<usize>
-    ensures { ReadsAtMost result buf.new }
+    ensures count { ReadsAtMost result buf.new }
+    ensures bytes { ReadConsumes (S.remaining client.old) (S.remaining client.new) result buf.new }
 {
     for _ in rt.forever() {
         match client.read(buf) {
@@ -218,7 +234,8 @@ fn read_some<R: Wait, S: Read>(rt: &R, client: &mut S, buf: &mut [u8]) -> io::Re
 // Writes some bytes, at least one, again where a signal interrupts it.
 // Waits: while there is no room. Memory: none.
 fn write_some<R: Wait, S: Write>(rt: &R, client: &mut S, bytes: &[u8]) -> io::Result<usize>
-    ensures { IfOk result (λ count. (1 ≤ count) × (count ≤ length bytes.now)) }
+    ensures count { IfOk result (λ count. (1 ≤ count) × (count ≤ length bytes.now)) }
+    ensures bytes { WriteAppends (S.contents client.old) (S.contents client.new) result bytes.now }
 {
     for _ in rt.forever() {
         match client.write(bytes) {

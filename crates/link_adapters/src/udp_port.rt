@@ -5,7 +5,7 @@ mod gates;
 mod refusal;
 mod refused;
 
-ghost use Rattle.std.specs.Prelude.{◌≡◌, ◌<◌, ◌≤◌, [], length, take, vec_len, None, IfOk, IfSome, OnErr, MatchOption};
+ghost use Rattle.std.specs.Prelude.{◌≡◌, ◌<◌, ◌≤◌, [], length, take, vec_capacity, vec_len, None, IfOk, IfSome, OnErr, MatchOption};
 ghost use Rattle.lk_base.specs.declared.endpoint.Endpoint.{Endpoint};
 ghost use Rattle.lk_outside.specs.Arrivals.{IsAnswer, PostValue};
 ghost use Rattle.lk_outside.specs.Port.{Binds, HasBindCause, Receives, HasReceiveCause, Posts, HasSendCause};
@@ -23,22 +23,24 @@ pub use refusal::{Taken, posted_of, taken_of, waited_of};
 pub use refused::RefusedSends;
 use std::alloc::Global;
 use std::io;
+use std::mem::swap;
 use std::net::Net;
 use std::sync::Wait;
 use std::time::Clock;
 
-/// How many events one wait hears of: one a gate.
-const EVENTS: usize = 4;
+/// How many gates there are at most, and how many events one wait hears of.
+const GATES: usize = 4;
 
 /// A UDP socket for each gate, which sends and receives without waiting. No option of a socket is set but that one. What goes wrong is told
 /// on standard error when it happens; datagrams that the system refuses are counted, to be told at the end.
 #[derive(Drop)]
 pub struct UdpPort<R: Net + Clock + Wait + Eprint + Copy + Drop> {
     rt: R,
-    alloc: Global,
     clock: HostClock,
     about: About,
     gates: Vec<GateSocket>,
+    // Room for the gates of the next bind, so that it takes no memory.
+    spare: Vec<GateSocket>,
     // Hears of the sockets of the gates.
     poll: Poll,
     events: Events<Global>,
@@ -49,27 +51,31 @@ pub struct UdpPort<R: Net + Clock + Wait + Eprint + Copy + Drop> {
     refused: RefusedSends,
     faults: u64,
     ghost few: { vec_len gates ≤ 4 },
+    ghost room: { (4 ≤ vec_capacity gates) × (4 ≤ vec_capacity spare) },
+    ghost empty: { spare.items ≡ [] },
 }
 
 impl<R: Net + Clock + Wait + Eprint + Copy + Drop> UdpPort<R> {
     /// A port with no gate, by this clock, which `rt` reads; at a bind it tells of the run what is given here. The error is the system's,
     /// or that memory ran out.
     ///
-    /// Waits: no. Memory: the list of events, and the counts of what the system refuses.
+    /// Waits: no. Memory: two lists of gates, the list of events, and the counts of what the system refuses.
     pub fn new(rt: R, alloc: Global, clock: HostClock, about: About) -> io::Result<Self>
         ensures gates { IfOk result (λ port. locals_of port.gates.items ≡ []) }
         ensures faultless { IfOk result (λ port. port.faults ≡ 0) }
         ensures given { IfOk result (λ port. (port.clock ≡ clock) × (port.about ≡ about)) }
     {
         let poll = Poll::new(&rt)?;
-        let events = Events::with_capacity(alloc, EVENTS)?;
+        let events = Events::with_capacity(alloc, GATES)?;
         let refused = RefusedSends::new(alloc)?;
+        let gates = Vec::with_capacity(alloc, GATES)?;
+        let spare = Vec::with_capacity(alloc, GATES)?;
         Ok(UdpPort {
             rt,
-            alloc,
             clock,
             about,
-            gates: Vec::new(alloc),
+            gates,
+            spare,
             poll,
             events,
             first: 0,
@@ -85,7 +91,7 @@ impl<R: Net + Clock + Wait + Eprint + Copy + Drop> UdpPort<R> {
     }
 
     // Sockets in place of those of before. At an error those stay.
-    // Waits: no. Memory: the list of gates.
+    // Waits: no. Memory: none.
     fn rebind(&mut self, locals: &[Endpoint]) -> Result<(), Unbound>
         requires { length locals.now ≤ 4 }
         ensures gates { IfOk result (λ _. locals_of self.new.gates.items ≡ locals.now) }
@@ -93,9 +99,13 @@ impl<R: Net + Clock + Wait + Eprint + Copy + Drop> UdpPort<R> {
         ensures faults { self.new.faults ≡ self.old.faults }
     {
         let poll = Poll::new(&self.rt)?;
-        self.gates = open_gates(&self.rt, self.alloc, &poll, locals)?;
-        self.poll = poll;
-        Ok(())
+        let opened = open_gates(&self.rt, &poll, locals, &mut self.spare);
+        if opened.is_ok() {
+            swap(&mut self.gates, &mut self.spare);
+            self.poll = poll;
+        }
+        self.spare.clear();
+        opened
     }
 
     // Tells that these gates are bound, and of the run.
@@ -198,7 +208,7 @@ impl<R: Net + Clock + Wait + Eprint + Copy + Drop> Port for UdpPort<R> {
     ghost faults = { λ port. port.faults };
 
     // The new sockets are bound before those of before are closed, so that these stay at a failure: a gate of before is in use.
-    // Waits: no. Memory: the list of gates. Tells how it came out.
+    // Waits: no. Memory: none. Tells how it came out.
     fn bind(&mut self, gates: &[Endpoint]) -> Bound
         requires some { 0 < length gates.now }
         requires few { length gates.now ≤ 4 }

@@ -1,6 +1,6 @@
 //! The sockets of the gates.
 
-ghost use Rattle.std.specs.Prelude.{◌≡◌, ◌<◌, ◌≤◌, ◌∷◌, ◌++◌, [], length, vec_len, IfOk, IfSome, OnOk};
+ghost use Rattle.std.specs.Prelude.{◌≡◌, ◌<◌, ◌≤◌, ◌+◌, ◌∷◌, ◌++◌, [], length, vec_capacity, vec_len, IfOk, IfSome, OnOk};
 ghost use Rattle.link_adapters.specs.Sockets.{locals_of};
 
 use super::address::address_of;
@@ -8,7 +8,6 @@ use super::refusal::{Taken, taken_of};
 use lk_base::{Endpoint, Gate};
 use mio::net::UdpSocket;
 use mio::{Interest, Poll, Token};
-use std::alloc::Global;
 use std::net::Net;
 use std::sync::Wait;
 use std::{fmt, io};
@@ -71,21 +70,24 @@ impl<'a> fmt::Display for Named<'a> {
     }
 }
 
-/// Sockets bound to these endpoints, in order, of which the poll hears under the gates' numbers. At an error none stays bound.
+/// Puts sockets bound to these endpoints into an empty list, in order; the poll hears of them under the gates' numbers. At an error the
+/// first of them may be there.
 ///
-/// Waits: no. Memory: the list.
+/// Waits: no. Memory: none.
 pub fn open_gates<R: Net>(
     rt: &R,
-    alloc: Global,
     poll: &Poll,
     locals: &[Endpoint],
-) -> Result<Vec<GateSocket>, Unbound>
-    ensures { IfOk result (λ gates. locals_of gates.items ≡ locals.now) }
+    gates: &mut Vec<GateSocket>,
+) -> Result<(), Unbound>
+    requires empty { gates.old.items ≡ [] }
+    requires room { length locals.now ≤ vec_capacity gates.old }
+    ensures bound { OnOk result (locals_of gates.new.items ≡ locals.now) }
+    ensures capacity { vec_capacity gates.new ≡ vec_capacity gates.old }
 {
-    let mut gates = Vec::with_capacity(alloc, locals.len()).map_err(io::Error::from)?;
     let mut at = 0;
     while at < locals.len() {
-        if let Err(error) = open_gate(rt, poll, locals[at], Token(at), &mut gates) {
+        if let Err(error) = open_gate(rt, poll, locals[at], Token(at), gates) {
             return Err(Unbound {
                 gate: Some(locals[at]),
                 error,
@@ -93,7 +95,7 @@ pub fn open_gates<R: Net>(
         }
         at += 1;
     }
-    Ok(gates)
+    Ok(())
 }
 
 // Appends a socket bound to this endpoint, of which the poll hears under this token.
@@ -104,12 +106,15 @@ fn open_gate<R: Net>(
     token: Token,
     gates: &mut Vec<GateSocket>,
 ) -> io::Result<()>
-    ensures { OnOk result (locals_of gates.new.items ≡ locals_of gates.old.items ++ local ∷ []) }
+    requires { vec_len gates.old < vec_capacity gates.old }
+    ensures bound { OnOk result (locals_of gates.new.items ≡ locals_of gates.old.items ++ local ∷ []) }
+    ensures count { OnOk result (vec_len gates.new ≡ vec_len gates.old + 1) }
+    ensures capacity { vec_capacity gates.new ≡ vec_capacity gates.old }
 {
     let mut socket = UdpSocket::bind(rt, address_of(local))?;
     poll.registry()
         .register(&mut socket, token, Interest::READABLE)?;
-    gates.push(GateSocket { local, socket })?;
+    gates.push_reserved(GateSocket { local, socket });
     Ok(())
 }
 
