@@ -7,11 +7,14 @@ use Rattle.link_live.specs.Journal.{has_ended}
 use Rattle.link_text.specs.Lines.{lines_of}
 use Rattle.link_text.specs.LiveHead.{IsSomeHead}
 use Rattle.link_text.specs.LiveScript.{IsSomeLiveScript, commands_told}
+use Rattle.link_text.specs.ReplayScript.{IsSomeScript}
 use Rattle.link_control.specs.Lines.{whole_lines_of}
 use Rattle.link_control.specs.Serving.{TalkSeen}
 use Rattle.link_words.specs.ControlWords.{IsControl}
 use Rattle.link_words.specs.LoadWords.{IsLoad}
 use Rattle.link_words.specs.MidiWords.{IsMidi}
+use Rattle.link_commands.specs.HexLines.{IsDecodable}
+use Rattle.link_commands.specs.PairLines.{IsPairText}
 use Rattle.link_commands.specs.declared.status.Status.{Status}
 use Rattle.link_commands.specs.declared.status.Status.TheVariants as status
 use Rattle.link_daemon.specs.Ends.{Ends}
@@ -22,29 +25,31 @@ use Rattle.link_words.specs.CommandNames.{Names}
 use Rattle.link_words.specs.declared.command_name.CommandName.{CommandName}
 use Rattle.link_words.specs.declared.command_name.CommandName.TheVariants as name
 
--- the input tells a text within the limit, for which the command gives an output
-pub record IsValidFor (command : Command) (input : Stream) : Type 0 where
+-- the input tells a text within the limit, and it is one of the grammar
+pub record IsValidFor (limit : ℕ) (IsText : List ℕ → Type 0) (input : Stream) : Type 0 where
   pub bytes : List ℕ
-  pub output : List ℕ
   pub told : input.told ≡ Some bytes
-  pub within : length bytes ≤ command.limit
-  pub gives : command.Gives bytes output
+  pub within : length bytes ≤ limit
+  pub text : IsText bytes
+
+-- the grammar of replay scripts; that of `decode` is `IsDecodable`, and that of `filter` is `IsPairText`
+abbrev pub IsScriptText : List ℕ → Type 0
+IsScriptText text = IsSomeScript (lines_of text)
 
 -- Where the words name the command, the input is valid and no count rose, all is done, or there was no memory.
-abbrev pub CompletesValid : CommandName → Command → Type 0
-CompletesValid named command =
+abbrev pub CompletesValid : CommandName → Command → (List ℕ → Type 0) → Type 0
+CompletesValid named command IsText =
     (words : List (String Global)) (seed : ℕ) (input input' : Stream) (before after : AllSeen) (end : Status)
-    → Names named words → IsValidFor command input
+    → Names named words → IsValidFor command.limit IsText input
     → (Rose input.faults input'.faults → ⊥) → (Rose before.outside.out.faults after.outside.out.faults → ⊥)
     → Ends words seed input input' before after end
     → (end ≡ status.Done) ⊎ (end ≡ status.Memory)
 
--- Where the words are those of `midi`, the input is a script that `replay` would answer, and no count rose, all is done, or there was no
--- memory.
+-- Where the words are those of `midi`, the input is a replay script, and no count rose, all is done, or there was no memory.
 abbrev pub CompletesMidi : Type 0
 CompletesMidi =
     (words : List (String Global)) (seed : ℕ) (input input' : Stream) (before after : AllSeen) (end : Status)
-    → IsMidi words → IsValidFor replay_command input
+    → IsMidi words → IsValidFor replay_command.limit IsScriptText input
     → (Rose input.faults input'.faults → ⊥) → (Rose before.outside.out.faults after.outside.out.faults → ⊥)
     → Ends words seed input input' before after end
     → (end ≡ status.Done) ⊎ (end ≡ status.Memory)
@@ -103,6 +108,6 @@ CompletesControl =
 
 abbrev pub CompleteValid : Type 0
 CompleteValid =
-    CompletesValid name.Replay replay_command
-    × (CompletesValid name.Decode decode_command
-    × (CompletesValid name.Filter filter_command × (CompletesMidi × (CompletesLoad × (CompletesLive × CompletesControl)))))
+    CompletesValid name.Replay replay_command IsScriptText
+    × (CompletesValid name.Decode decode_command IsDecodable
+    × (CompletesValid name.Filter filter_command IsPairText × (CompletesMidi × (CompletesLoad × (CompletesLive × CompletesControl)))))

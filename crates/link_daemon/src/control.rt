@@ -112,7 +112,7 @@ fn run_head<P: Port + Send, L: Talk + Send, T: Pace + Send, K: Sink, R: Threads 
 {
     let now = pace.until(0);
     let config = config_of(seed, *options, head);
-    let Ok(parts) = Parts::<Triple<11>>::new(alloc, &(), &config, now, options.events) else {
+    let Ok(parts) = Parts::<Triple<11>>::new(rt, alloc, &(), &config, now, options.events) else {
         return Status::Memory;
     };
     let Ok(room) = make_room(alloc, log) else {

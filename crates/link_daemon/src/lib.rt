@@ -26,7 +26,7 @@ pub use link_commands::{
     one_output, replay_main,
 };
 pub use link_control::{LineLog, Served, SessionLog, serve};
-pub use link_live::{Report, audio_loop, network_loop};
+pub use link_live::{AudioReport, NetEnd, Report, audio_loop, network_loop};
 pub use live::live_main;
 pub use top::link_main;
 pub use usage_text::{unreadable_usage, usage};

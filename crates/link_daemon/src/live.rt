@@ -106,7 +106,7 @@ fn run_script<P: Port + Send, A: Audio + Send, T: Pace + Send, K: Sink, R: Threa
 {
     let now = pace.until(0);
     let config = config_of(seed, *options, &mut script);
-    let Ok(parts) = Parts::<Triple<11>>::new(alloc, &(), &config, now, options.events) else {
+    let Ok(parts) = Parts::<Triple<11>>::new(rt, alloc, &(), &config, now, options.events) else {
         return Status::Memory;
     };
     // A law, for the proof: there can be room for what the script says.
