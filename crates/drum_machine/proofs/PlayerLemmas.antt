@@ -1,26 +1,42 @@
--- What a pass has played goes on with a block, whose MIDI events are messages that have bytes.
-use Rattle.std.proofs.Common.{◌≡◌, ℕ, ◌+◌, ◌≤◌, ℤ, Bool, List, [], ◌∷◌, ◌++◌, length, All, ap, sym, subst, ◌∙◌, append_assoc, append-nil, arith}
+-- What a pass has played goes on with a block, whose MIDI events are messages that have bytes, and begins with a start.
+use Rattle.std.proofs.Common.{◌≡◌, ℕ, ◌+◌, ◌≤◌, ℤ, Bool, true, false, if◌then◌else◌, List, [], ◌∷◌, ◌++◌, length, All, Option, ap, sym, subst, ◌∙◌, append_assoc, append-nil, length-append, arith, to_z, of_z, w64}
+use Rattle.std.proofs.lemmas.Int.{to_z-of_z}
 use Rattle.std.proofs.lemmas.List.Elements.{All-same}
-use Rattle.audio_handoff.specs.Cell.{Pair}
+use Rattle.audio_handoff.specs.Cell.{NumbersNeverFall, Pair}
+use Rattle.client_state.specs.Commit.{commit_between}
+use Rattle.client_state.specs.Shown.{shown_over}
+use Rattle.client_state.specs.Words.{state_of_words}
 use Rattle.client_state.specs.declared.commit.Commit.{Commit}
 use Rattle.client_state.specs.declared.state.State.{State}
+use Rattle.lk_base.specs.Ranges.{IsMoment}
+use Rattle.lk_outside.specs.Audio.{AudioContents}
+use Rattle.link_live.proofs.AskLemmas.{moment_fits}
 use Rattle.link_midi.specs.Events.{Part, all_events_of, events_from, span}
 use Rattle.link_midi.specs.Messages.{IsMessage}
 use Rattle.link_midi.specs.declared.message.MidiEvent.{MidiEvent}
-use Rattle.link_shared.specs.Audio.{AudioView, HasReadAudio}
-use Rattle.drum_machine.specs.Player.{HasPlayed}
+use Rattle.link_shared.specs.Audio.{AudioView, HasReadAudio, after_making, last_of}
+use Rattle.drum_machine.specs.Callback.{changed_by}
+use Rattle.drum_machine.specs.declared.callback.Change.TheVariants as change
+use Rattle.drum_machine.specs.Player.{BeginsAt, HasPlayed, HasStarted, start_from, starts_over}
+use Rattle.drum_machine.specs.Written.{shown_of}
 
 at_most_one : (made : List Commit) → length made ≤ length made + 1
 at_most_one made = omega arith
 
 pub has_played_none : (pass : AudioView) → HasPlayed pass pass
-has_played_none pass = record { seen = ([], sym (append-nil pass.seen)); made = ([], sym (append-nil pass.made)); once = at_most_one pass.made }
+has_played_none pass = record {
+  seen = ([], sym (append-nil pass.seen));
+  never_falls = λ never. never;
+  made = ([], sym (append-nil pass.made));
+  once = at_most_one pass.made;
+}
 
 pub has_played_one : (before after : AudioView) (number : ℕ) (state shown : State) → HasReadAudio before after number state shown → HasPlayed before after
 has_played_one before after number state shown read =
     let last : List Pair = (number, read.row) ∷ [] in
     record {
       seen = (last, read.seen);
+      never_falls = λ _. read.never_falls;
       made = ([], read.commits_stay ∙ sym (append-nil before.made));
       once = subst (λ (l : List Commit). length l ≤ length before.made + 1) (sym read.commits_stay) (at_most_one before.made);
     }
@@ -29,9 +45,99 @@ has_played_one before after number state shown read =
 pub played_on : (before pass after : AudioView) → HasPlayed before pass → HasPlayed pass after → after.made ≡ pass.made → HasPlayed before after
 played_on before pass after played more stays = record {
   seen = (played.seen.0 ++ more.seen.0, more.seen.1 ∙ ap (λ l. l ++ more.seen.0) played.seen.1 ∙ append_assoc before.seen played.seen.0 more.seen.0);
+  never_falls = λ never. more.never_falls (played.never_falls never);
   made = (played.made.0, stays ∙ played.made.1);
   once = subst (λ (l : List Commit). length l ≤ length before.made + 1) (sym stays) played.once;
 }
+
+-- ---- the start
+
+-- what a capture shows is what is shown of the row that was read
+shown_by : (before after : AudioView) (number : ℕ) (state shown : State) (read : HasReadAudio before after number state shown) → shown ≡ shown_of before.made (number, read.row)
+shown_by before after number state shown read = read.shown_is ∙ ap (λ (s : State). shown_over (last_of before.made) s.audio s) read.state_is
+
+-- somebody plays, and nothing is committed
+pub has_started_none : (at : ℤ) (before after : AudioView) (number : ℕ) (state shown : State) → shown.start.playing ≡ true → HasReadAudio before after number state shown → HasStarted at before after
+has_started_none at before after number state shown plays read =
+    let pair : Pair = (number, read.row) in
+    let none : starts_over at (state_of_words read.row) (shown_of before.made pair) ≡ [] =
+    ap (λ (s : State). starts_over at (state_of_words read.row) s) (sym (shown_by before after number state shown read))
+    ∙ ap (λ (b : Bool). if b then [] else commit_between (state_of_words read.row) shown (changed_by change.Play at shown) at ∷ []) plays in
+    record {
+      pair = pair;
+      seen = ([], read.seen ∙ sym (append-nil (before.seen ++ pair ∷ [])));
+      made = read.commits_stay ∙ sym (append-nil before.made) ∙ ap (λ (l : List Commit). before.made ++ l) (sym none);
+    }
+
+-- nobody plays, and a start is committed; `stored` is the moment as it is stored
+pub has_started_one : (at stored : ℤ) (before pass after : AudioView) (number : ℕ) (state shown : State) → stored ≡ at → shown.start.playing ≡ false
+    → HasReadAudio before pass number state shown → after ≡ after_making pass (commit_between state shown (changed_by change.Play stored shown) stored)
+    → HasStarted at before after
+has_started_one at stored before pass after number state shown is stops read edited =
+    let pair : Pair = (number, read.row) in
+    let commit : Commit = commit_between (state_of_words read.row) shown (changed_by change.Play at shown) at in
+    let one : starts_over at (state_of_words read.row) (shown_of before.made pair) ≡ commit ∷ [] =
+    ap (λ (s : State). starts_over at (state_of_words read.row) s) (sym (shown_by before pass number state shown read))
+    ∙ ap (λ (b : Bool). if b then [] else commit ∷ []) stops in
+    let committed : commit_between state shown (changed_by change.Play stored shown) stored ≡ commit =
+    ap (λ (n : ℤ). commit_between state shown (changed_by change.Play n shown) n) is
+    ∙ ap (λ (s : State). commit_between s shown (changed_by change.Play at shown) at) read.state_is in
+    record {
+      pair = pair;
+      seen = ([], ap (λ (v : AudioView). v.seen) edited ∙ read.seen ∙ sym (append-nil (before.seen ++ pair ∷ [])));
+      made =
+          ap (λ (v : AudioView). v.made) edited
+          ∙ ap (λ (c : Commit). pass.made ++ c ∷ []) committed
+          ∙ ap (λ (l : List Commit). l ++ commit ∷ []) read.commits_stay
+          ∙ ap (λ (l : List Commit). before.made ++ l) (sym one);
+    }
+
+pub has_played_start : (before pass after : AudioView) (number : ℕ) (state shown : State) (commit : Commit)
+    → HasReadAudio before pass number state shown → after ≡ after_making pass commit → HasPlayed before after
+has_played_start before pass after number state shown commit read edited =
+    let last : List Pair = (number, read.row) ∷ [] in
+    let seen_is : after.seen ≡ pass.seen = ap (λ (v : AudioView). v.seen) edited in
+    let made_is : after.made ≡ before.made ++ commit ∷ [] =
+    ap (λ (v : AudioView). v.made) edited ∙ ap (λ (l : List Commit). l ++ commit ∷ []) read.commits_stay in
+    record {
+      seen = (last, seen_is ∙ read.seen);
+      never_falls = λ _. subst NumbersNeverFall (sym seen_is) read.never_falls;
+      made = (commit ∷ [], made_is);
+      once = omega (arith, ap length made_is, length-append before.made (commit ∷ []));
+    }
+
+-- where frame 0 is, and the start as of there
+pub record IsBegun (audio : Option AudioContents) (origin : ℤ) (before after : AudioView) : Type 0 where
+  pub begins : BeginsAt audio origin
+  pub started : HasStarted (start_from origin) before after
+
+-- from where the first block begins, by its number and that of the start as they are stored
+pub is_begun : (audio : Option AudioContents) (origin at : ℤ) (before after : AudioView) → BeginsAt audio origin → IsMoment origin → IsMoment at
+    → at ≡ start_from (to_z w64 (of_z w64 origin)) → HasStarted (to_z w64 (of_z w64 at)) before after → IsBegun audio (to_z w64 (of_z w64 origin)) before after
+is_begun audio origin at before after begins first moment is started = record {
+  begins = subst (λ (n : ℤ). BeginsAt audio n) (sym (to_z-of_z w64 origin (moment_fits origin first))) begins;
+  started = subst (λ (n : ℤ). HasStarted n before after) (to_z-of_z w64 at (moment_fits at moment) ∙ is) started;
+}
+
+-- what is read afterwards takes nothing from it
+pub begun_on : (audio : Option AudioContents) (origin origin_then : ℤ) (before pass after : AudioView) → origin_then ≡ origin → after.made ≡ pass.made
+    → HasPlayed pass after → IsBegun audio origin before pass → IsBegun audio origin_then before after
+begun_on audio origin origin_then before pass after same stays more begun =
+    let on : IsBegun audio origin before after = record {
+      begins = begun.begins;
+      started = record {
+        pair = begun.started.pair;
+        seen = (
+          begun.started.seen.0 ++ more.seen.0,
+          more.seen.1 ∙ ap (λ l. l ++ more.seen.0) begun.started.seen.1
+              ∙ append_assoc (before.seen ++ begun.started.pair ∷ []) begun.started.seen.0 more.seen.0,
+        );
+        made = stays ∙ begun.started.made;
+      };
+    } in
+    subst (λ (n : ℤ). IsBegun audio n before after) (sym same) on
+
+-- ---- MIDI
 
 -- what the law says of all parts holds of a block
 pub block_messages : ((running : Bool) (parts : List Part) → All (λ event. IsMessage event.message) (all_events_of running parts))

@@ -1,26 +1,43 @@
--- How a session ends: by what its loop did, and by what its port did.
-use Rattle.std.proofs.Common.{◌≡◌, ℕ, ◌⊎◌, ℤ, Bool, true, false, List, [], map, Option, Some, None, IfSome, inl, inr, refl, sym, ap, subst, ◌∙◌, true≢false}
-use Rattle.std.proofs.lemmas.List.{length-map}
-use Rattle.lk_outside.specs.Audio.{AudioContents, IsAtLast}
+-- How a session ends: by what its loop did, and by what its node recorded.
+use Rattle.std.proofs.Common.{◌≡◌, ℕ, ◌⊎◌, ℤ, pos, Bool, true, false, List, [], ◌∷◌, ◌++◌, Option, Some, None, IfSome, inl, inr, refl, sym, ap, subst, ◌∙◌}
+use mathlib.Core.Option.{some-ne-none}
+use Rattle.audio_handoff.specs.Cell.{NumbersNeverFall}
+use Rattle.client_state.specs.declared.state.State.{State}
+use Rattle.lk_base.specs.Ranges.{IsMoment}
+use Rattle.lk_base.specs.declared.block.Block.{Block}
+use Rattle.lk_base.specs.declared.endpoint.Endpoint.{Endpoint}
+use Rattle.lk_outside.specs.Audio.{AudioContents, GivesBlock, IsAtLast}
 use Rattle.lk_outside.specs.Contents.{BothTell}
 use Rattle.lk_outside.specs.Faults.{Rose}
+use Rattle.lk_outside.specs.Pace.{IsPaced}
+use Rattle.lk_outside.specs.Port.{PortContents}
+use Rattle.link_node.specs.Config.{ConfigValue}
+use Rattle.link_node.specs.Event.{EventValue, SendingValue}
 use Rattle.link_shared.specs.Audio.{AudioView}
+use Rattle.link_shared.specs.Ending.{HasEnded}
+use Rattle.link_shared.specs.Hub.{HubView, new_hub}
+use Rattle.link_shared.specs.Passes.{AppView}
+use Rattle.link_live.specs.Headline.{IsRecorded, new_audio}
+use Rattle.link_live.specs.Loops.{HasRun}
+use Rattle.link_live.specs.Network.{locals_of}
+use Rattle.link_live.specs.Running.{HasPosted, RunLaws}
+use Rattle.link_live.specs.declared.network.NetEnd.{NetEnd}
+use Rattle.link_live.proofs.NetworkLemmas.{HasClosed, network_closes}
+use Rattle.link_live.proofs.RecordedLemmas.{BestLaw}
 use Rattle.step_sequencer.specs.Sound.{Ages, silent}
 use Rattle.step_sequencer.specs.declared.pattern.Pattern.{Pattern}
-use Rattle.drum_machine.specs.Ends.{Counts, EndsSession, HasNoMore, HasPlayCause, IsPlayedWhole, counted}
-use Rattle.drum_machine.specs.Statuses.{ended_as}
-use Rattle.drum_machine.specs.Written.{AreWritten, AreWrittenByReads, shown_of}
+use Rattle.drum_machine.specs.Ends.{Counts, HasNoMore, counted}
+use Rattle.drum_machine.specs.Player.{BeginsAt, HasDrummed, HasPlayed, HasStarted, start_from}
+use Rattle.drum_machine.specs.Session.{DevicesSeen, HasSession, IsPlayedWhole, recorded_of}
+use Rattle.drum_machine.specs.Written.{AreWrittenByReads}
+use Rattle.drum_machine.specs.declared.callback.Drums.{Drums}
 use Rattle.drum_machine.specs.declared.player.PlayEnd.{PlayEnd}
 use Rattle.drum_machine.specs.declared.player.PlayEnd.TheVariants as play_end
-use Rattle.drum_machine.specs.declared.status.Status.{Status}
 
 -- ---- counts
 
 pub rose_from : (a b c : ℕ) → b ≡ a → Rose b c → Rose a c
 rose_from a b c same rose = subst (λ (n : ℕ). Rose n c) same rose
-
-pub rose_to : (a b c : ℕ) → c ≡ b → Rose a b → Rose a c
-rose_to a b c same rose = subst (λ (n : ℕ). Rose a n) (sym same) rose
 
 pub one_rose : (a a_mid a_then b b_mid b_then : ℕ) → a_mid ≡ a → b_mid ≡ b → Rose a_mid a_then ⊎ Rose b_mid b_then → Rose a a_then ⊎ Rose b b_then
 one_rose a a_mid a_then b b_mid b_then same_a same_b rose =
@@ -43,6 +60,13 @@ none_left None (Some after) ends = absurd ends
 none_left (Some before) None ends = absurd ends
 none_left (Some before) (Some after) ends = ap (λ (contents : AudioContents). contents.left) ends.stays ∙ ends.none_left
 
+-- the first block of those that were left, where the device tells them
+pub begins_there : (block : Block) (before after : Option AudioContents) → BothTell (GivesBlock block) before after → BeginsAt before block.start
+begins_there block None None gives = tt
+begins_there block None (Some after) gives = absurd gives
+begins_there block (Some before) None gives = absurd gives
+begins_there block (Some before) (Some after) gives = (block, after.left, gives.left, refl)
+
 -- ---- ends that are not the last block's
 
 abbrev IsEarly : PlayEnd → Type 0
@@ -56,65 +80,76 @@ device_is_early is = subst IsEarly is tt
 pub output_is_early : play_end.Output ≡ play_end.Played → ⊥
 output_is_early is = subst IsEarly is tt
 
--- ---- the port
-
--- what its calls did to its count: when it was bound, in the loop, and at the end
-pub record HasServed (bound was_failed failed : Bool) (port at_bound at_run at_end : ℕ) : Type 0 where
-  pub bound_works : bound ≡ true → at_bound ≡ port
-  pub bound_fails : bound ≡ false → Rose port at_bound
-  pub run_works : was_failed ≡ false → (bound ≡ true) × (at_run ≡ at_bound)
-  pub run_fails : was_failed ≡ true → (bound ≡ false) ⊎ Rose at_bound at_run
-  pub run_unbound : bound ≡ false → at_run ≡ at_bound
-  pub post_works : failed ≡ false → (was_failed ≡ false) × (at_end ≡ at_run)
-  pub post_fails : was_failed ≡ false → failed ≡ true → Rose at_run at_end
-  pub post_failed : was_failed ≡ true → at_end ≡ at_run
-
-port_works : (bound was_failed failed : Bool) (port at_bound at_run at_end : ℕ) → HasServed bound was_failed failed port at_bound at_run at_end → failed ≡ false → at_end ≡ port
-port_works bound was_failed failed port at_bound at_run at_end served works =
-    let post = served.post_works works in
-    let run = served.run_works post.0 in
-    post.1 ∙ run.1 ∙ served.bound_works run.0
-
-port_fails : (bound was_failed failed : Bool) (port at_bound at_run at_end : ℕ) → HasServed bound was_failed failed port at_bound at_run at_end → failed ≡ true → Rose port at_end
-port_fails bound false failed port at_bound at_run at_end served fails =
-    let run = served.run_works refl in rose_from port at_run at_end (run.1 ∙ served.bound_works run.0) (served.post_fails refl fails)
-port_fails false true failed port at_bound at_run at_end served fails =
-    rose_to port at_bound at_end (served.post_failed refl ∙ served.run_unbound refl) (served.bound_fails refl)
-port_fails true true failed port at_bound at_run at_end served fails =
-    elim (served.run_fails refl) [
-      | inl unbound ↦ absurd (true≢false unbound)
-      | inr rose ↦ rose_to port at_run at_end (served.post_failed refl) (rose_from port at_bound at_run (served.bound_works refl) rose)
-    ]
-
 -- ---- the end
 
-ends_as : (whole : Type 0) (before after : Counts) (told_then : Option AudioContents) (port port_then : ℕ) (end : PlayEnd) (failed full : Bool)
-    → (end ≡ play_end.Played → whole) → HasPlayCause before after told_then end → (failed ≡ false → port_then ≡ port) → (failed ≡ true → Rose port port_then)
-    → EndsSession whole before after told_then port port_then (ended_as end failed full)
-ends_as whole before after told_then port port_then play_end.Output failed full played cause works fails = cause
-ends_as whole before after told_then port port_then play_end.Device failed full played cause works fails = cause
-ends_as whole before after told_then port port_then play_end.Played true full played cause works fails = (played refl, cause, fails refl)
-ends_as whole before after told_then port port_then play_end.Played false true played cause works fails = (played refl, cause, works refl)
-ends_as whole before after told_then port port_then play_end.Played false false played cause works fails = (played refl, cause, works refl)
+-- drums that were still wrote all blocks, by a pass that was new
+pub played_whole : (blocks : ℕ) (pattern : Pattern) (origin : ℤ) (ages : Ages) (running : Bool) (audio : Option AudioContents) (pass pass_then : AudioView) (sound sound_then midi midi_then : Option (List ℕ))
+    → ages ≡ silent → running ≡ false → pass ≡ new_audio → BeginsAt audio origin × HasStarted (start_from origin) pass pass_then
+    → AreWrittenByReads blocks pattern origin ages running pass_then sound sound_then midi midi_then
+    → IsPlayedWhole blocks pattern audio pass_then sound sound_then midi midi_then
+played_whole blocks pattern origin ages running audio pass pass_then sound sound_then midi midi_then still stopped is_new begun by_reads = record {
+  origin = origin;
+  begins = begun.0;
+  started = subst (λ (v : AudioView). HasStarted (start_from origin) v pass_then) is_new begun.1;
+  written =
+      subst (λ (a : Ages). AreWrittenByReads blocks pattern origin a false pass_then sound sound_then midi midi_then) still
+      (subst (λ (b : Bool). AreWrittenByReads blocks pattern origin ages b pass_then sound sound_then midi midi_then) stopped by_reads);
+}
 
-pub ends_session : (whole : Type 0) (before after : Counts) (told_then : Option AudioContents) (bound was_failed failed : Bool) (port at_bound at_run at_end : ℕ) (end : PlayEnd) (full : Bool) (status : Status)
-    → status ≡ ended_as end failed full → (end ≡ play_end.Played → whole) → HasPlayCause before after told_then end
-    → HasServed bound was_failed failed port at_bound at_run at_end → EndsSession whole before after told_then port at_end status
-ends_session whole before after told_then bound was_failed failed port at_bound at_run at_end end full status is played cause served =
-    subst (λ (s : Status). EndsSession whole before after told_then port at_end s) (sym is)
-    (ends_as whole before after told_then port at_end end failed full played cause
-    (port_works bound was_failed failed port at_bound at_run at_end served) (port_fails bound was_failed failed port at_bound at_run at_end served))
+none_read : NumbersNeverFall []
+none_read = λ j k first second le e f. absurd (some-ne-none first (sym e))
 
--- drums that were still wrote all blocks
-pub played_whole : (blocks : ℕ) (pattern : Pattern) (origin : ℤ) (ages : Ages) (running : Bool) (pass : AudioView) (sound sound_then midi midi_then : Option (List ℕ))
-    → ages ≡ silent → running ≡ false → AreWrittenByReads blocks pattern origin ages running pass sound sound_then midi midi_then
-    → IsPlayedWhole blocks pattern sound sound_then midi midi_then
-played_whole blocks pattern origin ages running pass sound sound_then midi midi_then still stopped by_reads =
-    let states = map (shown_of pass.made) by_reads.reads in
-    let written : AreWritten pattern origin silent running states sound sound_then midi midi_then =
-    subst (λ (a : Ages). AreWritten pattern origin a running states sound sound_then midi midi_then) still by_reads.written in (
-      origin,
-      states,
-      length-map by_reads.reads (shown_of pass.made) ∙ by_reads.each,
-      subst (λ (b : Bool). AreWritten pattern origin silent b states sound sound_then midi midi_then) stopped written,
-    )
+module _ (laws : RunLaws) (best : BestLaw) (config : ConfigValue) (now : ℤ) (most : ℕ) (hub0 hub1 hub2 : HubView) (app : AppView) (pass0 pass : AudioView) (end : NetEnd) (clock : ℤ)
+    (p0 p1 p2 p3 : Option PortContents) (gates0 gates1 gates2 gates3 : List Endpoint) (f0 f1 f2 f3 : ℕ)
+    (events : List EventValue) (published : List State) (sends posts : List SendingValue) (bound : Bool)
+    (hub0_is : hub0 ≡ new_hub config now most) (net : HasRun bound hub0 hub1 p1 p2 gates1 gates2 f1 f2 end)
+    (bind_gates : bound ≡ true → gates1 ≡ locals_of config) (bind_works : bound ≡ true → f1 ≡ f0) (bind_fails : bound ≡ false → Rose f0 f1) (bind_contents : p1 ≡ p0)
+    (pass_is : pass0 ≡ new_audio) (hub2_is : hub2 ≡ record hub1 { handed = hub1.handed ++ app ∷ [] }) (clock_is : clock ≡ end.clock)
+    (opened : IsMoment now) (most_is : most ≡ 262_144) (posts_are : posts ≡ sends) (post_gates : gates3 ≡ gates2) where
+  opening : IsPaced None (pos 0) now
+  opening = record { range = opened; lateness = tt; told = tt }
+
+  pub has_session : (blocks : ℕ) (drums drums_then : Drums) (counts counts_then : Counts) (audio audio_then : Option AudioContents) (sound sound_then midi midi_then : Option (List ℕ)) (ended : PlayEnd) (failed full : Bool)
+      → HasEnded hub2 pass clock events published sends full → HasPosted posts end.failed failed p2 p3
+      → (failed ≡ false → f3 ≡ f2) → (end.failed ≡ false → failed ≡ true → Rose f2 f3) → (end.failed ≡ true → f3 ≡ f2)
+      → drums.kit ≡ silent → drums.clock ≡ false
+      → HasDrummed blocks drums drums_then pass0 pass counts counts_then audio audio_then sound sound_then midi midi_then ended
+      → HasSession blocks drums.pattern config now
+      (record { counts = counts; port_faults = f0; audio = audio; port = p0; gates = gates0; sound = sound; midi = midi })
+      (record { counts = counts_then; port_faults = f3; audio = audio_then; port = p3; gates = gates3; sound = sound_then; midi = midi_then }) ended failed full
+  has_session blocks drums drums_then counts counts_then audio audio_then sound sound_then midi midi_then ended failed full last posted works fails unbound still stopped drummed = record {
+    pass = pass;
+    recorded = record {
+      events = events;
+      published = published;
+      recorded = subst (λ (n : ℕ). IsRecorded config n None failed full p0 p3 gates3 (recorded_of config now events published)) most_is closed.recorded;
+      reads = last.audio_seen;
+      never_falls = from_new.never_falls none_read;
+      commits = last.carried;
+      last_commit = last.last_taken;
+    };
+    whole = λ is.
+        played_whole blocks drums.pattern drums_then.origin drums.kit drums.clock audio pass0 pass sound sound_then midi midi_then still stopped pass_is
+        (drummed.begun is) (drummed.whole is);
+    cause = drummed.cause;
+    port_works = closed.works;
+    port_fails = closed.fails;
+  }
+    where
+      closed : HasClosed config most None failed full p0 p3 gates3 f0 f3 (recorded_of config now events published)
+      closed =
+          network_closes laws best config now most None hub0 hub1 hub2 app pass end clock p0 p1 p2 p3 gates1 gates2 gates3 f0 f1 f2 f3 events published sends posts bound
+          hub0_is net bind_gates bind_works bind_fails bind_contents hub2_is clock_is opening posts_are post_gates
+          failed full (recorded_of config now events published) last posted works fails unbound
+
+      from_new : HasPlayed new_audio pass
+      from_new = subst (λ (v : AudioView). HasPlayed v pass) pass_is drummed.played
+
+-- the same of what the drums, the config and the moment were made of
+pub session_of : (blocks : ℕ) (pattern given_pattern : Pattern) (config given_config : ConfigValue) (opened_at given_at : ℤ) (before after : DevicesSeen) (end : PlayEnd) (failed full : Bool)
+    → pattern ≡ given_pattern → config ≡ given_config → opened_at ≡ given_at
+    → HasSession blocks pattern config opened_at before after end failed full → HasSession blocks given_pattern given_config given_at before after end failed full
+session_of blocks pattern given_pattern config given_config opened_at given_at before after end failed full pattern_is config_is opened_is session =
+    subst (λ (p : Pattern). HasSession blocks p given_config given_at before after end failed full) pattern_is
+    (subst (λ (c : ConfigValue). HasSession blocks pattern c given_at before after end failed full) config_is
+    (subst (λ (n : ℤ). HasSession blocks pattern config n before after end failed full) opened_is session))

@@ -4,3 +4,4 @@ pub mod Words
 pub mod Written
 pub mod Ends
 pub mod Player
+pub mod Session

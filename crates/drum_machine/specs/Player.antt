@@ -1,14 +1,21 @@
 -- What the loop of the audio thread owes and promises: of its pass, of each block, and as a whole.
-use Rattle.std.specs.Prelude.{◌≡◌, ℕ, ℤ, ◌+◌, ◌^◌, ◌<◌, ◌≤◌, List, [], ◌∷◌, ◌++◌, length, Option}
-use Rattle.audio_handoff.specs.Cell.{Grows, Pair}
+use Rattle.std.specs.Prelude.{◌≡◌, ℕ, ℤ, pos, ◌+◌, ◌^◌, ◌<◌, ◌≤◌, List, [], ◌∷◌, ◌++◌, length, Option, IfSome, if◌then◌else◌}
+use Rattle.std.specs.Int.{int_max}
+use Rattle.audio_handoff.specs.Cell.{Grows, NumbersNeverFall, Pair}
 use Rattle.lk_base.specs.Ranges.{IsMoment}
+use Rattle.lk_base.specs.declared.block.Block.{Block}
+use Rattle.client_state.specs.Commit.{commit_between}
+use Rattle.client_state.specs.Words.{state_of_words}
+use Rattle.client_state.specs.declared.commit.Commit.{Commit}
+use Rattle.client_state.specs.declared.state.State.{State}
 use Rattle.lk_outside.specs.Audio.{AudioContents}
 use Rattle.lk_outside.specs.Sink.{Appends}
 use Rattle.link_midi.specs.Events.{events_of, running_after}
 use Rattle.link_shared.specs.Audio.{AudioView}
 use Rattle.step_sequencer.specs.Sound.{sounds_from, ages_from}
 use Rattle.step_sequencer.specs.Wav.{samples_bytes}
-use Rattle.drum_machine.specs.Callback.{block_from}
+use Rattle.drum_machine.specs.Callback.{block_from, changed_by}
+use Rattle.drum_machine.specs.declared.callback.Change.TheVariants as change
 use Rattle.drum_machine.specs.Ends.{Counts, HasPlayCause}
 use Rattle.drum_machine.specs.Written.{AreWrittenByReads, midi_lines_of, shown_of}
 use Rattle.drum_machine.specs.declared.callback.Drums.{Drums}
@@ -21,9 +28,30 @@ pub record CanPlay (pass : AudioView) (origin : ℤ) (blocks : ℕ) : Type 0 whe
   pub few : blocks ≤ 524_288
   pub moment : IsMoment origin
 
--- all that it had read and committed stays, and it commits once at most
+-- the first frame is where the device's first block begins, where it tells that
+abbrev pub BeginsAt : Option AudioContents → ℤ → Type 0
+BeginsAt audio origin = IfSome audio (λ contents. (block : Block) × (rest : List Block) × (contents.left ≡ block ∷ rest) × (origin ≡ block.start))
+
+-- Where it starts that begins at a moment: not at 0. Of two starts the one that was set later counts, and a node opens with one that was
+-- set at 0.
+abbrev pub start_from : ℤ → ℤ
+start_from begins = int_max begins (pos 1)
+
+-- what is committed of a start as of a moment, where a read shows this state, and the pass this one: nothing where somebody plays
+abbrev pub starts_over : ℤ → State → State → List Commit
+starts_over at state shown =
+    if shown.start.playing then [] else commit_between state shown (changed_by change.Play at shown) at ∷ []
+
+-- it read once, and committed a start as of that moment, if nobody played; that is all that it has committed since, whatever it has read
+pub record HasStarted (at : ℤ) (before after : AudioView) : Type 0 where
+  pub pair : Pair
+  pub seen : Grows (before.seen ++ pair ∷ []) after.seen
+  pub made : after.made ≡ before.made ++ starts_over at (state_of_words pair.1) (shown_of before.made pair)
+
+-- all that it had read and committed stays, no read is older than one before, and it commits once at most
 pub record HasPlayed (before after : AudioView) : Type 0 where
   pub seen : Grows before.seen after.seen
+  pub never_falls : NumbersNeverFall before.seen → NumbersNeverFall after.seen
   pub made : Grows before.made after.made
   pub once : length after.made ≤ length before.made + 1
 
@@ -38,8 +66,9 @@ pub record HasPlayedBlock (first : ℕ) (drums drums_then : Drums) (before after
   pub told : Appends midi (midi_lines_of (events_of (shown_of before.made pair) drums.clock (block_from drums.origin first))) midi_then
 
 -- Only for proofs: all that the loop promises, as threads that are joined have one clause.
-pub record HasDrummed (blocks : ℕ) (drums drums_then : Drums) (pass pass_then : AudioView) (before after : Counts) (told_then : Option AudioContents) (sound sound_then midi midi_then : Option (List ℕ)) (end : PlayEnd) : Type 0 where
+pub record HasDrummed (blocks : ℕ) (drums drums_then : Drums) (pass pass_then : AudioView) (before after : Counts) (told told_then : Option AudioContents) (sound sound_then midi midi_then : Option (List ℕ)) (end : PlayEnd) : Type 0 where
   pub played : HasPlayed pass pass_then
+  pub begun : end ≡ play_end.Played → BeginsAt told drums_then.origin × HasStarted (start_from drums_then.origin) pass pass_then
   pub whole : end ≡ play_end.Played
       → AreWrittenByReads blocks drums.pattern drums_then.origin drums.kit drums.clock pass_then sound sound_then midi midi_then
   pub cause : HasPlayCause before after told_then end

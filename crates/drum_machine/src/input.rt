@@ -1,9 +1,9 @@
 //! The pattern on standard input.
 
-ghost use Rattle.std.specs.Prelude.{IfOk, IsErrOf};
-ghost use Rattle.lk_outside.specs.Faults.{Rose};
+ghost use Rattle.std.specs.Prelude.{◌≡◌, IfOk, IfErr, OnOk};
 ghost use Rattle.lk_outside.specs.Transfer.{ReadsWhole};
 ghost use Rattle.step_sequencer.specs.Pattern.{spelled_of};
+ghost use Rattle.drum_machine.specs.Ends.{IsUnread};
 
 use crate::status::Status;
 use lk_outside::{InputFault, Source, read_all};
@@ -18,7 +18,8 @@ const MOST_BYTES: usize = 4_096;
 /// Waits: in the source. Memory: the text.
 pub fn read_input<S: Source>(alloc: Global, input: &mut S) -> Result<Pattern, Status>
     ensures pattern { IfOk result (λ pattern. ReadsWhole (S.left input.old) (spelled_of pattern) (S.left input.new)) }
-    ensures failed { IsErrOf result Status.Input → Rose (S.faults input.old) (S.faults input.new) }
+    ensures fault { IfErr result (IsUnread (S.left input.old) (S.left input.new) (S.faults input.old) (S.faults input.new)) }
+    ensures quiet { OnOk result (S.faults input.new ≡ S.faults input.old) }
 {
     let text = match read_all(alloc, input, MOST_BYTES) {
         Ok(text) => text,

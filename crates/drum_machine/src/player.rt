@@ -7,7 +7,7 @@ ghost use Rattle.lk_outside.specs.Faults.{Rose};
 ghost use Rattle.lk_outside.specs.Sink.{Appends};
 ghost use Rattle.link_midi.specs.Messages.{IsMessage};
 ghost use Rattle.step_sequencer.specs.Wav.{samples_bytes};
-ghost use Rattle.drum_machine.specs.Player.{CanPlay, HasPlayed, HasPlayedBlock};
+ghost use Rattle.drum_machine.specs.Player.{BeginsAt, CanPlay, HasPlayed, HasPlayedBlock, HasStarted, start_from};
 ghost use Rattle.drum_machine.specs.Written.{AreWrittenByReads, midi_line_of, midi_lines_of};
 ghost use Rattle.drum_machine.specs.Ends.{HasPlayCause, HasNoMore, counted};
 
@@ -47,6 +47,8 @@ pub fn play<C: StateCell<11, Way = ()>, N: LinkName, A: Audio, W: Sink, M: Sink>
 ) -> PlayEnd
     requires ready { CanPlay pass.old drums.old.origin blocks }
     ensures played { HasPlayed pass.old pass.new }
+    ensures begun { result ≡ PlayEnd.Played → BeginsAt (A.contents audio.old) drums.new.origin
+        × HasStarted (start_from drums.new.origin) pass.old pass.new }
     ensures whole { result ≡ PlayEnd.Played → AreWrittenByReads blocks drums.old.pattern drums.new.origin drums.old.kit drums.old.clock pass.new
         (W.written sound.old) (W.written sound.new) (M.written midi.old) (M.written midi.new) }
     ensures cause { HasPlayCause (counted (A.faults audio.old) (W.faults sound.old) (M.faults midi.old))
@@ -78,6 +80,7 @@ pub fn play<C: StateCell<11, Way = ()>, N: LinkName, A: Audio, W: Sink, M: Sink>
 // The device's next block, if it gives one. Waits: in the device. Memory: none.
 fn next_block<A: Audio>(audio: &mut A) -> Option<Block>
     ensures some { IfSome result (λ block. IsMoment block.start × (A.faults audio.new ≡ A.faults audio.old)) }
+    ensures begins { IfSome result (λ block. BeginsAt (A.contents audio.old) block.start) }
     ensures none { IfNone result (HasNoMore (counted (A.faults audio.old) 0 0) (counted (A.faults audio.new) 0 0) (A.contents audio.new)) }
 {
     match audio.next() {
@@ -118,7 +121,8 @@ fn play_block<C: StateCell<11, Way = ()>, N: LinkName, W: Sink, M: Sink>(
 // set at 0.
 fn start_at(begins: i64) -> i64
     requires { IsMoment begins }
-    ensures { IsMoment result }
+    ensures moment { IsMoment result }
+    ensures value { result ≡ start_from begins }
 {
     if begins == 0 { 1 } else { begins }
 }
@@ -132,11 +136,13 @@ fn start<C: StateCell<11, Way = ()>, N: LinkName>(
     requires moment { IsMoment at }
     requires room { length pass.old.made + 1 < 2 ^ 60 }
     ensures played { HasPlayed pass.old pass.new }
+    ensures started { HasStarted at pass.old pass.new }
 {
     let capture = link.capture_audio(&(), pass);
-    if !capture.shown.start.playing {
-        edit(link, pass, &capture, Change::Play, at);
+    if capture.shown.start.playing {
+        return;
     }
+    edit(link, pass, &capture, Change::Play, at);
 }
 
 /// What the callback gave of a block, and room to write it.

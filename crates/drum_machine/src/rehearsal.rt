@@ -66,7 +66,7 @@ pub fn rehearse<R: Wait, K: Sink>(rt: &R, alloc: Global, pattern: Pattern, out: 
 {
     let config = config_of_one();
     let session = config.id;
-    let Ok(parts) = Parts::<Triple<11>>::new(alloc, &(), &config, OPENED_AT, EVENTS) else {
+    let Ok(parts) = Parts::<Triple<11>>::new(rt, alloc, &(), &config, OPENED_AT, EVENTS) else {
         return Status::Memory;
     };
     let Ok(sends) = Sends::new(alloc) else {

@@ -1,11 +1,13 @@
 //! The drum machine on the network: two threads over one link, and their end.
 
-ghost use Rattle.std.specs.Prelude.{◌≡◌, ◌≤◌, false};
+ghost use Rattle.std.specs.Prelude.{◌≡◌, ◌≤◌, Bool, false};
 ghost use Rattle.lk_base.specs.Ranges.{IsMoment};
-ghost use Rattle.link_node.specs.Config.{config_value, IsConfig};
+ghost use Rattle.link_node.specs.Config.{config_value, gate_value, IsConfig};
 ghost use Rattle.step_sequencer.specs.Sound.{silent};
-ghost use Rattle.drum_machine.specs.Ends.{EndsSession, IsPlayedWhole, counted};
+ghost use Rattle.drum_machine.specs.Ends.{counted};
+ghost use Rattle.drum_machine.specs.Session.{EndsSession, HasSession, config_from};
 ghost use Rattle.drum_machine.specs.Statuses.{ended_as};
+ghost use Rattle.drum_machine.specs.declared.player.PlayEnd.{PlayEnd as AnyEnd};
 
 use crate::callback::Drums;
 use crate::player::PlayEnd;
@@ -14,7 +16,9 @@ use crate::status::Status;
 use crate::words::Setup;
 use arrayvec::ArrayVec;
 use link_live::{bind, post, run_laws};
-use link_node::{Config, Sends, datagrams_go_out_on_gates};
+use link_node::{
+    Config, Sends, best_timelines_are_told, clients_follow_sessions, datagrams_go_out_on_gates,
+};
 use link_shared::{Link, LinkName, Opened, Parts};
 use lk_base::IdSource;
 use lk_outside::{Audio, Port, Sink};
@@ -61,15 +65,30 @@ pub fn play_session<
     pattern: Pattern,
     devices: &mut Devices<P, A, W, M>,
 ) -> Status
-    ensures ends { EndsSession
-        (IsPlayedWhole setup.blocks pattern (W.written devices.old.sound) (W.written devices.new.sound) (M.written devices.old.midi) (M.written devices.new.midi))
-        (counted (A.faults devices.old.audio) (W.faults devices.old.sound) (M.faults devices.old.midi))
-        (counted (A.faults devices.new.audio) (W.faults devices.new.sound) (M.faults devices.new.midi))
-        (A.contents devices.new.audio) (P.faults devices.old.port) (P.faults devices.new.port) result }
+    ensures ends { EndsSession setup.blocks pattern (config_from devices.old.seed setup.mpb (gate_value setup.gate)) devices.old.opened_at
+        (record {
+          counts = counted (A.faults devices.old.audio) (W.faults devices.old.sound) (M.faults devices.old.midi);
+          port_faults = P.faults devices.old.port;
+          audio = A.contents devices.old.audio;
+          port = P.contents devices.old.port;
+          gates = P.bound devices.old.port;
+          sound = W.written devices.old.sound;
+          midi = M.written devices.old.midi;
+        })
+        (record {
+          counts = counted (A.faults devices.new.audio) (W.faults devices.new.sound) (M.faults devices.new.midi);
+          port_faults = P.faults devices.new.port;
+          audio = A.contents devices.new.audio;
+          port = P.contents devices.new.port;
+          gates = P.bound devices.new.port;
+          sound = W.written devices.new.sound;
+          midi = M.written devices.new.midi;
+        }) result }
 {
     let blocks = setup.blocks;
     let config = config_of(setup, devices.seed);
-    let Ok(parts) = Parts::<Triple<11>>::new(alloc, &(), &config, devices.opened_at, EVENTS) else {
+    let Ok(parts) = Parts::<Triple<11>>::new(rt, alloc, &(), &config, devices.opened_at, EVENTS)
+    else {
         return Status::Memory;
     };
     let Ok(sends) = Sends::new(alloc) else {
@@ -81,7 +100,8 @@ pub fn play_session<
 
 // The config of a node that shares its start, with an id drawn from the seed and one gate.
 fn config_of(setup: Setup, seed: u64) -> Config
-    ensures { IsConfig (config_value result) }
+    ensures value { config_value result ≡ config_from seed setup.mpb (gate_value setup.gate) }
+    ensures ranges { IsConfig (config_value result) }
 {
     let mut gates = ArrayVec::new();
     gates.push(setup.gate);
@@ -117,17 +137,35 @@ fn play_parts<
     requires queue { parts.queue ≡ N.queue }
     requires ledger { (parts.ledger ≡ N.name) × (parts.shares ≡ N.parts) × (N.whole ≡ N.parts) }
     requires config { (parts.config ≡ config_value config.now) × IsConfig parts.config }
+    requires opening { IsMoment parts.opened_at × (parts.most ≡ 262_144) }
     requires origin { IsMoment drums.origin }
     requires still { (drums.kit ≡ silent) × (drums.clock ≡ false) }
     requires few { blocks ≤ 524_288 }
-    ensures ends { EndsSession
-        (IsPlayedWhole blocks drums.pattern (W.written devices.old.sound) (W.written devices.new.sound) (M.written devices.old.midi) (M.written devices.new.midi))
-        (counted (A.faults devices.old.audio) (W.faults devices.old.sound) (M.faults devices.old.midi))
-        (counted (A.faults devices.new.audio) (W.faults devices.new.sound) (M.faults devices.new.midi))
-        (A.contents devices.new.audio) (P.faults devices.old.port) (P.faults devices.new.port) result }
+    ensures ends { (end : AnyEnd) × (failed : Bool) × (full : Bool) × (result ≡ ended_as end failed full)
+        × HasSession blocks drums.pattern parts.config parts.opened_at
+        (record {
+          counts = counted (A.faults devices.old.audio) (W.faults devices.old.sound) (M.faults devices.old.midi);
+          port_faults = P.faults devices.old.port;
+          audio = A.contents devices.old.audio;
+          port = P.contents devices.old.port;
+          gates = P.bound devices.old.port;
+          sound = W.written devices.old.sound;
+          midi = M.written devices.old.midi;
+        })
+        (record {
+          counts = counted (A.faults devices.new.audio) (W.faults devices.new.sound) (M.faults devices.new.midi);
+          port_faults = P.faults devices.new.port;
+          audio = A.contents devices.new.audio;
+          port = P.contents devices.new.port;
+          gates = P.bound devices.new.port;
+          sound = W.written devices.new.sound;
+          midi = M.written devices.new.midi;
+        }) end failed full }
 {
     // Laws, for the proof.
     run_laws();
+    best_timelines_are_told();
+    clients_follow_sessions();
     datagrams_go_out_on_gates();
     let Devices {
         port,

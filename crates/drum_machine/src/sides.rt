@@ -47,9 +47,10 @@ impl<N: LinkName, A: Audio, W: Sink, M: Sink, R: Wait> DrumSide<R, Link<Triple<1
 
     ghost starts = { CanPlay };
 
-    ghost runs = { λ pass pass_then blocks drums drums_then audio audio_then sound sound_then midi midi_then end. HasDrummed blocks drums drums_then
-        pass pass_then (counted (A.faults audio) (W.faults sound) (M.faults midi)) (counted (A.faults audio_then) (W.faults sound_then) (M.faults midi_then))
-        (A.contents audio_then) (W.written sound) (W.written sound_then) (M.written midi) (M.written midi_then) end };
+    ghost runs = { λ pass pass_then blocks drums drums_then audio audio_then sound sound_then midi midi_then end.
+        HasDrummed blocks drums drums_then pass pass_then (counted (A.faults audio) (W.faults sound) (M.faults midi))
+        (counted (A.faults audio_then) (W.faults sound_then) (M.faults midi_then)) (A.contents audio) (A.contents audio_then)
+        (W.written sound) (W.written sound_then) (M.written midi) (M.written midi_then) end };
 
     fn drum(
         &mut self,

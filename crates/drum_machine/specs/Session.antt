@@ -1,0 +1,101 @@
+-- What a session leaves: what its node recorded, published and sent, and what was played of it.
+use Rattle.std.specs.Prelude.{◌≡◌, ◌⊎◌, ℕ, ℤ, pos, Bool, true, false, List, [], ◌∷◌, length, Option, None}
+use Rattle.rand_pcg.specs.Lcg.{started, increment_of}
+use Rattle.rand_pcg.specs.Pcg.{multiplier_64}
+use Rattle.audio_handoff.specs.Cell.{NumbersNeverFall}
+use Rattle.lk_base.specs.Ids.{drawn_id}
+use Rattle.lk_base.specs.declared.endpoint.Endpoint.{Endpoint}
+use Rattle.lk_outside.specs.Audio.{AudioContents}
+use Rattle.lk_outside.specs.Faults.{Rose}
+use Rattle.lk_outside.specs.Port.{PortContents}
+use Rattle.client_state.specs.declared.state.State.{State}
+use Rattle.link_node.specs.Config.{ConfigValue, GateValue}
+use Rattle.link_node.specs.Event.{EventValue}
+use Rattle.link_shared.specs.Audio.{AudioView}
+use Rattle.link_shared.specs.Ending.{WerePublished}
+use Rattle.link_shared.specs.Journal.{AreCarried, last_audio_in}
+use Rattle.link_live.specs.Headline.{IsRecorded, new_audio}
+use Rattle.link_live.specs.Report.{ReportValue}
+use Rattle.step_sequencer.specs.Sound.{silent}
+use Rattle.step_sequencer.specs.declared.pattern.Pattern.{Pattern}
+use Rattle.drum_machine.specs.Ends.{Counts, HasPlayCause}
+use Rattle.drum_machine.specs.Player.{BeginsAt, HasStarted, start_from}
+use Rattle.drum_machine.specs.Statuses.{ended_as}
+use Rattle.drum_machine.specs.Written.{AreWrittenByReads}
+use Rattle.drum_machine.specs.declared.player.PlayEnd.{PlayEnd}
+use Rattle.drum_machine.specs.declared.player.PlayEnd.TheVariants as play_end
+use Rattle.drum_machine.specs.declared.status.Status.{Status}
+use Rattle.drum_machine.specs.declared.status.Status.TheVariants as status
+
+-- The config of a node by its seed, its tempo and its gate: its id is the first that the seed gives, it shares starts, it is in group 0,
+-- and it counts in bars of four beats.
+abbrev pub config_from : ℕ → ℤ → GateValue → ConfigValue
+config_from seed mpb gate = record {
+  id = drawn_id (started 64 multiplier_64 seed (increment_of 64 1));
+  seed = seed;
+  mpb = mpb;
+  sync = true;
+  group = 0;
+  quantum = pos 4_000_000;
+  gates = gate ∷ [];
+}
+
+-- what is told of the devices: the counts of faults, the blocks, what the port heard and posted, where it is bound, and what was written
+pub record DevicesSeen : Type 0 where
+  pub counts : Counts
+  pub port_faults : ℕ
+  pub audio : Option AudioContents
+  pub port : Option PortContents
+  pub gates : List Endpoint
+  pub sound : Option (List ℕ)
+  pub midi : Option (List ℕ)
+
+-- what is told of a node that was opened so, whatever was played
+abbrev pub recorded_of : ConfigValue → ℤ → List EventValue → List State → ReportValue
+recorded_of config opened_at events published = record {
+  config = config;
+  now = opened_at;
+  events = events;
+  published = published;
+  reads = [];
+  captures = [];
+  app_commits = [];
+  audio_commits = [];
+  plays = [];
+}
+
+-- What the node recorded: it heard, sent and published what replay gives for its events. What the audio thread's pass read are states that
+-- were published, none older than one before; of its commits those among the events carry what was made under their numbers, which rise,
+-- and the last one made is there, unless an event found no room.
+pub record IsSessionRecorded (config : ConfigValue) (opened_at : ℤ) (failed full : Bool) (port port_then : Option PortContents) (gates : List Endpoint) (pass : AudioView) : Type 0 where
+  pub events : List EventValue
+  pub published : List State
+  pub recorded : IsRecorded config 262_144 None failed full port port_then gates (recorded_of config opened_at events published)
+  pub reads : WerePublished published pass.seen
+  pub never_falls : NumbersNeverFall pass.seen
+  pub commits : AreCarried pass.made events
+  pub last_commit : full ≡ false → last_audio_in 0 events ≡ length pass.made
+
+-- All blocks of a session were written, from silence and before any MIDI clock. The first frame is where the device's first block begins,
+-- where it tells that, and from there it plays, if nobody did.
+pub record IsPlayedWhole (blocks : ℕ) (pattern : Pattern) (audio : Option AudioContents) (pass : AudioView) (sound sound_then midi midi_then : Option (List ℕ)) : Type 0 where
+  pub origin : ℤ
+  pub begins : BeginsAt audio origin
+  pub started : HasStarted (start_from origin) new_audio pass
+  pub written : AreWrittenByReads blocks pattern origin silent false pass sound sound_then midi midi_then
+
+-- what a session met: how its loop ended, whether the port failed, whether an event found no room; and what is promised of it then
+pub record HasSession (blocks : ℕ) (pattern : Pattern) (config : ConfigValue) (opened_at : ℤ) (before after : DevicesSeen) (end : PlayEnd) (failed full : Bool) : Type 0 where
+  pub pass : AudioView
+  pub recorded : IsSessionRecorded config opened_at failed full before.port after.port after.gates pass
+  pub whole : end ≡ play_end.Played → IsPlayedWhole blocks pattern before.audio pass before.sound after.sound before.midi after.midi
+  pub cause : HasPlayCause before.counts after.counts after.audio end
+  pub port_works : failed ≡ false → after.port_faults ≡ before.port_faults
+  pub port_fails : failed ≡ true → Rose before.port_faults after.port_faults
+
+-- A session's end is the first cause that holds, of what it met. Where no memory was left, nothing was called.
+abbrev pub EndsSession : ℕ → Pattern → ConfigValue → ℤ → DevicesSeen → DevicesSeen → Status → Type 0
+EndsSession blocks pattern config opened_at before after ended =
+    ((ended ≡ status.Memory) × (after ≡ before))
+    ⊎ ((end : PlayEnd) × (failed : Bool) × (full : Bool) × (ended ≡ ended_as end failed full)
+    × HasSession blocks pattern config opened_at before after end failed full)
