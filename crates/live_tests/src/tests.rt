@@ -1,8 +1,9 @@
-//! Runs of each loop over objects in memory, and whole runs of the three.
+//! Runs of each loop over objects in memory, whole runs of the three, and a quit beside the turns.
 
 mod audio;
 mod devices;
 mod events;
+mod full_queue;
 mod lines;
 mod live_run;
 mod network;

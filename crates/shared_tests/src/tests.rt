@@ -67,7 +67,8 @@ fn config() -> Config
     }
 }
 
-fn parts_of<C: StateCell<11>>(
+fn parts_of<C: StateCell<11>, R: Wait>(
+    rt: &R,
     alloc: Global,
     way: &C::Way,
     events: u64,
@@ -76,7 +77,7 @@ fn parts_of<C: StateCell<11>>(
     ensures gate { IfOk result (λ parts. length parts.config.gates ≡ 1) }
     ensures shares { IfOk result (λ parts. parts.shares ≡ 65536) }
 {
-    Parts::<C>::new(alloc, way, &config(), OPENING, events)
+    Parts::<C>::new(rt, alloc, way, &config(), OPENING, events)
 }
 
 /// The start that plays from a time on, and was set then.
@@ -202,7 +203,7 @@ fn try_new_link<C: StateCell<11>, R: Wait + Abort>(
         Trial::Run(run) => events_of(run),
     };
     let sends = Sends::new(alloc)?;
-    let parts = parts_of::<C>(alloc, way, events)?;
+    let parts = parts_of::<C, R>(rt, alloc, way, events)?;
     try_link::<C, Brand, R>(rt, alloc, way, parts, sends, trial)
 }
 
@@ -244,7 +245,7 @@ where
 {
     let reports = Reports::new(alloc)?;
     let sends = Sends::new(alloc)?;
-    let parts = parts_of::<C>(alloc, way, EVENTS)?;
+    let parts = parts_of::<C, R>(rt, alloc, way, EVENTS)?;
     let (ended, reports) = thread_link::<C, Brand, R>(rt, alloc, way, parts, sends, reports)?;
     check_outcome(rt, alloc, &ended, &reports)
 }

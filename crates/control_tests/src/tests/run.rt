@@ -219,8 +219,8 @@ fn expect_row<R: Threads + Wait + Sync + Abort>(rt: &R, alloc: Global, row: &Row
     assert_eq!(rt; counts, row.counts, "{:?}", row.end);
 }
 
-// More commits than the queue of a link holds.
-const COMMITS: u64 = 600;
+// As many commits as lines are answered: the queue of a link holds a sixteenth of them.
+const COMMITS: u64 = 4_096;
 
 #[test]
 fn a_commit_waits_for_room_in_the_queue(rt: HostRuntime) -> Result<(), Fail> {
@@ -228,7 +228,7 @@ fn a_commit_waits_for_room_in_the_queue(rt: HostRuntime) -> Result<(), Fail> {
     let (sent, answers) = many_lines(alloc)?;
     let mut talk = talk_of(alloc, sent, NEVER)?;
     let mut log = SessionLog::new(alloc)?;
-    let run = run_on(&rt, alloc, 1_000, NEVER, &mut talk, &mut log);
+    let run = run_on(&rt, alloc, 5_000, NEVER, &mut talk, &mut log);
     assert_eq!(rt; talk.bytes(), answers.as_slice());
     assert_eq!(rt; run.end, ControlEnd::Well);
     assert_eq!(rt; count_of(&run.events, Kind::Commit), COMMITS);
@@ -255,7 +255,7 @@ fn many_lines(alloc: Global) -> Result<(Vec<u8>, Vec<u8>), AllocError> {
 // A talk that isn't opened, of which this call fails.
 fn talk_of(alloc: Global, sent: Vec<u8>, failing: (u8, u64)) -> Result<ListTalk, AllocError> {
     let failing = vec![in alloc; failing]?;
-    ListTalk::new(alloc, sent, 512, 10_000, failing)
+    ListTalk::new(alloc, sent, 512, 40_000, failing)
 }
 
 // A port that nothing comes to, of which this call fails.
@@ -280,7 +280,7 @@ fn run_on<R: Threads + Wait + Sync + Abort>(
     let mut pace = ListPace::new(1_000_000);
     let now = pace.until(0);
     let most = most.clamp(1, 524_288);
-    let parts = Parts::<Triple<11>>::new(alloc, &(), &config, now, most);
+    let parts = Parts::<Triple<11>>::new(rt, alloc, &(), &config, now, most);
     let parts = parts.expect(rt, "memory for a link");
     run_of::<Brand, R>(
         rt, alloc, parts, &config, room, &mut port, talk, &mut pace, log,

@@ -57,7 +57,7 @@ pub fn served<R: Wait + Abort>(rt: &R, alloc: Global, given: &Given) -> Session 
     let mut log = SessionLog::new(alloc).expect(rt, "memory for a log");
     let mut sends = Sends::new(alloc).expect(rt, "memory for what is sent");
     let heard = got_of(given.heard);
-    let parts = Parts::<Triple<11>>::new(alloc, &(), &config(), 0, 300);
+    let parts = Parts::<Triple<11>>::new(rt, alloc, &(), &config(), 0, 300);
     let parts = parts.expect(rt, "memory for a link");
     let end = served_over::<Brand, R>(
         rt, alloc, parts, heard, &mut sends, &mut talk, &mut pace, &mut log,

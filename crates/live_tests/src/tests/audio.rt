@@ -25,6 +25,7 @@ use rows::{ROWS, Row};
 use std::alloc::{AllocError, Global};
 use std::marker::Brand;
 use std::process::Abort;
+use std::sync::Wait;
 use std::test::Fail;
 use told::tell;
 use triple_buffer::Triple;
@@ -37,31 +38,37 @@ fn each_block_is_played_by_one_state_and_its_commits_follow(rt: HostRuntime) -> 
     Ok(())
 }
 
-fn expect_row(rt: &impl Abort, alloc: Global, row: &Row) {
-    let Ok(told) = told_for(alloc, row) else {
+fn expect_row<R: Wait + Abort>(rt: &R, alloc: Global, row: &Row) {
+    let Ok(told) = told_for(rt, alloc, row) else {
         panic!(rt; "no run: {}", row.commands);
     };
     assert_eq!(rt; told.as_slice(), row.told.as_bytes(), "{}", row.commands);
 }
 
-fn told_for(alloc: Global, row: &Row) -> Result<Text, LiveFault> {
+fn told_for<R: Wait>(rt: &R, alloc: Global, row: &Row) -> Result<Text, LiveFault> {
     let script = script_of(alloc, row.commands)?;
-    told_by(alloc, row, &script).map_err(LiveFault::Memory)
+    told_by(rt, alloc, row, &script).map_err(LiveFault::Memory)
 }
 
-fn told_by(alloc: Global, row: &Row, script: &LiveScript) -> Result<Text, AllocError>
+fn told_by<R: Wait>(
+    rt: &R,
+    alloc: Global,
+    row: &Row,
+    script: &LiveScript,
+) -> Result<Text, AllocError>
     requires apps { All (λ command. IsCommand (app_command command)) script.now.apps.items }
     requires commands { All (λ command. IsCommand (block_command command)) script.now.blocks.items }
     requires few { length script.now.blocks.items ≤ 99 }
 {
     let mut room = Room::new(alloc, script, u64::from(row.blocks))?;
     let mut device = device_of(alloc, Blocks::Long, row.device, row.failing)?;
-    let ended = played_on(alloc, row, script, &mut room, &mut device)?;
+    let ended = played_on(rt, alloc, row, script, &mut room, &mut device)?;
     Ok(tell(&room.audio, &device, ended))
 }
 
 // Whether the blocks of a row ended well. The link comes last, since nothing can fail behind it.
-fn played_on(
+fn played_on<R: Wait>(
+    rt: &R,
     alloc: Global,
     row: &Row,
     script: &LiveScript,
@@ -71,13 +78,13 @@ fn played_on(
     requires few { length script.now.blocks.items ≤ 99 }
     requires ready { IsReady script.now row.now.blocks room.old }
 {
-    let parts = new_parts(alloc)?;
+    let parts = new_parts(rt, alloc)?;
     Ok(played_over::<Triple<11>, Brand>(parts, row, script, room, device))
 }
 
-fn new_parts(alloc: Global) -> Result<Parts<Triple<11>>, AllocError> {
+fn new_parts<R: Wait>(rt: &R, alloc: Global) -> Result<Parts<Triple<11>>, AllocError> {
     let config = config_of(&[0]);
-    Parts::<Triple<11>>::new(alloc, &(), &config, 1_000_000, 1)
+    Parts::<Triple<11>>::new(rt, alloc, &(), &config, 1_000_000, 1)
 }
 
 fn played_over<C: StateCell<11, Way = ()>, N: LinkName>(

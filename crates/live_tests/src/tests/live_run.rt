@@ -207,7 +207,7 @@ fn run_on<R: Threads + Wait + Sync + Abort>(
     let mut pace = ListPace::new(0);
     let now = pace.until(0);
     let most = row.most.clamp(1, 524_288);
-    let parts = Parts::<Triple<11>>::new(alloc, &(), &config, now, most);
+    let parts = Parts::<Triple<11>>::new(rt, alloc, &(), &config, now, most);
     let parts = parts.expect(rt, "memory for a link");
     run_of::<Brand, R>(
         rt, alloc, parts, &config, script, row.blocks, room, port, device, &mut pace,

@@ -91,8 +91,15 @@ impl<C: StateCell<11>, N: LinkName> Bench<C, N> {
         })
     }
 
-    /// The last turn, so many microseconds after the opening, with both passes handed in. Answers how many datagrams it sends, too.
-    pub fn end<R: Wait + Abort>(self, rt: &R, way: &C::Way, after: u32) -> (Ended, usize) {
+    /// The last turn, so many microseconds after the opening, with so many of the two passes handed in. Answers how many datagrams it
+    /// sends, too.
+    pub fn end<R: Wait + Abort>(
+        self,
+        rt: &R,
+        way: &C::Way,
+        after: u32,
+        passes: u8,
+    ) -> (Ended, usize) {
         let Bench {
             link,
             network,
@@ -102,10 +109,28 @@ impl<C: StateCell<11>, N: LinkName> Bench<C, N> {
         } = self;
         let Network { mut hub, mut sends } = network;
         assert!(rt; hub.handed() == 0);
-        hub.hand_in(first);
-        hub.hand_in(second);
+        hand_in(&mut hub, first, second, passes);
         let now = OPENING + i64::from(after);
         let ended = hub.last_turn(rt, link, way, audio, now, &mut sends);
         (ended, sends.list().len())
     }
+}
+
+// Hands in none of two passes, the first one, or both.
+fn hand_in<C: StateCell<11>, N: LinkName>(
+    hub: &mut Hub<C, N>,
+    first: AppPass<C, N>,
+    second: AppPass<C, N>,
+    passes: u8,
+)
+    requires { length hub.old.handed ≡ 0 }
+{
+    if passes == 0 {
+        return;
+    }
+    hub.hand_in(first);
+    if passes == 1 {
+        return;
+    }
+    hub.hand_in(second);
 }

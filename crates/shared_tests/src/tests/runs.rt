@@ -22,8 +22,10 @@ use std::sync::Wait;
 ///
 /// k, l, m: a capture by the first or the second pass or by the audio thread, the state's number, how many commits of
 /// applications it has taken, the number of the last audio commit taken, the commit that its quantum is of, as in a turn's
-/// answer, or O0 for the opening, and which own commit is shown over it. The third commit of a thread is of a quantum alone. z:
-/// the last turn, what it took, as a turn and with E for the end, and behind = how many states were published.
+/// answer, or O0 for the opening, and which own commit is shown over it. The third commit of a thread is of a quantum alone.
+///
+/// z, y, x: the last turn, with both passes handed in, with none, or with the first alone; what it took, as a turn and with E for
+/// the end, and behind = how many states were published.
 pub const RUNS: &[&str] = &[
     "9k000O0.l000O0.m000O0.zE>1=1",
     "9a1k000O01zX1E>1=2",
@@ -33,6 +35,7 @@ pub const RUNS: &[&str] = &[
     "9c1c2m000O02nU2m102U2.zE>1=2",
     "9a1c1nX1U1k211U1.m211U1.zE>1=3",
     "9a1b2nX1k110X1.l110X11nY1l220Y1.zE>1=3",
+    "9a1b2k000O01nX1l110X11nY1k220Y1.zE>1=3",
     "9tT>1tTzE>1=1",
     "9dRdRzE>1=1",
     "9n-n-zE>1=1",
@@ -65,6 +68,14 @@ pub const RUNS: &[&str] = &[
     "9c1nU1n-zE>1=2",
     "9a1nX1c1nU1a2nX2k321X2.c2nU2k422U2.m422U2.zE>1=5",
     "4a1a2c1tX1U1T>1nX2zF=4",
+    "9yE>1=1",
+    "9a1yX1E>1=2",
+    "9a1b2yX1Y1E>1=3",
+    "9a1a2nX1c1q.yU1X2E>1=4",
+    "2a1b2yX1Y1F=3",
+    "9b1xY1E>1=2",
+    "9a1b2xX1Y1E>1=3",
+    "9a1b2b3nX1nY1xY2E>1=4",
 ];
 
 /// An answer.
@@ -90,6 +101,18 @@ pub fn events_of(run: &str) -> u64
         Some(b'4') => 4,
         _ => 9,
     }
+}
+
+/// The steps of a run before its last turn, how many passes are handed in to that, and what it answers.
+fn parts_of(run: &str) -> (&str, u8, &str) {
+    if let Some((steps, ending)) = run.split_once('z') {
+        return (steps, 2, ending);
+    }
+    if let Some((steps, ending)) = run.split_once('x') {
+        return (steps, 1, ending);
+    }
+    let (steps, ending) = run.split_once('y').unwrap_or((run, ""));
+    (steps, 0, ending)
 }
 
 fn put(text: &mut Text, byte: u8) {
@@ -299,7 +322,7 @@ pub fn play_run<C: StateCell<11>, N: LinkName, R: Wait + Abort>(
     bench: &mut Bench<C, N>,
     run: &str,
 ) {
-    let (steps, _ending) = run.split_once('z').unwrap_or((run, ""));
+    let (steps, _passes, _ending) = parts_of(run);
     let mut lasts = Lasts {
         first: 100,
         second: 200,
@@ -335,11 +358,11 @@ pub fn end_run<C: StateCell<11>, N: LinkName, R: Wait + Abort>(
     run: &str,
 ) {
     let before = bench.network.hub.journal().len();
-    let (ended, sent) = bench.end(rt, way, 0);
+    let (_steps, passes, ending) = parts_of(run);
+    let (ended, sent) = bench.end(rt, way, 0, passes);
     let mut text = Text::new();
     put_news(&mut text, &ended.events, before, false, ended.full, sent);
     put(&mut text, b'=');
     put_digit(&mut text, ended.published.len() as u64);
-    let (_steps, ending) = run.split_once('z').unwrap_or((run, ""));
     assert_eq!(rt; text.as_slice(), ending.as_bytes(), "at the end of {run}");
 }

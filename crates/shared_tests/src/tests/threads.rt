@@ -380,7 +380,7 @@ fn end_threads<C: StateCell<11>, N: LinkName, R: Wait + Abort>(
         one: one_report,
         other: other_report,
     };
-    let (ended, _sent) = bench.end(rt, way, moment_of(TURNS));
+    let (ended, _sent) = bench.end(rt, way, moment_of(TURNS), 2);
     (ended, reports)
 }
 

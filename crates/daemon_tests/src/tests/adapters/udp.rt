@@ -65,16 +65,19 @@ enum Step {
 
 use Step::{Bind, Came, Free, Send};
 
+/// The endpoints of a script.
+type Ends = [Endpoint; 8];
+
 /// Port 0 of this host.
-const NO_PORT: usize = 3;
+const NO_PORT: usize = 5;
 
 /// Beyond the loopback interface: 192.0.2.1.
-const BEYOND: usize = 4;
+const BEYOND: usize = 6;
 
 /// A broadcast address, which takes an option that isn't set.
-const BROADCAST: usize = 5;
+const BROADCAST: usize = 7;
 
-/// What two ports do, by what it shows. The ends 0, 1 and 2 are of this host, and free at first.
+/// What two ports do, by what it shows. The ends 0 to 4 are of this host, and free at first.
 const SCRIPTS: &[(&str, &[Step])] = &[
     (
         "two ports send to each other",
@@ -126,6 +129,30 @@ const SCRIPTS: &[(&str, &[Step])] = &[
             Came(Far, 0, 1, 1, 98),
             Send(Near, 0, 2, 1, 97, Posted::Sent),
             Came(Far, 0, 0, 1, 97),
+        ],
+    ),
+    // A port begins with the gate behind the one that answered last: so the gate 3 is the fourth that it asks, each other one the third.
+    (
+        "each of four gates hears and sends",
+        &[
+            Bind(Near, 0, 4, Bound::Ready),
+            Bind(Far, 4, 1, Bound::Ready),
+            Send(Far, 0, 3, 1, 97, Posted::Sent),
+            Came(Near, 3, 4, 1, 97),
+            Send(Far, 0, 2, 1, 98, Posted::Sent),
+            Came(Near, 2, 4, 1, 98),
+            Send(Far, 0, 1, 1, 99, Posted::Sent),
+            Came(Near, 1, 4, 1, 99),
+            Send(Far, 0, 0, 1, 100, Posted::Sent),
+            Came(Near, 0, 4, 1, 100),
+            Send(Near, 0, 4, 1, 101, Posted::Sent),
+            Came(Far, 0, 0, 1, 101),
+            Send(Near, 1, 4, 1, 102, Posted::Sent),
+            Came(Far, 0, 1, 1, 102),
+            Send(Near, 2, 4, 1, 103, Posted::Sent),
+            Came(Far, 0, 2, 1, 103),
+            Send(Near, 3, 4, 1, 104, Posted::Sent),
+            Came(Far, 0, 3, 1, 104),
         ],
     ),
     (
@@ -189,9 +216,10 @@ fn two_ports_go_by_each_script(rt: HostRuntime) -> Result<(), Fail> {
     Ok(())
 }
 
-// The endpoints of a script.
-fn ends<R: Net>(rt: &R) -> io::Result<[Endpoint; 6]> {
+fn ends<R: Net>(rt: &R) -> io::Result<Ends> {
     Ok([
+        end(HERE, free_port(rt)?),
+        end(HERE, free_port(rt)?),
         end(HERE, free_port(rt)?),
         end(HERE, free_port(rt)?),
         end(HERE, free_port(rt)?),
@@ -272,7 +300,7 @@ impl<R: Net + Clock + Wait + Eprint + Copy + Drop> GatedPort<R> {
 fn steps_done<R: Net + Clock + Wait + Eprint + Copy + Drop>(
     rt: &R,
     alloc: Global,
-    ends: &[Endpoint; 6],
+    ends: &Ends,
     near: &mut GatedPort<R>,
     far: &mut GatedPort<R>,
     steps: &[Step],
@@ -304,7 +332,7 @@ fn side_of(step: Step) -> Side {
 fn is_as_told<R: Net + Clock + Wait + Eprint + Copy + Drop>(
     rt: &R,
     alloc: Global,
-    ends: &[Endpoint; 6],
+    ends: &Ends,
     port: &mut GatedPort<R>,
     step: Step,
 ) -> bool {
@@ -320,11 +348,11 @@ fn is_as_told<R: Net + Clock + Wait + Eprint + Copy + Drop>(
     }
 }
 
-fn at(ends: &[Endpoint; 6], place: usize) -> Endpoint {
+fn at(ends: &Ends, place: usize) -> Endpoint {
     ends.get(place).copied().unwrap_or(end(0, 0))
 }
 
-fn some_of(ends: &[Endpoint; 6], first: usize, count: usize) -> &[Endpoint] {
+fn some_of(ends: &Ends, first: usize, count: usize) -> &[Endpoint] {
     ends.get(first..first.saturating_add(count)).unwrap_or(&[])
 }
 
@@ -372,16 +400,16 @@ fn waits<R: Net + Clock + Wait + Eprint + Copy + Drop>(
     until <= told && told <= now && idle(port, 1) >= now && idle(port, -1) >= now
 }
 
-// A port of two gates.
+// A port of four gates.
 fn idle_port<R: Net + Clock + Wait + Eprint + Copy + Drop>(
     rt: R,
     alloc: Global,
     clock: HostClock,
-    ends: &[Endpoint; 6],
+    ends: &Ends,
 ) -> io::Result<GatedPort<R>> {
     let port = UdpPort::new(rt, alloc, clock, ABOUT)?;
     let mut gated = GatedPort { port, gates: 0 };
-    let _bound = gated.bind(some_of(ends, 0, 2));
+    let _bound = gated.bind(some_of(ends, 0, 4));
     Ok(gated)
 }
 
@@ -398,18 +426,18 @@ fn a_datagram_ends_the_wait_in_which_it_comes(rt: HostRuntime) -> Result<(), Fai
     let ends = ends(&rt)?;
     let clock = HostClock::started(&rt)?;
     let mut port = idle_port(rt, rt.alloc(), clock, &ends)?;
-    let to = address_of(at(&ends, 1));
+    let (one, last) = (address_of(at(&ends, 1)), address_of(at(&ends, 3)));
     let (came, sent) = join(
         &rt,
-        move || is_soon(&port.receive(END)),
-        move || is_sent_later(&rt, to),
+        move || is_soon(&port.receive(END), 1) && is_soon(&port.receive(END), 3),
+        move || is_sent_later(&rt, one) && is_sent_later(&rt, last),
     );
     assert!(rt; came && sent);
     Ok(())
 }
 
-// Whether it is the datagram that is sent below, on the gate 1, and came when it was sent, long before the end.
-fn is_soon(arrival: &Arrival) -> bool {
+// Whether it is a datagram that is sent below, on this gate, and came when it was sent, long before the end.
+fn is_soon(arrival: &Arrival, on: u8) -> bool {
     match arrival {
         Arrival::Datagram {
             gate,
@@ -417,7 +445,7 @@ fn is_soon(arrival: &Arrival) -> bool {
             now,
             ..
         } => {
-            *gate == Gate(1) && bytes.as_slice() == b"a".as_slice() && *now >= SENT && *now < SOON
+            *gate == Gate(on) && bytes.as_slice() == b"a".as_slice() && *now >= SENT && *now < SOON
         }
         _ => false,
     }

@@ -1,8 +1,8 @@
 //! That the three loops of a run go on beside one another: each waits in its object for what another one does, in each of 100 rounds.
 //!
-//! In round k the port gives a datagram once the block k was played, the device gives the block k + 1 once that datagram was answered, and
-//! the pace lets the command k go once that block was given. Loops that ran one after another would wait in vain, which the objects notice
-//! by the number of their looks.
+//! In round k the port gives a datagram of a new peer once the block k was played and the command k asked for, the device gives the block
+//! k + 1 once that datagram was answered, and the pace lets the command k go once that block was given: both are shown k peers.
+//! Loops that ran one after another would wait in vain, which the objects notice by the number of their looks.
 
 ghost use Rattle.std.specs.Prelude.{None};
 ghost use Rattle.lk_outside.specs.ListPort.{bound_of, faults_of};
@@ -40,6 +40,8 @@ struct Marks {
     played: AtomicU64,
     // How many datagrams were answered.
     answered: AtomicU64,
+    // How many commands the pace was asked for.
+    asked: AtomicU64,
     // How often an object waited in vain.
     vain: AtomicU64,
 }
@@ -50,6 +52,7 @@ impl Marks {
             given: AtomicU64::new(0),
             played: AtomicU64::new(0),
             answered: AtomicU64::new(0),
+            asked: AtomicU64::new(0),
             vain: AtomicU64::new(0),
         }
     }
@@ -65,9 +68,14 @@ impl Marks {
         raise(&self.vain);
         false
     }
+
+    // Waits until so many blocks were played and so many commands asked for. Answers whether they were.
+    fn wait_for_round(&self, round: u16) -> bool {
+        self.wait_for(&self.played, round) && self.wait_for(&self.asked, round)
+    }
 }
 
-/// A port that gives an alive of a new peer for each block played, and tells nothing.
+/// A port that gives an alive of a new peer for each block played and command asked for, and tells nothing.
 #[derive(Drop)]
 struct Peers<'a> {
     marks: &'a Marks,
@@ -98,7 +106,7 @@ impl<'a> Port for Peers<'a> {
     }
 
     fn receive(&mut self, _until: i64) -> Arrival {
-        if self.given >= ROUNDS || !self.marks.wait_for(&self.marks.played, self.given + 1) {
+        if self.given >= ROUNDS || !self.marks.wait_for_round(self.given + 1) {
             return Arrival::Closed;
         }
         self.given += 1;
@@ -171,6 +179,7 @@ impl<'a> Pace for Lines<'a> {
     fn until(&mut self, moment: i64) -> i64 {
         // The first ask is for the moment of the opening.
         if self.asks > 0 {
+            raise(&self.marks.asked);
             let _came = self
                 .marks
                 .wait_for(&self.marks.given, self.asks.saturating_add(1));
@@ -221,31 +230,41 @@ fn go_on_together<R: Threads + Wait + Sync>(
     status == Status::Done && audio.given == ROUNDS + 1 && port.given == ROUNDS
 }
 
-// Whether there was a datagram, a capture and a read in each round, with what was published before.
+// Whether there was a datagram, a capture and a read in each round, with what was published before and nothing that came after it.
 fn are_rounds(report: &Report) -> bool {
     count_of(&report.events, b'r') == 100
         && report.reads.len() == 101
         && report.captures.len() == 100
+        && report.app_commits.len() == 66
         && keep_up(&report.reads, 0)
         && keep_up(&report.captures, 1)
 }
 
-// Whether the first capture has at least this number, the one after it at least the next number, and so on.
-fn keep_up(captures: &[Capture], first: u64) -> bool {
-    let mut least = first;
+// Whether the first capture has so many peers, and a number that is no less, the one after it one peer more, and so on.
+fn keep_up(captures: &[Capture], first: u32) -> bool {
+    let mut peers = first;
     for capture in captures {
-        if capture.number < least {
+        if capture.state.peers != peers || capture.number < u64::from(peers) {
             return false;
         }
-        least = least.saturating_add(1);
+        peers = peers.saturating_add(1);
     }
     true
 }
 
 fn script_of(alloc: Global) -> Result<Vec<u8>, AllocError> {
     let mut script = Vec::from_slice(alloc, b"link 1\nsetup 500000 1\ngate 127.0.0.1:20808\n")?;
-    for _ in 0..ROUNDS {
-        script.extend_from_slice(b"at 0 look\n")?;
+    for round in 0..ROUNDS {
+        script.extend_from_slice(line_of(round))?;
     }
     Ok(script)
+}
+
+// A look, and then two commands that commit.
+fn line_of(round: u16) -> &'static [u8] {
+    match round % 3 {
+        0 => b"at 0 look\n",
+        1 => b"at 0 tempo 250000\n",
+        _ => b"at 0 request 1000000\n",
+    }
 }

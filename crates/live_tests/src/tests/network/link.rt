@@ -75,7 +75,7 @@ fn told_by<C: StateCell<11>, R: Wait + Abort>(
     requires gates { bound ≡ true → bound_of watch.old.port ≡ locals_of (config_value config.now) }
 {
     let mut sends = Sends::new(alloc)?;
-    let parts = Parts::<C>::new(alloc, way, config, opening_of(given), most_of(given))?;
+    let parts = Parts::<C>::new(rt, alloc, way, config, opening_of(given), most_of(given))?;
     Ok(told_of::<C, Brand, R>(rt, way, parts, given, watch, bound, twin, &mut sends))
 }
 

@@ -40,7 +40,7 @@ pub fn told_by<C: StateCell<11>, R: Wait + Abort>(
     requires few { length script.now.blocks.items ≤ 99 }
 {
     let mut room = Room::new(alloc, script, 0)?;
-    let parts = Parts::<C>::new(alloc, way, &config_of(&[0]), 0, 300)?;
+    let parts = Parts::<C>::new(rt, alloc, way, &config_of(&[0]), 0, 300)?;
     Ok(told_of::<C, Brand, R>(rt, alloc, way, parts, row, script, &mut room))
 }
 

@@ -1,7 +1,7 @@
 use Rattle.live_tests.proofs.tests.audio.played_on.Given as goal
 
 abbrev pub ghosts-played_over-N-LinkName : goal.ghosts-played_over-N-LinkName
-ghosts-played_over-N-LinkName a = record {
+ghosts-played_over-N-LinkName g a = record {
   app_states = a.parts.app_states;
   audio_states = a.parts.audio_states;
   audio_commits = a.parts.audio_commits;
@@ -10,4 +10,4 @@ ghosts-played_over-N-LinkName a = record {
 }
 
 abbrev pub ghosts-played_over-N-Ledger : goal.ghosts-played_over-N-Ledger
-ghosts-played_over-N-Ledger a = record { name = a.parts.ledger; parts = a.parts.shares }
+ghosts-played_over-N-Ledger g a = record { name = a.parts.ledger; parts = a.parts.shares }
