@@ -7,8 +7,9 @@ in docs/CONTROL.md, and against the states: where two answers to `status` tell o
 beat and each time between them is by it. What is committed shows in the next status, and the other run hears the tempo and the start.
 Then runs of a node alone: its first timeline, a change of tempo and a start against the clock of this machine; the same bytes in one piece,
 in drawn ones and byte by byte; a client that goes away in mid-line, in several ways; lines of 64, of 65 and of 100,000 bytes, with and
-without a line feed; 4,096 lines and one more; no client, and a second one; and each status that a run can end with, but for 9. The
-summaries count what was sent. Last, what tools/control.py tells through a pipe, of a run and of what is no run. No run is left behind.
+without a line feed; 4,096 lines and one more; no client, a second one, and one at another address; and each status that a run can end
+with, but for 9. The summaries count what was sent. Last, what tools/control.py tells through a pipe, of a run and of what is no run. No
+run is left behind.
 The last line is 'N passed, N failed'.
 """
 import os
@@ -534,6 +535,23 @@ def ended(program, words, script=b""):
     return child.returncode, out.decode(), error.decode()
 
 
+def another_address(program):
+    """Nobody listens at another address of this machine, and the client that comes then is served as ever."""
+    run = Run(program)
+    _, port = run.listens()
+    try:
+        Client(("127.0.0.2", port)).socket.close()
+    except ConnectionRefusedError:
+        pass
+    else:
+        raise Differs(f"a client was taken at 127.0.0.2:{port}")
+    client = run.client()
+    want("the answers", client.ask(b"nope", b"tempo 300000"), ["bad", "ok 1"])
+    want("the tempo", client.status()[0], 300_000)
+    client.ends()
+    run.end(0, 3, 1)
+
+
 def before_a_run(program):
     """Without an endpoint, and with a script that has a command. Words and heads at fault are in checks/statuses.py with their texts."""
     status, out, error = ended(program, [])
@@ -736,6 +754,7 @@ def main(program, seed):
         ("4,096 lines and one more", most_lines, program),
         ("a node without a client", without_a_client, program),
         ("a second client", second_client, program),
+        ("another address", another_address, program),
         ("words and a script at fault", before_a_run, program),
         ("an endpoint in use", endpoint_in_use, program),
         ("other faults", other_faults, program),

@@ -1,33 +1,67 @@
 #!/usr/bin/env python3
-"""Plays the built drum machine beside a live run, and measures its WAV: checks/drums.py PROGRAM DRUMS.
+"""Plays the built drum machine, beside a live run, alone and beside another one, and measures its WAV: checks/drums.py PROGRAM DRUMS.
 
 PROGRAM is jorazhil's own, and DRUMS the drum machine's. The live run's clicks are lines on its standard error, each with its host time. It
 starts to play, and changes its tempo twice between two beats. The drum machine has a stroke on each beat; the onsets in its WAV are found
 by their level alone. The two clocks begin apart, by how much nobody knows: so the onsets have to be where the clicks are, but for one
 distance that all of them share, to within a millisecond; and each click that falls into the WAV has its onset. Its MIDI clock comes 24
-times a beat of the last tempo. Then a pattern of sixteenths, whose onsets are quarters of a beat apart; the WAV's header; a rehearsal by
-another pattern, which has the stored one's steps; and patterns and words at fault, with their statuses and texts.
+times a beat of the last tempo. Beside a second live run, which stops, the onsets end with the clicks. Then a pattern of sixteenths, whose
+onsets are quarters of a beat apart, from the front of the WAV on, each with a MIDI clock, which tells its host time; one that begins with a
+rest; and the WAV's header. Two drum machines beside each other: what a listener hears of them, each with an id of its own, up to their
+goodbyes. As many destinations as there may be. A journal that is full before the end. A rehearsal by other patterns, which has the stored
+one's steps; and patterns and words at fault, with their statuses and texts.
 The last line is 'N passed, N failed'.
 """
 import os
 import re
+import socket
 import struct
 import subprocess
 import sys
 import tempfile
+import time
+from contextlib import ExitStack
 
 sys.dont_write_bytecode = True
-from live import Differs, free_ports, want  # noqa: E402
+import node  # noqa: E402
+from live import Differs, come, free_ports, listener, want  # noqa: E402
 
 HERE = os.path.dirname(os.path.dirname(os.path.abspath(__file__)))
 RATE, FRAMES, BLOCK = 48_000, 960, 20_000
 REST = "." * 16
-BEATS, SIXTEENTHS = "x...x...x...x...", "x" * 16
+BEATS, SIXTEENTHS, OFFBEATS = "x...x...x...x...", "x" * 16, ".x" * 8
 # The live run: it plays after two seconds, and changes its tempo a tenth of a second behind a beat. All in microseconds.
 PLAY_AT, CHANGES, END = 2_000_000, ((4_600_000, 400_000), (7_100_000, 600_000)), 11_000_000
 BLOCKS = 500
+# The live run that stops.
+STOP_AT, STOP_END, STOP_BLOCKS = 4_600_000, 7_600_000, 350
 # A millisecond, in microseconds.
 NEAR = 1_000
+# A frame, with what is lost where times are rounded, in microseconds.
+FRAME = 22
+# The most destinations, and how many events find room in a journal.
+MOST_PEERS, ROOM = 32, 262_144
+# For how many blocks a journal is filled, and how many datagrams are on their way at once: a socket has room for twice as many.
+FULL_BLOCKS, FLOOD = 500, 128
+PING, PONG = b"_link_v\x01\x01", b"_link_v\x01\x02"
+
+# Every process that was started beside another one.
+CHILDREN = []
+
+
+def started(words, text, **streams):
+    """A process that has this text on its standard input."""
+    child = subprocess.Popen(words, stdin=subprocess.PIPE, **streams)
+    CHILDREN.append(child)
+    child.stdin.write(text.encode())
+    child.stdin.close()
+    # So that nothing is written there any more when its end is waited for.
+    child.stdin = None
+    return child
+
+
+def at_port(port):
+    return f"127.0.0.1:{port}"
 
 
 def pattern(kick, snare=REST, hat=REST):
@@ -56,31 +90,34 @@ def onsets_in(samples):
     return found
 
 
-def beside_live(program, drums):
-    """The clicks of the live run, and the sound and the MIDI clock of the drum machine that has joined it."""
+def messages_in(midi):
+    """The host time and the hex digits of each MIDI message that was told."""
+    return [(int(at), digits) for at, digits in re.findall(r"^midi (\d+) ([0-9a-f]+)$", midi.decode(), re.M)]
+
+
+def clocks_in(messages):
+    """The host times of the clocks among MIDI messages."""
+    return [at for at, digits in messages if digits == "f8"]
+
+
+def beside_live(program, drums, commands, end, blocks):
+    """The clicks of a live run with these commands, and the sound and the MIDI messages of the drum machine that has joined it."""
     here, there = free_ports(2)
-    commands = [f"at {PLAY_AT} play", *(f"at {at} tempo {mpb}" for at, mpb in CHANGES), f"at {END} look"]
-    script = "\n".join(["link 1", "setup 500000 1", f"gate 127.0.0.1:{here}", f"to 127.0.0.1:{there}", *commands]) + "\n"
-    pipe = subprocess.PIPE
+    script = "\n".join(["link 1", "setup 500000 1", f"gate {at_port(here)}", f"to {at_port(there)}", *commands, f"at {end} look"]) + "\n"
     with tempfile.TemporaryFile() as sound, tempfile.TemporaryFile() as midi:
-        live = subprocess.Popen([program, "live", "--blocks", str(END // BLOCK)], stdin=pipe, stdout=subprocess.DEVNULL, stderr=pipe, text=True)
-        live.stdin.write(script)
-        live.stdin.close()
-        live.stdin = None
-        words = [drums, str(BLOCKS), "500000", f"127.0.0.1:{there}", f"127.0.0.1:{here}"]
-        played = subprocess.Popen(words, stdin=pipe, stdout=sound, stderr=midi)
-        played.stdin.write(pattern(BEATS).encode())
-        played.stdin.close()
+        live = started([program, "live", "--blocks", str(end // BLOCK)], script, stdout=subprocess.DEVNULL, stderr=subprocess.PIPE)
+        played = started([drums, str(blocks), "500000", at_port(there), at_port(here)], pattern(BEATS), stdout=sound, stderr=midi)
         want("the drum machine's status", played.wait(timeout=60), 0)
-        clicks = [int(at) for at in re.findall(r"^click (\d+) ", live.communicate(timeout=60)[1], re.M)]
+        clicks = [int(at) for at in re.findall(rb"^click (\d+) ", live.communicate(timeout=60)[1], re.M)]
         want("the live run's status", live.returncode, 0)
         sound.seek(0)
         midi.seek(0)
-        return clicks, sound.read(), midi.read().decode()
+        return clicks, sound.read(), messages_in(midi.read())
 
 
 def session(program, drums):
-    clicks, wav, midi = beside_live(program, drums)
+    commands = [f"at {PLAY_AT} play", *(f"at {at} tempo {mpb}" for at, mpb in CHANGES)]
+    clicks, wav, messages = beside_live(program, drums, commands, END, BLOCKS)
     onsets = onsets_in(samples_of(wav, BLOCKS))
     # Before it has joined, it plays by itself; what counts begins with the live run's own start.
     want("that there are clicks", len(clicks) > 12, True)
@@ -92,7 +129,7 @@ def session(program, drums):
     want("the clicks that have no onset within a millisecond", missed, [])
     heard = [onset for onset in onsets if onset >= inside[0] + apart - NEAR]
     want("how many onsets there are from the first of these clicks on", len(heard), len(inside))
-    clocks = [int(at) for at in re.findall(r"^midi (\d+) f8$", midi, re.M)]
+    clocks = clocks_in(messages)
     want("that clocks rise", clocks, sorted(clocks))
     # 24 of them to a beat of the last tempo, to a microsecond.
     gaps = [other - one for one, other in zip(clocks[-100:], clocks[-99:])]
@@ -105,30 +142,192 @@ def best_distance(clicks, onsets):
     return max(ends, key=lambda apart: (sum(abs(other - apart) <= NEAR / 2 for other in ends), -abs(apart)))
 
 
+def stop(program, drums):
+    """The live run's stop is the drum machine's too: half a second and a stroke behind it nothing is struck any more."""
+    commands = ["at 1500000 play", "at 3000000 tempo 400000", f"at {STOP_AT} stop"]
+    clicks, wav, messages = beside_live(program, drums, commands, STOP_END, STOP_BLOCKS)
+    onsets = onsets_in(samples_of(wav, STOP_BLOCKS))
+    want("that there are clicks and onsets", len(clicks) > 4 and len(onsets) > 4, True)
+    apart = best_distance(clicks, onsets)
+    times = [onset - apart for onset in onsets]
+    want("that there are onsets before the stop", len([at for at in times if STOP_AT - 1_500_000 <= at < STOP_AT]) >= 3, True)
+    want("the onsets behind the stop, by the live run's clock", [at for at in times if at > STOP_AT + 500_000 + 400_000], [])
+    want("that the sound goes on for a second and a half", STOP_BLOCKS * BLOCK - apart > STOP_AT + 1_500_000, True)
+    want("the last MIDI message that is no clock", [digits for _, digits in messages if digits != "f8"][-1:], ["fc"])
+    want("that clocks go on", clocks_in(messages)[-1] > STOP_BLOCKS * BLOCK - 50_000, True)
+
+
 def alone(drums):
-    """Sixteenths at 150 beats a minute: 100 milliseconds apart, from the first frame on."""
+    """A run that is held up right as it begins is made again: one of three isn't."""
+    for _ in range(3):
+        late = begin_alone(drums)
+        if max(late) <= 5_000:
+            break
+    want(f"that beat 0 and the first block begin with the WAV and with the clock, which they do at {late}", max(late) <= 5_000, True)
+
+
+def begin_alone(drums):
+    """Sixteenths at 150 beats a minute: 100 milliseconds apart, from the first frame on, each with a sixth clock. Answers of the first when
+    it is heard, by the WAV, and when the WAV begins, by the MIDI clock."""
     (port,) = free_ports(1)
-    done = subprocess.run([drums, "100", "400000", f"127.0.0.1:{port}"], input=pattern(SIXTEENTHS).encode(), capture_output=True, timeout=60)
+    done = subprocess.run([drums, "100", "400000", at_port(port)], input=pattern(SIXTEENTHS).encode(), capture_output=True, timeout=60)
     want("its status", done.returncode, 0)
-    onsets = onsets_in(samples_of(done.stdout, 100))
+    onsets, messages = onsets_in(samples_of(done.stdout, 100)), messages_in(done.stderr)
     gaps = [other - one for one, other in zip(onsets, onsets[1:])]
-    want("that there are 19 or 20 onsets", len(onsets) in (19, 20), True)
+    want("how many onsets there are", len(onsets), 20)
     want("that they are 100 milliseconds apart", all(abs(gap - 100_000) <= 30 for gap in gaps), True)
+    want("what MIDI begins with", [digits for _, digits in messages[:2]], ["fa", "f8"])
+    want("the MIDI messages that are no clocks", [digits for _, digits in messages if digits != "f8"], ["fa"])
+    clocks = clocks_in(messages)
+    want("that the start is at the first clock", clocks[0], messages[0][0])
+    want("the clocks that are not 24 to a beat", [at for k, at in enumerate(clocks) if abs(at - clocks[0] - k * 400_000 / 24) > 1], [])
+    # Host times are by the machine's own clock, which starts right before the first block.
+    apart = clocks[0] - onsets[0]
+    want("that the clock starts first", apart >= 0, True)
+    want("the onsets that have no clock", [onset for k, onset in enumerate(onsets) if abs(clocks[6 * k] - apart - onset) > FRAME], [])
+    want(f"that clocks end with the WAV, at {clocks[-1] - apart}", 2_000_000 - 400_000 / 24 - FRAME <= clocks[-1] - apart < 2_000_000, True)
+    return onsets[0], apart
+
+
+def rests_first(drums):
+    """Every other sixteenth, the first of which is a rest."""
+    (port,) = free_ports(1)
+    done = subprocess.run([drums, "50", "400000", at_port(port)], input=pattern(OFFBEATS).encode(), capture_output=True, timeout=60)
+    want("its status", done.returncode, 0)
+    onsets = onsets_in(samples_of(done.stdout, 50))
+    want("how many onsets there are", len(onsets), 5)
+    want(f"that they begin with the second sixteenth, at {onsets[0]}", 100_000 - FRAME <= onsets[0] < 150_000, True)
+    gaps = [other - one for one, other in zip(onsets, onsets[1:])]
+    want("that they are 200 milliseconds apart", all(abs(gap - 200_000) <= 30 for gap in gaps), True)
+
+
+def alives_of(port, heard):
+    """What the node at a port tells in its alives: its id and its state. They are all that is heard of it, but for a goodbye at the end."""
+    sent = [datagram for datagram, source in heard if source == ("127.0.0.1", port)]
+    want(f"whether anything is heard from {port}", len(sent) > 1, True)
+    told = [(datagram[12:20], node.read_state(datagram[20:])) for datagram in sent[:-1]]
+    for datagram, (name, state) in zip(sent, told):
+        want(f"the kind, the time to live and the group of {datagram!r}", datagram[:12], b"_asdp_v\x01\x01\x05\0\0")
+        want("where it answers pings", state and state[3], node.endpoint_of(at_port(port)))
+        want("its spelling", datagram, node.write_state(1, 0, name, state[1], state[0], state[2], state[3]))
+    want("the last that is heard", sent[-1], node.write_bye(0, told[-1][0]))
+    return told
+
+
+def once_each(values):
+    """Each value that isn't that of the one before."""
+    return [value for k, value in enumerate(values) if values[:k][-1:] != [value]]
+
+
+def two_machines(drums):
+    """The second begins a second later, so that the first one's session wins, and is alone in one of its own again for a last second."""
+    with listener() as ear:
+        ports = free_ports(2)
+        gates = [at_port(port) for port in ports]
+        own = at_port(ear.getsockname()[1])
+        streams = {"stdout": subprocess.DEVNULL, "stderr": subprocess.DEVNULL}
+        first = started([drums, "250", "500000", gates[0], gates[1], own], pattern(BEATS), **streams)
+        heard = [ear.recvfrom(513)]
+        time.sleep(1)
+        second = started([drums, "250", "400000", gates[1], gates[0], own], pattern(BEATS), **streams)
+        want("their statuses", [child.wait(timeout=60) for child in (first, second)], [0, 0])
+        heard += come(ear)
+    want("from where there are datagrams", {source for _, source in heard}, {("127.0.0.1", port) for port in ports})
+    told = [alives_of(port, heard) for port in ports]
+    one, other, last = told[0][0][0], told[1][0][0], told[1][-1][0]
+    want(f"how many ids there are among {one}, {other} and {last}", len({one, other, last}), 3)
+    sessions = [once_each([(name, state[1], state[0].mpb) for name, state in alives]) for alives in told]
+    want("the id, the session and the tempo that the first one tells", sessions[0], [(one, one, 500_000)])
+    want("the ids, sessions and tempos that the second one tells", sessions[1], [(other, other, 400_000), (other, one, 500_000), (last, last, 500_000)])
+
+
+def most_peers(drums):
+    """As many destinations as there may be, each of which hears an alive and the goodbye."""
+    with ExitStack() as held:
+        ears = [held.enter_context(listener()) for _ in range(MOST_PEERS)]
+        (port,) = free_ports(1)
+        words = [drums, "5", "500000", at_port(port), *(at_port(ear.getsockname()[1]) for ear in ears)]
+        done = subprocess.run(words, input=pattern(BEATS).encode(), capture_output=True, timeout=60)
+        want("its status", done.returncode, 0)
+        for ear in ears:
+            alives_of(port, come(ear))
+
+
+def is_answered(asker, child):
+    """Sends so many datagrams, the last of which is a ping, and answers whether its pong comes: not once the journal is full."""
+    try:
+        for _ in range(FLOOD - 1):
+            asker.send(b"-")
+        asker.send(PING)
+        while child.poll() is None:
+            try:
+                if asker.recv(513).startswith(PONG):
+                    return True
+            except socket.timeout:
+                pass
+    except ConnectionRefusedError:
+        # The run has ended.
+        pass
+    return False
+
+
+def full_journal(drums):
+    """A journal that datagrams fill long before the last block. What comes then isn't taken, and the sound goes on."""
+    with listener() as asker, tempfile.TemporaryFile() as sound, tempfile.TemporaryFile() as told:
+        (port,) = free_ports(1)
+        words = [drums, str(FULL_BLOCKS), "400000", at_port(port), at_port(asker.getsockname()[1])]
+        child = started(words, pattern(SIXTEENTHS), stdout=sound, stderr=told)
+        # Once its first alive has come, it is there.
+        asker.recv(513)
+        asker.connect(("127.0.0.1", port))
+        asker.settimeout(0.5)
+        took = 0
+        while is_answered(asker, child):
+            took += FLOOD
+        status = child.wait(timeout=60)
+        sound.seek(0)
+        told.seek(0)
+        onsets, error = onsets_in(samples_of(sound.read(), FULL_BLOCKS)), told.read().decode()
+    if status == 0 and took < ROOM - 1_000:
+        print(f"note: {took} datagrams in {FULL_BLOCKS} blocks are too few here to fill a journal, so no full one is looked at")
+        return
+    full = "the journal was full before the run ended, and what the network brought then was not taken; a run with fewer blocks has room"
+    want("its status, and what it tells last", (status, error.splitlines()[-1]), (6, f"drum_machine: {full}"))
+    # There are ticks and the start beside them, and the last ones have no pong.
+    want(f"that {took} datagrams find room", ROOM - 1_000 < took <= ROOM, True)
+    want(f"that the last onset is at the end, at {onsets[-1]}", onsets[-1] > FULL_BLOCKS * BLOCK - 100_000 - FRAME, True)
+
+
+def strokes_of(text):
+    """What is struck at each step of a pattern."""
+    rows = [line.split(" ") for line in text.splitlines()]
+    return [" ".join(voice for voice, marks in rows if marks[step] == "x") or "-" for step in range(16)]
 
 
 def rehearsal(drums):
     """The steps are those of the stored run, whatever the pattern; what is struck is the pattern's."""
     with open(os.path.join(HERE, "crates", "drum_machine", "stdin"), "rb") as text:
         stored = subprocess.run([drums], input=text.read(), capture_output=True, timeout=60)
-    other = subprocess.run([drums], input=pattern(REST, BEATS, SIXTEENTHS).encode(), capture_output=True, timeout=60)
-    want("the statuses", (stored.returncode, other.returncode), (0, 0))
+    want("its status", stored.returncode, 0)
     with open(os.path.join(HERE, "crates", "drum_machine", "stdout"), "rb") as text:
         want("what it tells", stored.stdout, text.read())
-    lines = [[re.sub(rb":.*", b"", line) for line in text.splitlines()] for text in (stored.stdout, other.stdout)]
-    want("the steps of another pattern", lines[1], lines[0])
-    struck = [line.split(b": ")[1] for line in other.stdout.splitlines() if line.startswith(b"bar ")]
-    want("what is struck", struck, [b"snare hat", b"hat", b"hat", b"hat"] * (len(struck) // 4))
-    want("that there are 64 steps", len(struck), 64)
+    # A kick alone, none, and rests in all three voices before the first strokes.
+    for text in (pattern(BEATS), pattern(REST, BEATS, SIXTEENTHS), pattern(OFFBEATS, "..x." * 4, "...x" * 4)):
+        other = subprocess.run([drums], input=text.encode(), capture_output=True, timeout=60)
+        want(f"the status of {text!r}", other.returncode, 0)
+        lines = [[re.sub(rb":.*", b"", line) for line in told.splitlines()] for told in (stored.stdout, other.stdout)]
+        want(f"the steps of {text!r}", lines[1], lines[0])
+        struck = [line.split(": ")[1] for line in other.stdout.decode().splitlines() if line.startswith("bar ")]
+        want(f"what is struck of {text!r}", struck, 4 * strokes_of(text))
+
+
+def want_fault(drums, words, status, told, name, **given):
+    """A run that ends with this status and tells this on standard error. It writes something only where the network failed."""
+    done = subprocess.run([drums, *words], capture_output=True, timeout=60, **given)
+    want(f"the status of {words} with {name}", done.returncode, status)
+    said = done.stderr.decode()
+    want(f"that {told!r} stands in what {words} tells with {name}: {said[-300:]!r}", told in said, True)
+    want(f"whether {words} wrote something with {name}", bool(done.stdout), status == 3)
 
 
 def faults(drums):
@@ -142,6 +341,8 @@ def faults(drums):
         ([], good + "\n", 8, "line 4 of the pattern"),
         ([], good[:-1], 8, "line 3 of the pattern"),
         ([], "", 8, "line 1 of the pattern"),
+        ([], good.ljust(4096, "#"), 8, "line 4 of the pattern"),
+        ([], good.ljust(4097, "#"), 8, "longer than 4096 bytes"),
         ([], good + "#" * 5000, 8, "longer than 4096 bytes"),
         (["50"], good, 2, "Usage: drum_machine"),
         (["0", *session_words[1:]], good, 2, "from 1 to 524288"),
@@ -150,29 +351,48 @@ def faults(drums):
         (["50", "3000001", "127.0.0.1:1"], good, 2, "from 60060 to 3000000"),
         (["50", "500000", "127.0.0.1"], good, 2, "Usage: drum_machine"),
         ([*session_words, "127.0.0.1:65536"], good, 2, "Usage: drum_machine"),
+        ([*session_words, *(at_port(port) for port in range(2, MOST_PEERS + 3))], good, 2, f"up to {MOST_PEERS} endpoints"),
         (["5", "500000", "203.0.113.1:9"], good, 3, "the network failed"),
     ]
     for words, text, status, told in cases:
-        done = subprocess.run([drums, *words], input=text.encode(), capture_output=True, timeout=60)
-        want(f"the status of {words} with {text[:60]!r}", done.returncode, status)
-        said = done.stderr.decode()
-        want(f"that {told!r} stands in what {words} tells with {text[:60]!r}: {said[-300:]!r}", told in said, True)
-        want(f"whether {words} wrote something with {text[:60]!r}", bool(done.stdout), status == 3)
+        want_fault(drums, words, status, told, repr(text[:60]), input=text.encode())
+    directory = os.open("/", os.O_RDONLY)
+    try:
+        for words in ([], session_words):
+            want_fault(drums, words, 5, "standard input could not be read; it has to be a pattern", "a directory", stdin=directory)
+    finally:
+        os.close(directory)
 
 
 def main():
     program, drums = (os.path.abspath(path) for path in sys.argv[1:3])
-    passed = failed = 0
-    for name, part in (("beside a live run", lambda: session(program, drums)), ("alone", lambda: alone(drums)), ("a rehearsal", lambda: rehearsal(drums)), ("faults", lambda: faults(drums))):
+    checks = [
+        ("beside a live run", session, program, drums),
+        ("beside a live run that stops", stop, program, drums),
+        ("alone", alone, drums),
+        ("a pattern that begins with a rest", rests_first, drums),
+        ("two drum machines", two_machines, drums),
+        ("as many destinations as there may be", most_peers, drums),
+        ("a full journal", full_journal, drums),
+        ("a rehearsal", rehearsal, drums),
+        ("faults", faults, drums),
+    ]
+    failed = 0
+    for name, check, *given in checks:
         try:
-            part()
-            passed += 1
-        except Differs as error:
+            check(*given)
+        except (Differs, LookupError, ValueError, OSError, subprocess.TimeoutExpired) as fault:
             failed += 1
-            print(f"{name}: {error}")
-    print(f"{passed} passed, {failed} failed")
+            print(f"{name}: {type(fault).__name__}: {fault}")
+    print(f"{len(checks) - failed} passed, {failed} failed")
     return 1 if failed else 0
 
 
 if __name__ == "__main__":
-    sys.exit(main())
+    try:
+        sys.exit(main())
+    finally:
+        for child in CHILDREN:
+            if child.poll() is None:
+                child.kill()
+                child.wait()

@@ -11,16 +11,20 @@ Then three runs beside each other, two of one group and one of another: the two 
 though all of them hear what the others broadcast.
 Further runs: one finds its gate's port taken, one has a destination that the system refuses, one a multicast group, one has no `at`
 command, one counts its accents in four microbeats, one is given another quantum by its audio thread and by its application, which its
-states show and its accents and a forced beat follow, and one has a command for a block past its last one.
+states show and its accents and a forced beat follow, one has a command for a block past its last one, one has all options at once and room
+for two events, one is idle, by the time of the processor that it used, and one has four gates, each of which answers pings and tells of
+itself from its own port.
 The last line is 'N passed, N failed'.
 """
 import os
+import resource
 import socket
 import struct
 import subprocess
 import sys
 import time
 from collections import Counter
+from contextlib import ExitStack
 
 sys.dont_write_bytecode = True
 import node  # noqa: E402
@@ -31,6 +35,10 @@ END = BLOCKS * BLOCK
 # By then both are in one session: they tell of themselves four times a second, and a measurement is 51 pings.
 TEMPO_AT, PLAY_IN = END // 2, 7 * BLOCKS // 10
 NEW_TEMPO, NEW_QUANTUM = 400_000, 3_000_000
+# Seconds until which a datagram has to come, wherever it is waited for.
+PATIENCE = 10
+# How long an idle run and one with four gates are, in microseconds.
+IDLE, GATES_END = 2_000_000, 3_000_000
 # Of three runs, for as many blocks. The third one's group has the two bytes of the others' in another order.
 GROUPS, GROUP_BLOCKS = (258, 258, 513), 200
 TOLD = "jorazhil: "
@@ -72,11 +80,12 @@ def script(port, peers, commands):
 class Run:
     """A live run, from its beginning on."""
 
-    def __init__(self, program, port, peers, commands, blocks=BLOCKS, quantum=4_000_000, group=None):
+    def __init__(self, program, port, peers, commands, blocks=BLOCKS, quantum=4_000_000, group=None, events=None):
         self.program, self.port, self.script, self.sent, self.states = program, port, script(port, peers, commands), [], []
         self.quantum, self.group = quantum, group or 0
         words, pipe = [program, "live", "--blocks", str(blocks), "--quantum", str(quantum), "--record"], subprocess.PIPE
         words += [] if group is None else ["--group", str(group)]
+        words += [] if events is None else ["--events", str(events)]
         self.before = time.time_ns()
         self.child = subprocess.Popen(words, stdin=pipe, stdout=pipe, stderr=pipe, text=True)
         self.child.stdin.write(self.script)
@@ -195,6 +204,25 @@ def free_ports(count):
     finally:
         for gate in held:
             gate.close()
+
+
+def listener():
+    """A socket at a port that the system picks."""
+    ear = socket.socket(socket.AF_INET, socket.SOCK_DGRAM)
+    ear.bind(("127.0.0.1", 0))
+    ear.settimeout(PATIENCE)
+    return ear
+
+
+def come(ear):
+    """All datagrams that have come to a socket, each with where it came from."""
+    found = []
+    ear.setblocking(False)
+    while True:
+        try:
+            found.append(ear.recvfrom(513))
+        except BlockingIOError:
+            return found
 
 
 def two_runs(program):
@@ -428,6 +456,65 @@ def late_block(program):
     run.expect_told(setup_told(run.port, "at most 10 blocks of 20 milliseconds (0.2 seconds)"))
 
 
+def all_options(program):
+    """All options at once, of which the last gives room for two events. That is too little, by the status, and none was passed over."""
+    run = Run(program, free_ports(1)[0], [], ["at 0 tempo 400000", "at 300000 look"], 5, 3_000_000, 7, 2)
+    run.end()
+    want("the status", run.status, 6)
+    run.expect_counts(events=2, reads=5, plays=5, captures=2, app=1, audio=0, clicks=0)
+    run.expect_head()
+    about = "at most 5 blocks of 20 milliseconds (0.1 seconds), room for 2 events, bars of 3 beats, group 7"
+    told = [line[len(TOLD) :] for line in run.error.splitlines()]
+    full = "the journal was full before the run ended, and what came then was not taken; `--events` gives it more room, up to 524288"
+    want("what is told", told, [f"live at 127.0.0.1:{run.port}; {about}", "the journal took 2 of 2 events", full])
+
+
+def processor_time():
+    """What all runs that have ended used of the processor, in microseconds."""
+    used = resource.getrusage(resource.RUSAGE_CHILDREN)
+    return round(1_000_000 * (used.ru_utime + used.ru_stime))
+
+
+def idle(program):
+    """A node without peers whose blocks play nothing: its three threads wait for nearly all of the time."""
+    before = processor_time()
+    short_run(program, [f"at {IDLE} look"], IDLE // BLOCK)
+    used = processor_time() - before
+    want(f"whether {used} microseconds of the processor are less than a tenth of {IDLE}", used < IDLE // 10, True)
+
+
+def four_gates(program):
+    """Each gate is heard by a listener of its own, and a further one asks all of them. What comes of a gate comes from its port."""
+    with ExitStack() as held:
+        *ears, asker = [held.enter_context(listener()) for _ in range(5)]
+        gates = free_ports(4)
+        names = [f"127.0.0.1:{gate}" for gate in gates]
+        to = [ear.getsockname()[1] for ear in ears]
+        more = [line for name, port in zip(names[1:], to[1:]) for line in (f"gate {name}", f"to 127.0.0.1:{port}")]
+        run = Run(program, gates[0], to[:1], [*more, f"at {GATES_END} look"], 0)
+        answers = []
+        try:
+            heard = [[ear.recvfrom(513)] for ear in ears]
+            for k, gate in enumerate(gates, 1):
+                asker.sendto(node.write_ping(k), ("127.0.0.1", gate))
+                answers.append(asker.recvfrom(513))
+        finally:
+            run.end()
+        for ear, datagrams in zip(ears, heard):
+            datagrams += come(ear)
+    want("the status", run.status, 0)
+    run.expect_told([f"live at {', '.join(names[:3])} and {names[3]}; no blocks, {ROOM}, bars of 4 beats"])
+    own = run.id_and_seed()[0].encode()
+    for k, (gate, name, datagrams, (pong, source)) in enumerate(zip(gates, names, heard, answers), 1):
+        want(f"where that comes from which {name} tells", {source for _, source in datagrams}, {("127.0.0.1", gate)})
+        states = [node.read_state(datagram[20:]) for datagram, _ in datagrams[:-1]]
+        want(f"where {name} tells that it answers", {state and state[3] for state in states}, {node.endpoint_of(name)})
+        want(f"the last that {name} tells", datagrams[-1][0], node.write_bye(0, own))
+        session, _, host, _ = node.read_pong(pong[9:]) or [None] * 4
+        want(f"what answers a ping at {name}", (source, pong[:9], session, host), (("127.0.0.1", gate), b"_link_v\x01\x02", own, k))
+    run.expect_replayed()
+
+
 def main(program):
     one, other = two_runs(program)
     three = three_runs(program)
@@ -445,12 +532,15 @@ def main(program):
         ("a run with a quantum of four microbeats", short_quantum, program),
         ("a run that is given other quanta", new_quanta, program),
         ("a run with a block command past its last block", late_block, program),
+        ("a run with all options", all_options, program),
+        ("an idle run", idle, program),
+        ("a run with four gates", four_gates, program),
     ]
     failed = 0
     for name, check, *given in checks:
         try:
             check(*given)
-        except (Differs, LookupError, ValueError) as fault:
+        except (Differs, LookupError, ValueError, OSError, subprocess.TimeoutExpired) as fault:
             failed += 1
             print(f"{name}: {type(fault).__name__}: {fault}")
     for run in (one, other, *three):
