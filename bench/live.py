@@ -14,7 +14,7 @@ table, draw = Table(), random.Random(1)
 BLOCK = 0.02
 # A run opens before its peers begin, and ends after them.
 BESIDE = 2
-MEDIAN, SHARE, FAILED_SHARE = 100, 0.01, 0.02
+MEDIAN, SHARE, FAILED_SHARE = 100, 0.006, 0.02
 PING = b"_link_v\x01\x01" + entry(b"__ht", eight(1))
 RESPONSE, PONG = b"_asdp_v\x01\x02", b"_link_v\x01\x02"
 
@@ -121,7 +121,7 @@ def minute(what, last, aim, port=None, options=(), status=0, **said):
         passed, used, peak = run([*words(last), *options], given, status=status, said=said)
     share = used / passed
     note(f"{what}: {passed:.2f} s, {used:.3f} s of the processor")
-    table.add(f"`live`, {what} of a minute: of the processor", f"{used:.2f} s, {100 * share:.2f} %", f"at most {aim:.0%} of one", share <= aim)
+    table.add(f"`live`, {what} of a minute: of the processor", f"{used:.2f} s, {100 * share:.2f} %", f"at most {aim:.1%} of one", share <= aim)
     return peak
 
 

@@ -46,24 +46,21 @@ for words, given in RUNS:
     most, (status, output) = growths_of(words, given)
     if most == 0 or status != 0:
         sys.exit(f"{words}: {most} growths were seen, and status {status}")
-    told, unmoved, unbound = 0, 0, 0
+    told, unmoved = 0, 0
     for number in range(1, most + 1):
         found, text = ended(words, given, REFUSE_GROWTH=str(number))
         if found == 9 and not text:
             told += 1
         elif found == status and (text == output or (name == "live" and text)):
             unmoved += 1
-        elif name == "live" and found == 3 and text:
-            unbound += 1
         else:
             wrong += 1
             note(f"{words}: with growth {number} of {most} refused: status {found}, {len(text)} bytes written")
     table.add(
-        f"`{name}`, each growth of its memory refused in turn: ended with status 9 and nothing written; as without; with a gate unbound",
-        f"{told}; {unmoved}; {unbound} of {most}",
-        "all, and one unbound at most",
-        told + unmoved + unbound == most and unbound <= 1,
+        f"`{name}`, each growth of its memory refused in turn: ended with status 9 and nothing written; as without",
+        f"{told}; {unmoved} of {most}",
+        "all",
+        told + unmoved == most,
     )
-    wrong += unbound > 1
 table.show()
 sys.exit(1 if wrong else 0)
