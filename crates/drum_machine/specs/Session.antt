@@ -18,7 +18,7 @@ use Rattle.link_live.specs.Headline.{IsRecorded, new_audio}
 use Rattle.link_live.specs.Report.{ReportValue}
 use Rattle.step_sequencer.specs.Sound.{silent}
 use Rattle.step_sequencer.specs.declared.pattern.Pattern.{Pattern}
-use Rattle.drum_machine.specs.Ends.{Counts, HasPlayCause}
+use Rattle.drum_machine.specs.Ends.{Counts, HasPlayCause, counted}
 use Rattle.drum_machine.specs.Player.{BeginsAt, HasStarted, start_from}
 use Rattle.drum_machine.specs.Statuses.{ended_as}
 use Rattle.drum_machine.specs.Written.{AreWrittenByReads}
@@ -49,6 +49,18 @@ pub record DevicesSeen : Type 0 where
   pub gates : List Endpoint
   pub sound : Option (List ℕ)
   pub midi : Option (List ℕ)
+
+abbrev pub devices_seen : {P A W M : Type 0} → (P → ℕ) → (P → Option PortContents) → (P → List Endpoint) → (A → ℕ) → (A → Option AudioContents)
+    → (W → ℕ) → (W → Option (List ℕ)) → (M → ℕ) → (M → Option (List ℕ)) → P → A → W → M → DevicesSeen
+devices_seen port_faults port gates audio_faults audio sound_faults sound midi_faults midi p a w m = record {
+  counts = counted (audio_faults a) (sound_faults w) (midi_faults m);
+  port_faults = port_faults p;
+  audio = audio a;
+  port = port p;
+  gates = gates p;
+  sound = sound w;
+  midi = midi m;
+}
 
 -- what is told of a node that was opened so, whatever was played
 abbrev pub recorded_of : ConfigValue → ℤ → List EventValue → List State → ReportValue

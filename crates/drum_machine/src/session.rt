@@ -4,8 +4,7 @@ ghost use Rattle.std.specs.Prelude.{◌≡◌, ◌≤◌, Bool, false};
 ghost use Rattle.lk_base.specs.Ranges.{IsMoment};
 ghost use Rattle.link_node.specs.Config.{config_value, gate_value, IsConfig};
 ghost use Rattle.step_sequencer.specs.Sound.{silent};
-ghost use Rattle.drum_machine.specs.Ends.{counted};
-ghost use Rattle.drum_machine.specs.Session.{EndsSession, HasSession, config_from};
+ghost use Rattle.drum_machine.specs.Session.{EndsSession, HasSession, config_from, devices_seen};
 ghost use Rattle.drum_machine.specs.Statuses.{ended_as};
 ghost use Rattle.drum_machine.specs.declared.player.PlayEnd.{PlayEnd as AnyEnd};
 
@@ -66,24 +65,10 @@ pub fn play_session<
     devices: &mut Devices<P, A, W, M>,
 ) -> Status
     ensures ends { EndsSession setup.blocks pattern (config_from devices.old.seed setup.mpb (gate_value setup.gate)) devices.old.opened_at
-        (record {
-          counts = counted (A.faults devices.old.audio) (W.faults devices.old.sound) (M.faults devices.old.midi);
-          port_faults = P.faults devices.old.port;
-          audio = A.contents devices.old.audio;
-          port = P.contents devices.old.port;
-          gates = P.bound devices.old.port;
-          sound = W.written devices.old.sound;
-          midi = M.written devices.old.midi;
-        })
-        (record {
-          counts = counted (A.faults devices.new.audio) (W.faults devices.new.sound) (M.faults devices.new.midi);
-          port_faults = P.faults devices.new.port;
-          audio = A.contents devices.new.audio;
-          port = P.contents devices.new.port;
-          gates = P.bound devices.new.port;
-          sound = W.written devices.new.sound;
-          midi = M.written devices.new.midi;
-        }) result }
+        (devices_seen P.faults P.contents P.bound A.faults A.contents W.faults W.written M.faults M.written
+        devices.old.port devices.old.audio devices.old.sound devices.old.midi)
+        (devices_seen P.faults P.contents P.bound A.faults A.contents W.faults W.written M.faults M.written
+        devices.new.port devices.new.audio devices.new.sound devices.new.midi) result }
 {
     let blocks = setup.blocks;
     let config = config_of(setup, devices.seed);
@@ -143,24 +128,10 @@ fn play_parts<
     requires few { blocks ≤ 524_288 }
     ensures ends { (end : AnyEnd) × (failed : Bool) × (full : Bool) × (result ≡ ended_as end failed full)
         × HasSession blocks drums.pattern parts.config parts.opened_at
-        (record {
-          counts = counted (A.faults devices.old.audio) (W.faults devices.old.sound) (M.faults devices.old.midi);
-          port_faults = P.faults devices.old.port;
-          audio = A.contents devices.old.audio;
-          port = P.contents devices.old.port;
-          gates = P.bound devices.old.port;
-          sound = W.written devices.old.sound;
-          midi = M.written devices.old.midi;
-        })
-        (record {
-          counts = counted (A.faults devices.new.audio) (W.faults devices.new.sound) (M.faults devices.new.midi);
-          port_faults = P.faults devices.new.port;
-          audio = A.contents devices.new.audio;
-          port = P.contents devices.new.port;
-          gates = P.bound devices.new.port;
-          sound = W.written devices.new.sound;
-          midi = M.written devices.new.midi;
-        }) end failed full }
+        (devices_seen P.faults P.contents P.bound A.faults A.contents W.faults W.written M.faults M.written
+        devices.old.port devices.old.audio devices.old.sound devices.old.midi)
+        (devices_seen P.faults P.contents P.bound A.faults A.contents W.faults W.written M.faults M.written
+        devices.new.port devices.new.audio devices.new.sound devices.new.midi) end failed full }
 {
     // Laws, for the proof.
     run_laws();
