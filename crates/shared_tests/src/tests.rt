@@ -7,7 +7,7 @@ use arrayvec::ArrayVec;
 use audio_handoff::{SeqState, StateCell};
 use bench::Bench;
 use client_state::{Commit, State};
-use full_queue::fill_queue;
+use full_queue::{COMMITS, fill_queue, push_many};
 use link_node::{Config, GateSetup, Sends};
 use link_shared::{Ended, LinkName, Parts};
 use lk_base::{ClientStart, Endpoint, NodeId, Timeline};
@@ -154,6 +154,7 @@ fn shown_with(state: &State, time: u16) -> State {
 #[derive(Clone, Copy)]
 enum Trial<'a> {
     Queue,
+    Many,
     Run(&'a str),
 }
 
@@ -184,6 +185,7 @@ fn try_bench<C: StateCell<11>, N: LinkName, R: Wait + Abort>(
 ) {
     match trial {
         Trial::Queue => fill_queue(rt, alloc, way, &mut bench),
+        Trial::Many => push_many(rt, alloc, way, &mut bench),
         Trial::Run(run) => {
             play_run(rt, alloc, way, &mut bench, run);
             end_run(rt, way, bench, run);
@@ -191,7 +193,7 @@ fn try_bench<C: StateCell<11>, N: LinkName, R: Wait + Abort>(
     }
 }
 
-/// A journal of 300 events for the queue, and of what a run says for it.
+/// A journal of 300 events for the queue, of one for each of the many commits, and of what a run says for it.
 fn try_new_link<C: StateCell<11>, R: Wait + Abort>(
     rt: &R,
     alloc: Global,
@@ -200,6 +202,7 @@ fn try_new_link<C: StateCell<11>, R: Wait + Abort>(
 ) -> Result<(), AllocError> {
     let events = match trial {
         Trial::Queue => 300,
+        Trial::Many => COMMITS,
         Trial::Run(run) => events_of(run),
     };
     let sends = Sends::new(alloc)?;
@@ -253,6 +256,12 @@ where
 #[test]
 fn a_full_queue_hands_the_commit_back_until_a_turn_takes_one(rt: HostRuntime) -> Result<(), Fail> {
     try_both_cells(&rt, rt.alloc(), Trial::Queue)?;
+    Ok(())
+}
+
+#[test]
+fn seventy_thousand_commits_are_numbered_and_taken(rt: HostRuntime) -> Result<(), Fail> {
+    try_new_link::<Triple<11>, HostRuntime>(&rt, rt.alloc(), &(), Trial::Many)?;
     Ok(())
 }
 

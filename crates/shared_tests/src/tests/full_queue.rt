@@ -1,4 +1,4 @@
-//! A full queue.
+//! A full queue, and more commits than 16 bits count.
 
 use super::bench::{Bench, Network};
 use super::{edit, opening_state, shown_with, start_at, state_of};
@@ -8,6 +8,9 @@ use link_shared::{AppPass, Busy, Capture, Got, Link, LinkName, QueueFull, Turned
 use std::alloc::Global;
 use std::process::Abort;
 use std::sync::Wait;
+
+/// How many commits are pushed where a turn takes each.
+pub const COMMITS: u64 = 70_000;
 
 const TAKEN: Turned = Turned {
     quit: false,
@@ -60,12 +63,12 @@ fn expect_capture<C: StateCell<11>, N: LinkName, R: Wait + Abort>(
     way: &C::Way,
     link: &Link<C, N>,
     pass: &mut AppPass<C, N>,
-    taken: u16,
+    taken: u64,
     state: &State,
     shown: &State,
 ) {
     let wanted = Capture {
-        number: u64::from(taken),
+        number: taken,
         state: *state,
         shown: *shown,
     };
@@ -89,9 +92,9 @@ fn expect_commit<C: StateCell<11>, N: LinkName, R: Wait + Abort>(
     link: &Link<C, N>,
     pass: &mut AppPass<C, N>,
     time: u16,
-    number: u16,
+    number: u64,
 ) {
-    assert_eq!(rt; link.commit(rt, pass, edit(time)), Ok(u64::from(number)));
+    assert_eq!(rt; link.commit(rt, pass, edit(time)), Ok(number));
 }
 
 fn push_all<C: StateCell<11>, N: LinkName, R: Wait + Abort>(
@@ -100,7 +103,7 @@ fn push_all<C: StateCell<11>, N: LinkName, R: Wait + Abort>(
     pass: &mut AppPass<C, N>,
 ) {
     for number in 1..257u16 {
-        expect_commit(rt, link, pass, number, number);
+        expect_commit(rt, link, pass, number, u64::from(number));
     }
     let busy = Err(Busy { commit: edit(300) });
     assert_eq!(rt; link.commit(rt, pass, edit(300)), busy);
@@ -125,10 +128,31 @@ fn take_all<C: StateCell<11>, N: LinkName, R: Wait + Abort>(
             way,
             link,
             pass,
-            taken,
+            u64::from(taken),
             &state,
             &shown_with(&state, 301),
         );
         expect_taken(rt, way, link, network);
     }
+}
+
+/// That many commits are pushed, and a turn takes each before the next one. The last state has taken all.
+pub fn push_many<C: StateCell<11>, N: LinkName, R: Wait + Abort>(
+    rt: &R,
+    alloc: Global,
+    way: &C::Way,
+    bench: &mut Bench<C, N>,
+) {
+    let Bench {
+        link,
+        network,
+        first,
+        ..
+    } = bench;
+    for taken in 0..COMMITS {
+        expect_commit(rt, link, first, 1, taken + 1);
+        expect_taken(rt, way, link, network);
+    }
+    let last = state_of(COMMITS, 0, start_at(1), 1);
+    expect_capture(rt, alloc, way, link, first, COMMITS, &last, &last);
 }

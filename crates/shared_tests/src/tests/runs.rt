@@ -16,16 +16,16 @@ use std::sync::Wait;
 /// steps are at the opening moment.
 ///
 /// a, b: a commit by the first or the second application's pass, and its number. c: one of the audio thread, and its number.
-/// q: a quit. n, d, t: a turn with nothing, with a datagram that means nothing, or with a tick. Its answer is what it took: X
-/// or Y for a commit by a pass and which of its commits, U for one of the audio thread, R for the datagram, T for the tick;
-/// then Q for a quit, F where something found no room, and behind > how many datagrams it sends; - for nothing at all.
+/// q: a quit. n, d, t, e: a turn with nothing, with a datagram that means nothing, with a tick, or with the end. Its answer is what it
+/// took: X or Y for a commit by a pass and which of its commits, U for one of the audio thread, R for the datagram, T for the tick, E
+/// for the end; then Q for a quit, F where something found no room, and behind > how many datagrams it sends; - for nothing at all.
 ///
 /// k, l, m: a capture by the first or the second pass or by the audio thread, the state's number, how many commits of
 /// applications it has taken, the number of the last audio commit taken, the commit that its quantum is of, as in a turn's
 /// answer, or O0 for the opening, and which own commit is shown over it. The third commit of a thread is of a quantum alone.
 ///
-/// z, y, x: the last turn, with both passes handed in, with none, or with the first alone; what it took, as a turn and with E for
-/// the end, and behind = how many states were published.
+/// z, y, x: the last turn, with both passes handed in, with none, or with the first alone; what it took, as a turn, and behind = how
+/// many states were published.
 pub const RUNS: &[&str] = &[
     "9k000O0.l000O0.m000O0.zE>1=1",
     "9a1k000O01zX1E>1=2",
@@ -76,6 +76,12 @@ pub const RUNS: &[&str] = &[
     "9b1xY1E>1=2",
     "9a1b2xX1Y1E>1=3",
     "9a1b2b3nX1nY1xY2E>1=4",
+    "9a1c1eX1U1E>1m211U1.eE>1zE>1=3",
+    "9a1b2eX1E>1eY1E>1tT>1zE>1=3",
+    "9q.eEQ>1n-zE>1=1",
+    "9a1q.c1eX1U1E>1eEQ>1zE>1=3",
+    "2a1c1q.eX1U1FeQFk211U1.zF=3",
+    "3a1b2c1q.eX1U1E>1eFnQl211U11zF=3",
 ];
 
 /// An answer.
@@ -310,6 +316,7 @@ fn take_step<C: StateCell<11>, N: LinkName, R: Wait>(
         b'q' => quit(rt, link),
         b'n' => turn(rt, link, way, network, Got::Nothing),
         b'd' => turn(rt, link, way, network, datagram()),
+        b'e' => turn(rt, link, way, network, Got::End),
         _ => turn(rt, link, way, network, Got::Tick),
     }
 }
@@ -332,7 +339,7 @@ pub fn play_run<C: StateCell<11>, N: LinkName, R: Wait + Abort>(
     put_digit(&mut answer, events_of(run));
     let mut at = 0u64;
     for byte in steps.bytes() {
-        if b"abcqndtklm".contains(&byte) {
+        if b"abcqndteklm".contains(&byte) {
             expect_answer(rt, &answer, at, None, run);
             answer = take_step(rt, alloc, way, bench, &mut lasts, byte);
             at = 0;
