@@ -5,11 +5,12 @@ PROGRAM is jorazhil's own, and DRUMS the drum machine's. The live run's clicks a
 starts to play, and changes its tempo twice between two beats. The drum machine has a stroke on each beat; the onsets in its WAV are found
 by their level alone. The two clocks begin apart, by how much nobody knows: so the onsets have to be where the clicks are, but for one
 distance that all of them share, to within a millisecond; and each click that falls into the WAV has its onset. Its MIDI clock comes 24
-times a beat of the last tempo. Beside a second live run, which stops, the onsets end with the clicks. Then a pattern of sixteenths, whose
-onsets are quarters of a beat apart, from the front of the WAV on, each with a MIDI clock, which tells its host time; one that begins with a
-rest; and the WAV's header. Two drum machines beside each other: what a listener hears of them, each with an id of its own, up to their
-goodbyes. As many destinations as there may be. A journal that is full before the end. A rehearsal by other patterns, which has the stored
-one's steps; and patterns and words at fault, with their statuses and texts.
+times a beat of the last tempo. Beside a second live run, which stops, the onsets end with the clicks, and a third one, which comes later,
+is started by it. Then a pattern of sixteenths, whose onsets are quarters of a beat apart, from the front of the WAV on, each with a MIDI
+clock, which tells its host time; one that begins with a rest; and the WAV's header. Two drum machines beside each other: what a listener
+hears of them, each with an id of its own, up to their goodbyes; and two that begin within a second. As many destinations as there may be,
+and one that the system refuses. When the first block begins, and when the run ends. A journal that is full before the end. A rehearsal by
+other patterns, which has the stored one's steps; patterns and words at fault, with their statuses and whole texts; and the script `drums`.
 The last line is 'N passed, N failed'.
 """
 import os
@@ -24,7 +25,7 @@ from contextlib import ExitStack
 
 sys.dont_write_bytecode = True
 import node  # noqa: E402
-from live import Differs, come, free_ports, listener, want  # noqa: E402
+from live import Differs, come, free_ports, listener, reason_to_refuse, want  # noqa: E402
 
 HERE = os.path.dirname(os.path.dirname(os.path.abspath(__file__)))
 RATE, FRAMES, BLOCK = 48_000, 960, 20_000
@@ -35,6 +36,8 @@ PLAY_AT, CHANGES, END = 2_000_000, ((4_600_000, 400_000), (7_100_000, 600_000)),
 BLOCKS = 500
 # The live run that stops.
 STOP_AT, STOP_END, STOP_BLOCKS = 4_600_000, 7_600_000, 350
+# The live run that the drum machine starts ends before that does.
+PEER_END, PEER_BLOCKS = 4_000_000, 300
 # A millisecond, in microseconds.
 NEAR = 1_000
 # A frame, with what is lost where times are rounded, in microseconds.
@@ -43,6 +46,18 @@ FRAME = 22
 MOST_PEERS, ROOM = 32, 262_144
 # For how many blocks a journal is filled, and how many datagrams are on their way at once: a socket has room for twice as many.
 FULL_BLOCKS, FLOOD = 500, 128
+SET_UP = "room for 262144 events, bars of 4 beats"
+USAGE = """\
+drum_machine: these words are none that it takes
+
+Usage: drum_machine < PATTERN                                        four bars in memory, told step by step
+       drum_machine <BLOCKS> <TEMPO> <LOCAL> [TO].. < PATTERN > WAV  beside peers on the network
+
+  <BLOCKS>  how many blocks of 20 milliseconds are played, from 1 to 524288
+  <TEMPO>   the tempo to begin with, in microseconds per beat, from 60060 to 3000000; 500000 is 120 beats a minute
+  <LOCAL>   where peers reach it: an address of this machine and a free port, as 127.0.0.1:18001
+  [TO]..    up to 32 endpoints of peers, to which it tells of itself
+"""
 PING, PONG = b"_link_v\x01\x01", b"_link_v\x01\x02"
 
 # Every process that was started beside another one.
@@ -155,6 +170,24 @@ def stop(program, drums):
     want("that the sound goes on for a second and a half", STOP_BLOCKS * BLOCK - apart > STOP_AT + 1_500_000, True)
     want("the last MIDI message that is no clock", [digits for _, digits in messages if digits != "f8"][-1:], ["fc"])
     want("that clocks go on", clocks_in(messages)[-1] > STOP_BLOCKS * BLOCK - 50_000, True)
+
+
+def starts_a_peer(program, drums):
+    """A live run that joins the drum machine a second later, and doesn't play by itself, is started by it: it clicks where that strikes."""
+    here, there = free_ports(2)
+    script = f"link 1\nsetup 400000 1\ngate {at_port(here)}\nto {at_port(there)}\nat {PEER_END} look\n"
+    with tempfile.TemporaryFile() as sound:
+        played = started([drums, str(PEER_BLOCKS), "500000", at_port(there), at_port(here)], pattern(BEATS), stdout=sound, stderr=subprocess.DEVNULL)
+        time.sleep(1)
+        live = subprocess.run([program, "live", "--blocks", str(PEER_END // BLOCK)], input=script.encode(), capture_output=True, timeout=60)
+        want("the live run's status", live.returncode, 0)
+        want("the drum machine's status", played.wait(timeout=60), 0)
+        sound.seek(0)
+        onsets = onsets_in(samples_of(sound.read(), PEER_BLOCKS))
+    clicks = [int(at) for at in re.findall(rb"^click (\d+) ", live.stderr, re.M)]
+    want("that there are clicks", len(clicks) > 4, True)
+    apart = best_distance(clicks, onsets)
+    want("the clicks that have no onset within a millisecond", [at for at in clicks if not any(abs(at + apart - onset) <= NEAR for onset in onsets)], [])
 
 
 def alone(drums):
@@ -322,46 +355,138 @@ def rehearsal(drums):
 
 
 def want_fault(drums, words, status, told, name, **given):
-    """A run that ends with this status and tells this on standard error. It writes something only where the network failed."""
-    done = subprocess.run([drums, *words], capture_output=True, timeout=60, **given)
+    """A run that ends with this status and tells just this on standard error, beside MIDI. It writes something where the network failed."""
+    done = subprocess.run([drums, *words], stderr=subprocess.PIPE, timeout=60, **given)
     want(f"the status of {words} with {name}", done.returncode, status)
-    said = done.stderr.decode()
-    want(f"that {told!r} stands in what {words} tells with {name}: {said[-300:]!r}", told in said, True)
-    want(f"whether {words} wrote something with {name}", bool(done.stdout), status == 3)
+    said = [line for line in done.stderr.decode().splitlines() if not line.startswith("midi ")]
+    want(f"what {words} tells with {name}", said, told.splitlines())
+    if done.stdout is not None:
+        want(f"whether {words} wrote something with {name}", bool(done.stdout), status == 3)
+
+
+def fault(text):
+    return f"drum_machine: {text}\n"
+
+
+def line_fault(number, voice, marks):
+    wanted = f'"{voice}", a space, 16 marks, each x or a dot, and a line feed, as in "{voice} {marks}"'
+    return fault(f"line {number} of the pattern is at fault: it has to be {wanted}")
+
+
+def about(port, blocks, seconds):
+    return fault(f"session at 127.0.0.1:{port}; at most {blocks} blocks of 20 milliseconds ({seconds} seconds), {SET_UP}")
 
 
 def faults(drums):
-    good = pattern(BEATS)
+    good, (port,) = pattern(BEATS), free_ports(1)
     session_words = ["50", "500000", "127.0.0.1:1"]
+    kick, snare, hat = (line_fault(*line) for line in ((1, "kick", BEATS), (2, "snare", "....x.......x..."), (3, "hat", "x." * 8)))
+    behind = fault("line 4 of the pattern is at fault: it has three lines, and nothing behind them")
+    too_long = fault("the pattern is longer than 4096 bytes; it has to be three lines, as in examples/drums/four.pattern")
+    no_gate = "the gate 203.0.113.1:9 could not be bound: Cannot assign requested address (os error 99); the run goes on without the network"
+    alone_then = f"session without the network; at most 5 blocks of 20 milliseconds (0.1 seconds), {SET_UP}"
+    network = "the network failed: the address has to be this machine's and its port free; what was left was played without peers"
+    unwritten = fault("the output could not be written; what was written is the front of it")
     cases = [
-        ([], good.replace("kick", "Kick"), 8, 'line 1 of the pattern is at fault: it has to be "kick"'),
-        ([], pattern(BEATS + "."), 8, "line 1 of the pattern"),
-        ([], pattern(BEATS, "x" * 15), 8, "line 2 of the pattern"),
-        ([], pattern(BEATS, REST, "X" + REST[1:]), 8, "line 3 of the pattern"),
-        ([], good + "\n", 8, "line 4 of the pattern"),
-        ([], good[:-1], 8, "line 3 of the pattern"),
-        ([], "", 8, "line 1 of the pattern"),
-        ([], good.ljust(4096, "#"), 8, "line 4 of the pattern"),
-        ([], good.ljust(4097, "#"), 8, "longer than 4096 bytes"),
-        ([], good + "#" * 5000, 8, "longer than 4096 bytes"),
-        (["50"], good, 2, "Usage: drum_machine"),
-        (["0", *session_words[1:]], good, 2, "from 1 to 524288"),
-        (["524289", *session_words[1:]], good, 2, "from 1 to 524288"),
-        (["50", "60059", "127.0.0.1:1"], good, 2, "from 60060 to 3000000"),
-        (["50", "3000001", "127.0.0.1:1"], good, 2, "from 60060 to 3000000"),
-        (["50", "500000", "127.0.0.1"], good, 2, "Usage: drum_machine"),
-        ([*session_words, "127.0.0.1:65536"], good, 2, "Usage: drum_machine"),
-        ([*session_words, *(at_port(port) for port in range(2, MOST_PEERS + 3))], good, 2, f"up to {MOST_PEERS} endpoints"),
-        (["5", "500000", "203.0.113.1:9"], good, 3, "the network failed"),
+        ([], good.replace("kick", "Kick"), 8, kick),
+        ([], pattern(BEATS + "."), 8, kick),
+        ([], pattern(BEATS, "x" * 15), 8, snare),
+        ([], pattern(BEATS, REST, "X" + REST[1:]), 8, hat),
+        ([], good + "\n", 8, behind),
+        ([], good[:-1], 8, hat),
+        ([], "", 8, kick),
+        ([], good.ljust(4096, "#"), 8, behind),
+        ([], good.ljust(4097, "#"), 8, too_long),
+        ([], good + "#" * 5000, 8, too_long),
+        (["50"], good, 2, USAGE),
+        (["50"], "", 2, USAGE),
+        ([b"\xff"], good, 2, USAGE),
+        (["0", *session_words[1:]], good, 2, USAGE),
+        (["524289", *session_words[1:]], good, 2, USAGE),
+        (["50", "60059", "127.0.0.1:1"], good, 2, USAGE),
+        (["50", "3000001", "127.0.0.1:1"], good, 2, USAGE),
+        (["50", "500000", "127.0.0.1"], good, 2, USAGE),
+        ([*session_words, "127.0.0.1:65536"], good, 2, USAGE),
+        ([*session_words, *(at_port(port) for port in range(2, MOST_PEERS + 3))], good, 2, USAGE),
+        (["5", "500000", "203.0.113.1:9"], good, 3, fault(no_gate) + fault(alone_then) + fault(network)),
     ]
     for words, text, status, told in cases:
-        want_fault(drums, words, status, told, repr(text[:60]), input=text.encode())
+        want_fault(drums, words, status, told, repr(text[:60]), input=text.encode(), stdout=subprocess.PIPE)
+    unread = fault("standard input could not be read; it has to be a pattern, as examples/drums/four.pattern")
     directory = os.open("/", os.O_RDONLY)
     try:
         for words in ([], session_words):
-            want_fault(drums, words, 5, "standard input could not be read; it has to be a pattern", "a directory", stdin=directory)
+            want_fault(drums, words, 5, unread, "a directory", stdin=directory, stdout=subprocess.PIPE)
     finally:
         os.close(directory)
+    with open("/dev/full", "wb") as full:
+        want_fault(drums, [], 7, unwritten, "a full device", input=good.encode(), stdout=full)
+        want_fault(drums, ["5", "500000", at_port(port)], 7, about(port, 5, "0.1") + unwritten, "a full device", input=good.encode(), stdout=full)
+
+
+def refused(drums):
+    """What is told of a run's set-up, and at its end of what the system refused to send: a broadcast, for which no option is set."""
+    (port,) = free_ports(1)
+    done = subprocess.run([drums, "10", "500000", at_port(port), "255.255.255.255:20808"], input=pattern(BEATS).encode(), capture_output=True, timeout=60)
+    want("its status", done.returncode, 0)
+    said = "".join(line + "\n" for line in done.stderr.decode().splitlines() if not line.startswith("midi "))
+    told = fault(f"the system refused N datagrams to 255.255.255.255:20808, the last for: {reason_to_refuse()}")
+    want("what it tells", re.sub(r"refused [1-9]\d* datagrams", "refused N datagrams", said), about(port, 10, "0.2") + told)
+
+
+def two_at_once(drums):
+    """Two that begin within one second have ids of their own."""
+    with listener() as ear:
+        ports, own = free_ports(2), at_port(ear.getsockname()[1])
+        streams = {"stdout": subprocess.DEVNULL, "stderr": subprocess.DEVNULL}
+        time.sleep(1 - time.time() % 1)
+        children = [started([drums, "5", "500000", at_port(port), own], pattern(BEATS), **streams) for port in ports]
+        want("their statuses", [child.wait(timeout=60) for child in children], [0, 0])
+        heard = come(ear)
+    want("how many ids they have", len({alives_of(port, heard)[0][0] for port in ports}), 2)
+
+
+def late_pattern(drums):
+    """The first block begins when the pattern has been read, however late that is: a second of blocks takes a second from then on."""
+    (port,) = free_ports(1)
+    streams = {"stdin": subprocess.PIPE, "stdout": subprocess.DEVNULL, "stderr": subprocess.DEVNULL}
+    with subprocess.Popen([drums, "50", "500000", at_port(port)], **streams) as child:
+        CHILDREN.append(child)
+        time.sleep(0.5)
+        before = time.monotonic()
+        child.stdin.write(pattern(BEATS).encode())
+        child.stdin.close()
+        want("its status", child.wait(timeout=60), 0)
+        took = time.monotonic() - before
+    want(f"that it takes a second behind its pattern, where it took {took}", took >= 0.95, True)
+
+
+def last_block(drums):
+    """A run ends when its last block has been played, 20 milliseconds behind the call that writes it: of three runs one isn't held up."""
+    waited = []
+    for _ in range(3):
+        (port,) = free_ports(1)
+        child = started([drums, "50", "500000", at_port(port)], pattern(BEATS), stdout=subprocess.PIPE, stderr=subprocess.DEVNULL)
+        size = len(child.stdout.read(44 + 2 * FRAMES * 50))
+        before = time.monotonic()
+        want("its status, and how much it writes", (child.wait(timeout=60), size), (0, 44 + 2 * FRAMES * 50))
+        waited.append(time.monotonic() - before)
+        child.stdout.close()
+    want(f"that a run waits for the end of its last block, of these seconds: {waited}", max(waited) >= 0.015, True)
+
+
+def by_script(drums):
+    """The script `drums` runs the built program with its words. Without rt on the PATH it builds nothing."""
+    if not os.path.exists(drums + ".sources"):
+        print("note: of which sources the program was built isn't noted beside it, so the script isn't looked at")
+        return
+    given = {"capture_output": True, "timeout": 60, "env": {**os.environ, "PATH": "/usr/bin:/bin"}}
+    script, crate = os.path.join(HERE, "drums"), os.path.join(HERE, "crates", "drum_machine")
+    with open(os.path.join(crate, "stdin"), "rb") as text, open(os.path.join(crate, "stdout"), "rb") as wanted:
+        done = subprocess.run([script], input=text.read(), **given)
+        want("status and output without words", (done.returncode, done.stdout), (0, wanted.read()))
+    done = subprocess.run([script, "50"], input=pattern(BEATS).encode(), **given)
+    want("status and text with a word", (done.returncode, done.stderr.decode()), (2, USAGE))
 
 
 def main():
@@ -369,13 +494,19 @@ def main():
     checks = [
         ("beside a live run", session, program, drums),
         ("beside a live run that stops", stop, program, drums),
+        ("a live run that it starts", starts_a_peer, program, drums),
         ("alone", alone, drums),
         ("a pattern that begins with a rest", rests_first, drums),
         ("two drum machines", two_machines, drums),
         ("as many destinations as there may be", most_peers, drums),
+        ("two that begin at once", two_at_once, drums),
+        ("a pattern that comes late", late_pattern, drums),
+        ("the end of the last block", last_block, drums),
+        ("what the system refuses", refused, drums),
         ("a full journal", full_journal, drums),
         ("a rehearsal", rehearsal, drums),
         ("faults", faults, drums),
+        ("the script", by_script, drums),
     ]
     failed = 0
     for name, check, *given in checks:

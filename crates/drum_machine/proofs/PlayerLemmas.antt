@@ -1,5 +1,5 @@
 -- What a pass has played goes on with a block, whose MIDI events are messages that have bytes, and begins with a start.
-use Rattle.std.proofs.Common.{◌≡◌, ℕ, ◌+◌, ◌≤◌, ℤ, Bool, true, false, if◌then◌else◌, List, [], ◌∷◌, ◌++◌, length, All, Option, ap, sym, subst, ◌∙◌, append_assoc, append-nil, length-append, arith, to_z, of_z, w64}
+use Rattle.std.proofs.Common.{◌≡◌, ℕ, ◌+◌, ◌≤◌, ℤ, Bool, true, false, if◌then◌else◌, List, [], ◌∷◌, ◌++◌, length, All, Option, Some, None, refl, ap, sym, subst, ◌∙◌, append_assoc, append-nil, length-append, arith, to_z, of_z, w64}
 use Rattle.std.proofs.lemmas.Int.{to_z-of_z}
 use Rattle.std.proofs.lemmas.List.Elements.{All-same}
 use Rattle.audio_handoff.specs.Cell.{NumbersNeverFall, Pair}
@@ -9,7 +9,9 @@ use Rattle.client_state.specs.Words.{state_of_words}
 use Rattle.client_state.specs.declared.commit.Commit.{Commit}
 use Rattle.client_state.specs.declared.state.State.{State}
 use Rattle.lk_base.specs.Ranges.{IsMoment}
-use Rattle.lk_outside.specs.Audio.{AudioContents}
+use Rattle.lk_base.specs.declared.block.Block.{Block}
+use Rattle.lk_outside.specs.Audio.{AudioContents, GivesBlock}
+use Rattle.lk_outside.specs.Contents.{BothTell}
 use Rattle.link_live.proofs.AskLemmas.{moment_fits}
 use Rattle.link_midi.specs.Events.{Part, all_events_of, events_from, span}
 use Rattle.link_midi.specs.Messages.{IsMessage}
@@ -17,7 +19,7 @@ use Rattle.link_midi.specs.declared.message.MidiEvent.{MidiEvent}
 use Rattle.link_shared.specs.Audio.{AudioView, HasReadAudio, after_making, last_of}
 use Rattle.drum_machine.specs.Callback.{changed_by}
 use Rattle.drum_machine.specs.declared.callback.Change.TheVariants as change
-use Rattle.drum_machine.specs.Player.{BeginsAt, HasPlayed, HasStarted, start_from, starts_over}
+use Rattle.drum_machine.specs.Player.{BeginsAt, HasAsked, HasGiven, HasPlayed, HasStarted, start_from, starts_over}
 use Rattle.drum_machine.specs.Written.{shown_of}
 
 at_most_one : (made : List Commit) → length made ≤ length made + 1
@@ -136,6 +138,41 @@ begun_on audio origin origin_then before pass after same stays more begun =
       };
     } in
     subst (λ (n : ℤ). IsBegun audio n before after) (sym same) on
+
+-- ---- the blocks that are asked for
+
+first_given : (block : Block) (before after : AudioContents) → GivesBlock block before after → HasGiven 1 before after
+first_given block before after gives = record { blocks = block ∷ []; given = gives.given; count_is = refl; plays = gives.plays }
+
+pub asked_first : (block : Block) (before after : Option AudioContents) → BothTell (GivesBlock block) before after → HasAsked 1 before after
+asked_first block None None gives = tt
+asked_first block None (Some after) gives = absurd gives
+asked_first block (Some before) None gives = absurd gives
+asked_first block (Some before) (Some after) gives = first_given block before after gives
+
+next_given : (n : ℕ) (block : Block) (first before after : AudioContents) → HasGiven n first before → GivesBlock block before after → HasGiven (n + 1) first after
+next_given n block first before after past gives = record {
+  blocks = past.blocks ++ block ∷ [];
+  given = gives.given ∙ ap (λ (l : List Block). l ++ block ∷ []) past.given ∙ append_assoc first.given past.blocks (block ∷ []);
+  count_is = omega (arith, length-append past.blocks (block ∷ []), past.count_is);
+  plays = gives.plays ∙ past.plays;
+}
+
+-- one more
+pub asked_next : (n : ℕ) (block : Block) (first before after : Option AudioContents) → HasAsked n first before → BothTell (GivesBlock block) before after
+    → HasAsked (n + 1) first after
+asked_next n block None None None asked gives = tt
+asked_next n block None None (Some after) asked gives = absurd gives
+asked_next n block None (Some before) after asked gives = absurd asked
+asked_next n block (Some first) None after asked gives = absurd asked
+asked_next n block (Some first) (Some before) None asked gives = absurd gives
+asked_next n block (Some first) (Some before) (Some after) asked gives = next_given n block first before after asked gives
+
+-- of all blocks, where one more was asked for than there are
+pub asked_all : (n blocks : ℕ) (first after : Option AudioContents) → n ≤ blocks → blocks ≤ n → HasAsked (n + 1) first after → HasAsked (blocks + 1) first after
+asked_all n blocks first after within whole asked =
+    let same : n ≡ blocks = omega (arith, within, whole) in
+    subst (λ (m : ℕ). HasAsked (m + 1) first after) same asked
 
 -- ---- MIDI
 

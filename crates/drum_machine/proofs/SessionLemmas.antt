@@ -1,5 +1,5 @@
 -- How a session ends: by what its loop did, and by what its node recorded.
-use Rattle.std.proofs.Common.{◌≡◌, ℕ, ◌⊎◌, ℤ, pos, Bool, true, false, List, [], ◌∷◌, ◌++◌, Option, Some, None, IfSome, inl, inr, refl, sym, ap, subst, ◌∙◌}
+use Rattle.std.proofs.Common.{◌≡◌, ℕ, ◌+◌, ◌⊎◌, ℤ, pos, Bool, true, false, List, [], ◌∷◌, ◌++◌, Option, Some, None, IfSome, inl, inr, refl, sym, ap, subst, ◌∙◌}
 use mathlib.Core.Option.{some-ne-none}
 use Rattle.audio_handoff.specs.Cell.{NumbersNeverFall}
 use Rattle.client_state.specs.declared.state.State.{State}
@@ -27,7 +27,7 @@ use Rattle.link_live.proofs.RecordedLemmas.{BestLaw}
 use Rattle.step_sequencer.specs.Sound.{Ages, silent}
 use Rattle.step_sequencer.specs.declared.pattern.Pattern.{Pattern}
 use Rattle.drum_machine.specs.Ends.{Counts, HasNoMore, counted}
-use Rattle.drum_machine.specs.Player.{BeginsAt, HasDrummed, HasPlayed, HasStarted, start_from}
+use Rattle.drum_machine.specs.Player.{BeginsAt, HasAsked, HasDrummed, HasPlayed, HasStarted, start_from}
 use Rattle.drum_machine.specs.Session.{DevicesSeen, HasSession, IsPlayedWhole, recorded_of}
 use Rattle.drum_machine.specs.Written.{AreWrittenByReads}
 use Rattle.drum_machine.specs.declared.callback.Drums.{Drums}
@@ -83,13 +83,15 @@ output_is_early is = subst IsEarly is tt
 -- ---- the end
 
 -- drums that were still wrote all blocks, by a pass that was new
-pub played_whole : (blocks : ℕ) (pattern : Pattern) (origin : ℤ) (ages : Ages) (running : Bool) (audio : Option AudioContents) (pass pass_then : AudioView) (sound sound_then midi midi_then : Option (List ℕ))
+pub played_whole : (blocks : ℕ) (pattern : Pattern) (origin : ℤ) (ages : Ages) (running : Bool) (audio audio_then : Option AudioContents) (pass pass_then : AudioView) (sound sound_then midi midi_then : Option (List ℕ))
     → ages ≡ silent → running ≡ false → pass ≡ new_audio → BeginsAt audio origin × HasStarted (start_from origin) pass pass_then
+    → HasAsked (blocks + 1) audio audio_then
     → AreWrittenByReads blocks pattern origin ages running pass_then sound sound_then midi midi_then
-    → IsPlayedWhole blocks pattern audio pass_then sound sound_then midi midi_then
-played_whole blocks pattern origin ages running audio pass pass_then sound sound_then midi midi_then still stopped is_new begun by_reads = record {
+    → IsPlayedWhole blocks pattern audio audio_then pass_then sound sound_then midi midi_then
+played_whole blocks pattern origin ages running audio audio_then pass pass_then sound sound_then midi midi_then still stopped is_new begun asked by_reads = record {
   origin = origin;
   begins = begun.0;
+  asked = asked;
   started = subst (λ (v : AudioView). HasStarted (start_from origin) v pass_then) is_new begun.1;
   written =
       subst (λ (a : Ages). AreWrittenByReads blocks pattern origin a false pass_then sound sound_then midi midi_then) still
@@ -129,8 +131,8 @@ module _ (laws : RunLaws) (best : BestLaw) (config : ConfigValue) (now : ℤ) (m
       last_commit = last.last_taken;
     };
     whole = λ is.
-        played_whole blocks drums.pattern drums_then.origin drums.kit drums.clock audio pass0 pass sound sound_then midi midi_then still stopped pass_is
-        (drummed.begun is) (drummed.whole is);
+        played_whole blocks drums.pattern drums_then.origin drums.kit drums.clock audio audio_then pass0 pass sound sound_then midi midi_then still stopped pass_is
+        (drummed.begun is) (drummed.asked is) (drummed.whole is);
     cause = drummed.cause;
     port_works = closed.works;
     port_fails = closed.fails;

@@ -1,6 +1,6 @@
 -- What the loop of the audio thread owes and promises: of its pass, of each block, and as a whole.
-use Rattle.std.specs.Prelude.{◌≡◌, ℕ, ℤ, pos, ◌+◌, ◌^◌, ◌<◌, ◌≤◌, List, [], ◌∷◌, ◌++◌, length, Option, IfSome, if◌then◌else◌}
-use Rattle.std.specs.Int.{int_max}
+use Rattle.std.specs.Prelude.{◌≡◌, ℕ, ℤ, pos, ◌+ℤ◌, ◌+◌, ◌^◌, ◌<◌, ◌≤◌, List, [], ◌∷◌, ◌++◌, length, Option, IfSome, if◌then◌else◌}
+use Rattle.std.specs.Int.{int_min}
 use Rattle.audio_handoff.specs.Cell.{Grows, NumbersNeverFall, Pair}
 use Rattle.lk_base.specs.Ranges.{IsMoment}
 use Rattle.lk_base.specs.declared.block.Block.{Block}
@@ -9,6 +9,7 @@ use Rattle.client_state.specs.Words.{state_of_words}
 use Rattle.client_state.specs.declared.commit.Commit.{Commit}
 use Rattle.client_state.specs.declared.state.State.{State}
 use Rattle.lk_outside.specs.Audio.{AudioContents}
+use Rattle.lk_outside.specs.Contents.{BothTell}
 use Rattle.lk_outside.specs.Sink.{Appends}
 use Rattle.link_midi.specs.Events.{events_of, running_after}
 use Rattle.link_shared.specs.Audio.{AudioView}
@@ -32,10 +33,20 @@ pub record CanPlay (pass : AudioView) (origin : ℤ) (blocks : ℕ) : Type 0 whe
 abbrev pub BeginsAt : Option AudioContents → ℤ → Type 0
 BeginsAt audio origin = IfSome audio (λ contents. (block : Block) × (rest : List Block) × (contents.left ≡ block ∷ rest) × (origin ≡ block.start))
 
--- Where it starts that begins at a moment: not at 0. Of two starts the one that was set later counts, and a node opens with one that was
--- set at 0.
+-- so many blocks more were given, and nothing was played to the device
+pub record HasGiven (count : ℕ) (before after : AudioContents) : Type 0 where
+  pub blocks : List Block
+  pub given : after.given ≡ before.given ++ blocks
+  pub count_is : length blocks ≡ count
+  pub plays : after.plays ≡ before.plays
+
+-- so many blocks were asked for, of a device that tells it
+abbrev pub HasAsked : ℕ → Option AudioContents → Option AudioContents → Type 0
+HasAsked count before after = BothTell (HasGiven count) before after
+
+-- Where it starts whose first block begins at a moment: ten microseconds later, which is in the middle of frame 0, or at the last moment.
 abbrev pub start_from : ℤ → ℤ
-start_from begins = int_max begins (pos 1)
+start_from begins = int_min (begins +ℤ pos 10) (pos (2 ^ 55))
 
 -- what is committed of a start as of a moment, where a read shows this state, and the pass this one: nothing where somebody plays
 abbrev pub starts_over : ℤ → State → State → List Commit
@@ -69,6 +80,7 @@ pub record HasPlayedBlock (first : ℕ) (drums drums_then : Drums) (before after
 pub record HasDrummed (blocks : ℕ) (drums drums_then : Drums) (pass pass_then : AudioView) (before after : Counts) (told told_then : Option AudioContents) (sound sound_then midi midi_then : Option (List ℕ)) (end : PlayEnd) : Type 0 where
   pub played : HasPlayed pass pass_then
   pub begun : end ≡ play_end.Played → BeginsAt told drums_then.origin × HasStarted (start_from drums_then.origin) pass pass_then
+  pub asked : end ≡ play_end.Played → HasAsked (blocks + 1) told told_then
   pub whole : end ≡ play_end.Played
       → AreWrittenByReads blocks drums.pattern drums_then.origin drums.kit drums.clock pass_then sound sound_then midi midi_then
   pub cause : HasPlayCause before after told_then end

@@ -1,5 +1,5 @@
 -- What a session leaves: what its node recorded, published and sent, and what was played of it.
-use Rattle.std.specs.Prelude.{◌≡◌, ◌⊎◌, ℕ, ℤ, pos, Bool, true, false, List, [], ◌∷◌, length, Option, None}
+use Rattle.std.specs.Prelude.{◌≡◌, ◌⊎◌, ℕ, ◌+◌, ℤ, pos, Bool, true, false, List, [], ◌∷◌, length, Option, None}
 use Rattle.rand_pcg.specs.Lcg.{started, increment_of}
 use Rattle.rand_pcg.specs.Pcg.{multiplier_64}
 use Rattle.audio_handoff.specs.Cell.{NumbersNeverFall}
@@ -19,7 +19,7 @@ use Rattle.link_live.specs.Report.{ReportValue}
 use Rattle.step_sequencer.specs.Sound.{silent}
 use Rattle.step_sequencer.specs.declared.pattern.Pattern.{Pattern}
 use Rattle.drum_machine.specs.Ends.{Counts, HasPlayCause, counted}
-use Rattle.drum_machine.specs.Player.{BeginsAt, HasStarted, start_from}
+use Rattle.drum_machine.specs.Player.{BeginsAt, HasAsked, HasStarted, start_from}
 use Rattle.drum_machine.specs.Statuses.{ended_as}
 use Rattle.drum_machine.specs.Written.{AreWrittenByReads}
 use Rattle.drum_machine.specs.declared.player.PlayEnd.{PlayEnd}
@@ -89,10 +89,12 @@ pub record IsSessionRecorded (config : ConfigValue) (opened_at : ℤ) (failed fu
   pub last_commit : full ≡ false → last_audio_in 0 events ≡ length pass.made
 
 -- All blocks of a session were written, from silence and before any MIDI clock. The first frame is where the device's first block begins,
--- where it tells that, and from there it plays, if nobody did.
-pub record IsPlayedWhole (blocks : ℕ) (pattern : Pattern) (audio : Option AudioContents) (pass : AudioView) (sound sound_then midi midi_then : Option (List ℕ)) : Type 0 where
+-- where it tells that, and from its middle on it plays, from beat 0, if nobody did. The device was asked for one block more, which begins
+-- where the last one ends.
+pub record IsPlayedWhole (blocks : ℕ) (pattern : Pattern) (audio audio_then : Option AudioContents) (pass : AudioView) (sound sound_then midi midi_then : Option (List ℕ)) : Type 0 where
   pub origin : ℤ
   pub begins : BeginsAt audio origin
+  pub asked : HasAsked (blocks + 1) audio audio_then
   pub started : HasStarted (start_from origin) new_audio pass
   pub written : AreWrittenByReads blocks pattern origin silent false pass sound sound_then midi midi_then
 
@@ -100,7 +102,7 @@ pub record IsPlayedWhole (blocks : ℕ) (pattern : Pattern) (audio : Option Audi
 pub record HasSession (blocks : ℕ) (pattern : Pattern) (config : ConfigValue) (opened_at : ℤ) (before after : DevicesSeen) (end : PlayEnd) (failed full : Bool) : Type 0 where
   pub pass : AudioView
   pub recorded : IsSessionRecorded config opened_at failed full before.port after.port after.gates pass
-  pub whole : end ≡ play_end.Played → IsPlayedWhole blocks pattern before.audio pass before.sound after.sound before.midi after.midi
+  pub whole : end ≡ play_end.Played → IsPlayedWhole blocks pattern before.audio after.audio pass before.sound after.sound before.midi after.midi
   pub cause : HasPlayCause before.counts after.counts after.audio end
   pub port_works : failed ≡ false → after.port_faults ≡ before.port_faults
   pub port_fails : failed ≡ true → Rose before.port_faults after.port_faults

@@ -22,6 +22,9 @@ pub const FRAMES: u32 = 960;
 /// How long a block is, in microseconds.
 pub const BLOCK_LENGTH: i64 = 20_000;
 
+/// The length of a bar, in microbeats: that of a pattern.
+pub const QUANTUM: i64 = 4_000_000;
+
 /// What the audio thread has of its own.
 #[derive(Drop)]
 pub struct Drums {
@@ -91,13 +94,14 @@ pub fn callback<C: StateCell<11, Way = ()>, N: LinkName>(
 /// What the audio thread changes of its session.
 #[derive(Clone, Copy, Debug, PartialEq, Eq)]
 pub enum Change {
-    /// It plays.
+    /// It plays, from beat 0: that is at the moment where it has no peer, and with peers where a bar of theirs begins next.
     Play,
     /// Its tempo is so many microseconds per beat.
     Tempo(i64),
 }
 
-/// Commits a change of what a capture shows, as of a moment. The next capture shows it at once, whatever the network's thread has taken.
+/// Commits a change of what a capture shows, as of a moment. The next capture shows it at once, unless the node has taken it by then: that
+/// shows what the node made of it.
 ///
 /// Waits: no. Memory: none.
 pub fn edit<C: StateCell<11, Way = ()>, N: LinkName>(
@@ -126,7 +130,10 @@ fn changed(shown: &State, change: Change, at: i64) -> State
 {
     let mut edited = *shown;
     match change {
-        Change::Play => edited.set_playing(true, at),
+        Change::Play => {
+            edited.request_beat(0, at, QUANTUM);
+            edited.set_playing(true, at);
+        }
         Change::Tempo(mpb) => edited.set_tempo(mpb, at),
     }
     edited

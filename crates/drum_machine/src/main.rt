@@ -15,9 +15,10 @@ mod sides;
 mod status;
 mod words;
 
+use crate::callback::QUANTUM;
 use crate::input::read_input;
 use crate::rehearsal::rehearse;
-use crate::session::{Devices, EVENTS, QUANTUM, play_session};
+use crate::session::{Devices, EVENTS, play_session};
 use crate::status::Status;
 use crate::words::{Words, read_words};
 use link_adapters::{About, BehindName, ClickAudio, HostClock, StdSink, StdSource, UdpPort};
@@ -118,8 +119,8 @@ fn devices_of<R: Net + Wait + Clock + Eprint + Copy + Drop, W: Write + Drop, E: 
         Err(error) if error.kind() == ErrorKind::OutOfMemory => return Err(Status::Memory),
         Err(_) => return Err(Status::Network),
     };
-    // The device comes first: its blocks then begin no later than the node, whose beat 0 is where it opens.
-    let (Ok(audio), Ok(opened_at)) = (ClickAudio::new(clicks, rt, clock), clock.moment(&rt)) else {
+    // The node comes first: where its first block begins, it is open.
+    let (Ok(opened_at), Ok(audio)) = (clock.moment(&rt), ClickAudio::new(clicks, rt, clock)) else {
         return Err(Status::Audio);
     };
     let since = now.duration_since(UNIX_EPOCH).unwrap_or_default();

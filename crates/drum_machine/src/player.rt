@@ -3,11 +3,13 @@
 ghost use Rattle.std.specs.Prelude.{◌≡◌, ◌+◌, ◌<◌, ◌^◌, ◌⊎◌, All, length, IfSome, IfNone};
 ghost use Rattle.std.specs.Bool.{OnTrue, OnFalse};
 ghost use Rattle.lk_base.specs.Ranges.{IsMoment};
+ghost use Rattle.lk_outside.specs.Audio.{GivesBlock};
+ghost use Rattle.lk_outside.specs.Contents.{BothTell};
 ghost use Rattle.lk_outside.specs.Faults.{Rose};
 ghost use Rattle.lk_outside.specs.Sink.{Appends};
 ghost use Rattle.link_midi.specs.Messages.{IsMessage};
 ghost use Rattle.step_sequencer.specs.Wav.{samples_bytes};
-ghost use Rattle.drum_machine.specs.Player.{BeginsAt, CanPlay, HasPlayed, HasPlayedBlock, HasStarted, start_from};
+ghost use Rattle.drum_machine.specs.Player.{BeginsAt, CanPlay, HasAsked, HasPlayed, HasPlayedBlock, HasStarted, start_from};
 ghost use Rattle.drum_machine.specs.Written.{AreWrittenByReads, midi_line_of, midi_lines_of};
 ghost use Rattle.drum_machine.specs.Ends.{HasPlayCause, HasNoMore, counted};
 
@@ -17,9 +19,12 @@ use audio_handoff::StateCell;
 use link_midi::{MidiEvent, MidiEvents, positions_are_short};
 use link_shared::{AudioPass, Link, LinkName};
 use link_text::{LineBuf, put, put_short_hex, put_signed};
-use lk_base::Block;
+use lk_base::{Block, MOMENT_MAX};
 use lk_outside::{Audio, Next, Sink, write_whole};
 use step_sequencer::{Samples, put_samples, wav_header};
+
+// Half of a frame, in microseconds.
+const HALF_FRAME: i64 = 10;
 
 /// How the audio thread's loop ended.
 #[derive(Clone, Copy, Debug, PartialEq, Eq)]
@@ -33,7 +38,7 @@ pub enum PlayEnd {
 }
 
 /// Plays so many blocks of the device, which follow on each other, and writes their sound to `sound` as a WAV and their MIDI clock to
-/// `midi`. Frame 0 is where the first block begins; as of there it starts to play, if nobody plays yet.
+/// `midi`. Frame 0 is where the first block begins; as of there it starts to play, from beat 0, if nobody plays yet.
 ///
 /// Waits: in the device and in the sinks, never in the callback. Memory: none.
 pub fn play<C: StateCell<11, Way = ()>, N: LinkName, A: Audio, W: Sink, M: Sink>(
@@ -49,6 +54,8 @@ pub fn play<C: StateCell<11, Way = ()>, N: LinkName, A: Audio, W: Sink, M: Sink>
     ensures played { HasPlayed pass.old pass.new }
     ensures begun { result ≡ PlayEnd.Played → BeginsAt (A.contents audio.old) drums.new.origin
         × HasStarted (start_from drums.new.origin) pass.old pass.new }
+    // It is asked for one block more, which begins where the last one has been played.
+    ensures asked { result ≡ PlayEnd.Played → HasAsked (blocks + 1) (A.contents audio.old) (A.contents audio.new) }
     ensures whole { result ≡ PlayEnd.Played → AreWrittenByReads blocks drums.old.pattern drums.new.origin drums.old.kit drums.old.clock pass.new
         (W.written sound.old) (W.written sound.new) (M.written midi.old) (M.written midi.new) }
     ensures cause { HasPlayCause (counted (A.faults audio.old) (W.faults sound.old) (M.faults midi.old))
@@ -81,6 +88,7 @@ pub fn play<C: StateCell<11, Way = ()>, N: LinkName, A: Audio, W: Sink, M: Sink>
 fn next_block<A: Audio>(audio: &mut A) -> Option<Block>
     ensures some { IfSome result (λ block. IsMoment block.start × (A.faults audio.new ≡ A.faults audio.old)) }
     ensures begins { IfSome result (λ block. BeginsAt (A.contents audio.old) block.start) }
+    ensures given { IfSome result (λ block. BothTell (GivesBlock block) (A.contents audio.old) (A.contents audio.new)) }
     ensures none { IfNone result (HasNoMore (counted (A.faults audio.old) 0 0) (counted (A.faults audio.new) 0 0) (A.contents audio.new)) }
 {
     match audio.next() {
@@ -117,14 +125,14 @@ fn play_block<C: StateCell<11, Way = ()>, N: LinkName, W: Sink, M: Sink>(
     sheet.write(sound, midi)
 }
 
-// Where it starts that begins at a moment: not at 0. Of two starts the one that was set later counts, and a node opens with one that was
-// set at 0.
+// Where it starts whose first block begins at a moment: in the middle of frame 0. So the step of beat 0 begins in that frame, though beats
+// are whole microbeats and times whole microseconds; and the start is later than the node's opening, else peers aren't told of it.
 fn start_at(begins: i64) -> i64
     requires { IsMoment begins }
     ensures moment { IsMoment result }
     ensures value { result ≡ start_from begins }
 {
-    if begins == 0 { 1 } else { begins }
+    (begins + HALF_FRAME).min(MOMENT_MAX)
 }
 
 // Starts to play as of a moment, if nobody plays yet. Waits: no. Memory: none.

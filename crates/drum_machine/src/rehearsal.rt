@@ -10,9 +10,8 @@ ghost use Rattle.link_node.specs.Config.{config_value, IsConfig};
 ghost use Rattle.link_shared.specs.Hub.{IsOnGate};
 ghost use Rattle.drum_machine.specs.Ends.{EndsRehearsal};
 
-use crate::callback::{BLOCK_LENGTH, Change, Drums, FRAMES, callback, edit};
+use crate::callback::{BLOCK_LENGTH, Change, Drums, FRAMES, QUANTUM, callback, edit};
 use crate::score::Score;
-use crate::session::QUANTUM;
 use crate::status::Status;
 use arrayvec::ArrayVec;
 use asdp_messages::write_alive;

@@ -1,6 +1,6 @@
 //! What a rehearsal tells, line by line.
 
-ghost use Rattle.std.specs.Prelude.{◌≡◌, ◌≤◌, ◌<◌, ◌+◌, ◌^◌, length};
+ghost use Rattle.std.specs.Prelude.{pos, ◌≡◌, ◌≤◌, ◌<◌, ◌+◌, ◌^◌, length};
 ghost use Rattle.std.specs.Bool.{OnTrue, OnFalse};
 ghost use Rattle.arrayvec.specs.ArrayVec.{array_vec_len};
 ghost use Rattle.lk_base.specs.Ranges.{IsMoment};
@@ -25,7 +25,9 @@ pub struct Score {
 
 impl Score {
     /// Nothing is told.
-    pub fn new() -> Score {
+    pub fn new() -> Score
+        ensures { (result.mpb ≡ pos 0) × (result.steps ≡ 0) × (result.events ≡ 0) }
+    {
         Score {
             line: LineBuf::new(),
             mpb: 0,

@@ -8,7 +8,7 @@ ghost use Rattle.drum_machine.specs.Session.{EndsSession, HasSession, config_fro
 ghost use Rattle.drum_machine.specs.Statuses.{ended_as};
 ghost use Rattle.drum_machine.specs.declared.player.PlayEnd.{PlayEnd as AnyEnd};
 
-use crate::callback::Drums;
+use crate::callback::{Drums, QUANTUM};
 use crate::player::PlayEnd;
 use crate::sides::run_sides;
 use crate::status::Status;
@@ -30,9 +30,6 @@ use triple_buffer::Triple;
 
 /// How many events find room in the journal: those of more than an hour beside ten peers.
 pub const EVENTS: u64 = 262_144;
-
-/// The length of a bar, in microbeats: that of a pattern.
-pub const QUANTUM: i64 = 4_000_000;
 
 /// The outside of a session.
 #[derive(Drop)]

@@ -2,7 +2,7 @@ use Rattle.std.proofs.Common.{refl, sym, subst, ◌∙◌, inl, arith, rules}
 use Rattle.std.proofs.lemmas.Bool.{OnTrue_at, OnFalse_at}
 use Rattle.lk_base.specs.Ranges.{IsMoment}
 use Rattle.drum_machine.proofs.PlayedLemmas.{has_begun, one_more_block, all_played}
-use Rattle.drum_machine.proofs.PlayerLemmas.{begun_on, has_played_none, is_begun, played_on}
+use Rattle.drum_machine.proofs.PlayerLemmas.{asked_all, asked_first, asked_next, begun_on, has_played_none, is_begun, played_on}
 use Rattle.drum_machine.proofs.SessionLemmas.{counts_stay, device_is_early, no_more, one_rose, output_is_early}
 use Rattle.drum_machine.proofs.player.play.Goals as goal
 
@@ -10,6 +10,7 @@ pub returns-then-not-write_whole : goal.returns-then-not-write_whole
 returns-then-not-write_whole g c = record {
   played = has_played_none _;
   begun = λ is. absurd (output_is_early is);
+  asked = λ is. absurd (output_is_early is);
   whole = λ is. absurd (output_is_early is);
   cause = (refl, inl (OnFalse_at c.if-not-write_whole.true c.write_whole.ensures.cause));
 }
@@ -18,6 +19,7 @@ pub returns-in_default : goal.returns-in_default
 returns-in_default g c = record {
   played = has_played_none _;
   begun = λ is. absurd (device_is_early is);
+  asked = λ is. absurd (device_is_early is);
   whole = λ is. absurd (device_is_early is);
   cause = (c.in_default.ensures.none, OnTrue_at c.if-not-write_whole.false c.write_whole.ensures.quiet, refl);
 }
@@ -29,6 +31,7 @@ loop-number-init g c = record {
   origin = search rules;
   begun = is_begun (g.A.Audio.contents c.args.audio.now) c.in-Some.block.start c.start_at.result _ _ c.in-Some.ensures.begins c.in-Some.ensures.some.0 c.start_at.ensures.moment
       c.start_at.ensures.value c.start.ensures.started;
+  asked = asked_first c.in-Some.block _ _ c.in-Some.ensures.given;
   playing = has_begun _ _ _ _ _ _ _ _ _ _ refl refl refl c.wav_header.ensures (OnTrue_at c.if-not-write_whole.false c.write_whole.ensures.whole);
   audio = c.in-Some.ensures.some.1;
   sound = OnTrue_at c.if-not-write_whole.false c.write_whole.ensures.quiet;
@@ -39,6 +42,7 @@ pub returns-then-not-play_block : goal.returns-then-not-play_block
 returns-then-not-play_block g c = record {
   played = played_on _ _ _ c.loop-number.invariant.played c.play_block.ensures.played c.play_block.ensures.stays.2;
   begun = λ is. absurd (output_is_early is);
+  asked = λ is. absurd (output_is_early is);
   whole = λ is. absurd (output_is_early is);
   cause = (
     c.loop-number.invariant.audio,
@@ -54,6 +58,7 @@ loop-number-preserved g c =
       within = omega (arith, c.loop-number-test.true);
       origin = subst IsMoment (sym c.play_block.ensures.stays.1) c.loop-number.invariant.origin;
       begun = begun_on _ _ _ _ _ _ c.play_block.ensures.stays.1 c.play_block.ensures.stays.2 c.play_block.ensures.played c.loop-number.invariant.begun;
+      asked = asked_next _ _ _ _ _ c.loop-number.invariant.asked c.in-Some-next_block.ensures.given;
       playing = one_more_block c.loop-number.number c.args.blocks _ _ _ _ _ _ _ _ _ _ _ _ _ _ refl c.play_block.ensures.stays.0 c.play_block.ensures.stays.1 c.play_block.ensures.stays.2
           c.loop-number.invariant.playing (OnTrue_at c.if-not-play_block.false c.play_block.ensures.block);
       audio = c.in-Some-next_block.ensures.some.1 ∙ c.loop-number.invariant.audio;
@@ -67,6 +72,7 @@ returns-in_default-next_block g c =
     record {
       played = played_on _ _ _ c.loop-number.invariant.played c.play_block.ensures.played c.play_block.ensures.stays.2;
       begun = λ is. absurd (device_is_early is);
+      asked = λ is. absurd (device_is_early is);
       whole = λ is. absurd (device_is_early is);
       cause = (no_more _ _ _ _ c.loop-number.invariant.audio c.in_default-next_block.ensures.none, works.0 ∙ c.loop-number.invariant.sound, works.1 ∙ c.loop-number.invariant.midi);
     }
@@ -75,6 +81,8 @@ pub returns : goal.returns
 returns g c = record {
   played = c.loop-number.invariant.played;
   begun = λ is. (c.loop-number.invariant.begun.begins, c.loop-number.invariant.begun.started);
+  asked = λ is.
+      asked_all c.loop-number.number c.args.blocks _ _ c.loop-number.invariant.within (omega (arith, c.loop-number-test.false)) c.loop-number.invariant.asked;
   whole = λ is. all_played c.loop-number.number c.args.blocks _ _ _ _ _ _ _ _ _ c.loop-number.invariant.within (omega (arith, c.loop-number-test.false)) c.loop-number.invariant.playing;
   cause = counts_stay _ _ _ _ _ _ c.loop-number.invariant.audio c.loop-number.invariant.sound c.loop-number.invariant.midi;
 }
