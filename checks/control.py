@@ -6,10 +6,11 @@ and past their ranges, spellings that are none, and lines with a byte changed. E
 in docs/CONTROL.md, and against the states: where two answers to `status` tell one timeline, and nothing was committed in between, each
 beat and each time between them is by it. What is committed shows in the next status, and the other run hears the tempo and the start.
 Then runs of a node alone: its first timeline, a change of tempo and a start against the clock of this machine; the same bytes in one piece,
-in drawn ones and byte by byte; a client that goes away in mid-line, in several ways; lines of 64, of 65 and of 100,000 bytes, with and
-without a line feed; 4,096 lines and one more; no client, a second one, and one at another address; and each status that a run can end
-with, but for 9. The summaries count what was sent. Last, what tools/control.py tells through a pipe, of a run and of what is no run. No
-run is left behind.
+in drawn ones and byte by byte; two lines sent at once, whose second answer waits for nothing; a client that goes away in mid-line, in
+several ways; lines of 64, of 65 and of 100,000 bytes, with and without a line feed; 4,096 lines and one more; no client, a second one, and
+one at another address; and each status that a run can end with, but for 9. The summaries count what was sent, and what a run tells on
+standard error from where it listens on, of its client too, is held line by line. Last, what tools/control.py tells through a pipe, of a
+run and of what is no run. No run is left behind.
 The last line is 'N passed, N failed'.
 """
 import os
@@ -36,6 +37,8 @@ BESIDE, DRAWN = 5_000_000, 1500
 # Seconds until which something has to happen, wherever it is waited for.
 PATIENCE = 30
 LISTENS = re.compile(r"^jorazhil: listening for a client at (127\.0\.0\.1:[0-9]+)$", re.M)
+CAME = re.compile(r"^jorazhil: a client came from (127\.0\.0\.1:[0-9]+)$", re.M)
+JOURNAL = re.compile(r"^jorazhil: the journal took ([0-9]+) of ", re.M)
 COMMENT = "# a node under control\n\n"
 
 # Every process that was started.
@@ -191,13 +194,32 @@ def pieces_of(draw, text):
 # A run, and its client.
 
 WITHOUT_A_LINE = "jorazhil: the client left without a line; a line ends with a line feed\n"
+# How a client went: it sent no more, or the connection broke in a read or in an answer.
+LEFT = "jorazhil: the client left\n"
+UNHEARD = "jorazhil: hearing the client failed: Connection reset by peer (os error 104)\n"
+UNANSWERED = "jorazhil: answering the client failed: Connection reset by peer (os error 104)\n"
+# The line that comes last, by the status.
+WHY = {
+    3: "the network failed: a gate could not be bound (its address must be this machine's, and its port free), or a socket broke; "
+    "a run that had begun went on without it",
+    6: "the journal was full before the run ended, and what came then was not taken; `--events` gives it more room, up to 524288",
+    7: "standard output could not be written: No space left on device (os error 28); what was written is the front of the output",
+    11: "the client could not be served: its endpoint could not be opened (its address must be this machine's, and its port free), "
+    "or the connection broke; the run ended there",
+    12: "the client sent more than 4096 lines, which are what one run answers; it ended there",
+}
+
+
+def unopened(at, reason):
+    """What is told where a run can't listen."""
+    return f"jorazhil: listening for a client at {at} failed: {reason}\n"
 
 
 class Run:
     """A run under control, which listens where it was told to or can't."""
 
     def __init__(self, program, words=(), at="127.0.0.1:0", more="gate 127.0.0.1:0\n", out=subprocess.PIPE):
-        self.error, self.out = tempfile.TemporaryFile(), out
+        self.error, self.out, self.at, self.came, self.counts = tempfile.TemporaryFile(), out, None, None, {}
         self.room = f"{words[1]} event{'' if words[1] == '1' else 's'}" if "--events" in words else "262144 events"
         self.before = time.monotonic_ns() // 1000
         self.child = started([program, "control", at, *words], stdin=subprocess.PIPE, stdout=out, stderr=self.error)
@@ -207,8 +229,8 @@ class Run:
         self.child.stdin = None
 
     def told(self):
-        self.error.seek(0)
-        return self.error.read().decode()
+        # Without a seek, which would move the place where the run writes next.
+        return os.pread(self.error.fileno(), 1 << 20, 0).decode()
 
     def listens(self):
         """Where it does. Notes the moment of this machine before which it began to."""
@@ -218,26 +240,27 @@ class Run:
                 raise Differs(f"it doesn't say where it listens: {self.told()!r}")
             time.sleep(0.001)
         self.behind = time.monotonic_ns() // 1000
-        host, port = found[1].split(":")
+        self.at = found[1]
+        host, port = self.at.split(":")
         return host, int(port)
 
     def client(self):
-        return Client(self.listens())
+        client = Client(self.listens())
+        self.came = "{}:{}".format(*client.socket.getsockname())
+        return client
 
-    def end(self, status, lines, commits):
-        """It ends with this status, and its summary has so many lines logged, or any number for None, and so many commits."""
+    def end(self, status, lines, commits, ways=(LEFT,)):
+        """It ends with this status, and its summary has so many lines logged, or any number for None, and so many commits. It tells one of
+        these ways in which its client went, if there are any."""
         out, _ = self.child.communicate(timeout=PATIENCE)
         want("the status, and where it isn't 0 what was told", (self.child.returncode, ""), (status, "" if self.child.returncode == status else self.told()))
-        left = lines == 0 and status not in (3, 9, 11)
-        want("whether it is told that the client left without a line", WITHOUT_A_LINE in self.told(), left)
-        if lines is not None:
-            self.want_told(f"jorazhil: the run took {lines} of at most 4096 lines of its client\n")
-        if self.out != subprocess.PIPE:
-            return
-        summary = out.decode().split("\n")
+        if self.out == subprocess.PIPE:
+            self.want_summary(out.decode().split("\n"), status, lines, commits)
+        self.want_told_behind(status, self.counts["captures"] if lines is None else lines, ways)
+
+    def want_summary(self, summary, status, lines, commits):
         self.counts, self.state = numbers(summary[0], "# live", COUNTS), numbers(summary[1], "# state", STATE)
         want("what is behind the summary", summary[2:], [""])
-        self.want_told(f"jorazhil: the journal took {self.counts['events']} of {self.room}\n")
         lines = self.counts["captures"] if lines is None else lines
         wanted = {"reads": 0, "captures": lines, "app": commits, "audio": 0, "plays": 0, "clicks": 0}
         want("the summary", {name: self.counts[name] for name in wanted}, wanted)
@@ -247,6 +270,26 @@ class Run:
             want("the commits that the last state has", (self.state["app"], self.state["audio"]), (commits, 0))
             # Beside the commits there are the opening tick and the end at the least.
             want("whether there are as many events", self.counts["events"] >= commits + 2, True)
+
+    def want_told_behind(self, status, lines, ways):
+        """All that it tells behind how it was set up, in this order, but for what the system refused to send."""
+        text = self.told()
+        told = text[text.find("jorazhil: listening ") :].splitlines(keepends=True)
+        told = [line for line in told if not line.startswith("jorazhil: the system refused ")]
+        wanted = []
+        if self.at is not None:
+            # Of another program that was the client the port isn't known.
+            came = self.came or "".join(CAME.findall(text))
+            wanted = [f"jorazhil: listening for a client at {self.at}\n", f"jorazhil: a client came from {came}\n"]
+        wanted += ([way for way in ways if way in told] or list(ways))[:1]
+        events = self.counts["events"] if self.counts else "".join(JOURNAL.findall(text))
+        wanted.append(f"jorazhil: the journal took {events} of {self.room}\n")
+        wanted.append(f"jorazhil: the run took {lines} of at most 4096 lines of its client\n")
+        if lines == 0 and status not in (3, 9, 11):
+            wanted.append(WITHOUT_A_LINE)
+        if status != 0:
+            wanted.append(f"jorazhil: {WHY[status]}\n")
+        want("what is told from where it listens on", told, wanted)
 
     def want_told(self, *texts):
         for text in texts:
@@ -437,6 +480,22 @@ def cut_in_any_way(program, seed):
     run.end(0, 3 * len(lines), 0)
 
 
+def sent_at_once(program):
+    """Of two lines that are sent at once the second answer comes at once too. It doesn't wait until the client's system acknowledges the
+    first, which Linux puts off for some 40 milliseconds where a line has followed each answer before."""
+    run, took = Run(program), []
+    client = run.client()
+    for _ in range(21):
+        for k in range(4):
+            client.ask(b"beat %d" % k)
+        begun = time.monotonic()
+        client.ask(b"beat 1", b"beat 2")
+        took.append(round(1000 * (time.monotonic() - begun), 3))
+    want(f"whether the median of {took} is below 20 milliseconds", sorted(took)[10] < 20, True)
+    client.ends()
+    run.end(0, client.asked, 0)
+
+
 def goes_away(program):
     """In mid-line, with and without the last answers read."""
     rests = (b"", b"tempo 4000", b"status", b"x" * 64, b"x" * 65, b"x" * 100_000, b"\r")
@@ -457,13 +516,13 @@ def goes_away(program):
     client.status()
     client.send(b"tempo 4000")
     client.breaks()
-    in_a_read.end(11, 1, 0)
+    in_a_read.end(11, 1, 0, [UNHEARD])
     client = in_an_answer.client()
+    client.status()
     client.send(b"beat 1\n" * 3000)
     client.breaks()
-    in_an_answer.end(11, None, 0)
-    for run in (in_a_read, in_an_answer):
-        run.want_told("jorazhil: the client could not be served: ")
+    # It may have answered all of them by then, and so be in a read again.
+    in_an_answer.end(11, None, 0, [UNANSWERED, UNHEARD])
 
 
 def long_lines(program):
@@ -492,8 +551,7 @@ def most_lines(program):
             want("what comes behind the answers", client.rest(), b"")
         else:
             client.ends()
-        run.end(status, MOST_LINES, 0)
-    run.want_told("jorazhil: the client sent more than 4096 lines")
+        run.end(status, MOST_LINES, 0, [] if status else [LEFT])
 
 
 def without_a_client(program):
@@ -564,12 +622,9 @@ def endpoint_in_use(program):
     """No line is served, and the run ends."""
     with socket.create_server(("127.0.0.1", 0)) as held:
         at = f"127.0.0.1:{held.getsockname()[1]}"
-        run = Run(program, at=at)
-        run.end(11, 0, 0)
-        run.want_told(f"jorazhil: listening for a client at {at} failed: Address already in use (os error 98)")
-    run = Run(program, at="192.0.2.1:20900")
-    run.end(11, 0, 0)
-    run.want_told("Cannot assign requested address (os error 99)")
+        Run(program, at=at).end(11, 0, 0, [unopened(at, "Address already in use (os error 98)")])
+    at = "192.0.2.1:20900"
+    Run(program, at=at).end(11, 0, 0, [unopened(at, "Cannot assign requested address (os error 99)")])
 
 
 def other_faults(program):
@@ -583,8 +638,12 @@ def other_faults(program):
         want("the tempo without the network", client.status()[0], 400_000)
         client.ends()
         run.end(3, 3, 1)
-        run.want_told("jorazhil: control without the network; room for 262144 events, bars of 4 beats\n")
-        Run(program, more=gate, at=f"127.0.0.1:{heard.getsockname()[1]}").end(3, 0, 0)
+        run.want_told(
+            f"jorazhil: the {gate[:-1]} could not be bound: Address already in use (os error 98); the run goes on without the network\n"
+            "jorazhil: control without the network; room for 262144 events, bars of 4 beats\n"
+        )
+        at = f"127.0.0.1:{heard.getsockname()[1]}"
+        Run(program, more=gate, at=at).end(3, 0, 0, [unopened(at, "Address already in use (os error 98)")])
     run = Run(program, ["--events", "1"])
     client = run.client()
     want("the answers with a full journal", client.ask(b"tempo 400000", b"nope"), ["ok 1", "bad"])
@@ -597,13 +656,12 @@ def other_faults(program):
     client = run.client()
     client.send(b"nope\n" * (MOST_LINES + 1))
     want("the answers with a full journal", set(client.answers(MOST_LINES)), {"bad"})
-    run.end(6, MOST_LINES, 0)
+    run.end(6, MOST_LINES, 0, [])
     if os.path.exists("/dev/full"):
         with open("/dev/full", "wb") as full:
             run = Run(program, out=full)
             run.client().ends()
             run.end(7, 0, 0)
-            run.want_told("jorazhil: standard output could not be written: No space left on device (os error 28)")
 
 
 # What tools/control.py tells.
@@ -749,6 +807,7 @@ def main(program, seed):
         ("lines that are drawn, beside a live run", beside.drawn),
         ("a run by the clock", by_the_clock, program),
         ("lines that are cut in any way", cut_in_any_way, program, seed),
+        ("lines that are sent at once", sent_at_once, program),
         ("clients that go away", goes_away, program),
         ("long lines", long_lines, program),
         ("4,096 lines and one more", most_lines, program),

@@ -475,11 +475,18 @@ def processor_time():
     return round(1_000_000 * (used.ru_utime + used.ru_stime))
 
 
-def idle(program):
-    """A node without peers whose blocks play nothing: its three threads wait for nearly all of the time."""
+def idle(program, status, is_taken=False, events=None):
+    """A node without peers whose blocks play nothing: its three threads wait for nearly all of the time. So they do where the port is taken
+    by someone else, and where the journal is full."""
     before = processor_time()
-    short_run(program, [f"at {IDLE} look"], IDLE // BLOCK)
+    with socket.socket(socket.AF_INET, socket.SOCK_DGRAM) as held:
+        held.bind(("127.0.0.1", 0))
+        port = held.getsockname()[1] if is_taken else free_ports(1)[0]
+        run = Run(program, port, [], [f"at {IDLE} look"], IDLE // BLOCK, events=events)
+        run.end()
     used = processor_time() - before
+    want("the status", run.status, status)
+    run.expect_counts(reads=IDLE // BLOCK, plays=IDLE // BLOCK, captures=1)
     want(f"whether {used} microseconds of the processor are less than a tenth of {IDLE}", used < IDLE // 10, True)
 
 
@@ -533,7 +540,9 @@ def main(program):
         ("a run that is given other quanta", new_quanta, program),
         ("a run with a block command past its last block", late_block, program),
         ("a run with all options", all_options, program),
-        ("an idle run", idle, program),
+        ("an idle run", idle, program, 0),
+        ("an idle run whose port is taken", idle, program, 3, True),
+        ("an idle run whose journal is full", idle, program, 6, False, 1),
         ("a run with four gates", four_gates, program),
     ]
     failed = 0

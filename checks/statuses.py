@@ -7,6 +7,7 @@ checks/control.py.
 The last line is 'N passed, N failed'.
 """
 import os
+import resource
 import socket
 import subprocess
 import sys
@@ -81,8 +82,8 @@ SINK = b"jorazhil: standard output could not be written: %s; what was written is
 DIRECTORY, DESCRIPTOR, FULL = b"Is a directory (os error 21)", b"Bad file descriptor (os error 9)", b"No space left on device (os error 28)"
 # What a live run tells when its gates are bound or not, and at its end.
 LIVE_AT = b"jorazhil: live at %s; no blocks, room for %s, bars of 4 beats\n"
-NO_GATE = (
-    b"jorazhil: the gate %s could not be bound: %s; the run goes on without the network\n"
+UNBOUND = (
+    b"jorazhil: the %s could not be bound: %s; the run goes on without the network\n"
     b"jorazhil: live without the network; no blocks, room for 262144 events, bars of 4 beats\n"
 )
 IN_USE, NOT_HERE = b"Address already in use (os error 98)", b"Cannot assign requested address (os error 99)"
@@ -92,6 +93,7 @@ PORT = (
     b"jorazhil: the network failed: a gate could not be bound (its address must be this machine's, and its port free), or a socket broke; "
     b"a run that had begun went on without it\n"
 )
+AUDIO = b"jorazhil: the audio device failed; a run that had begun went on without it\n"
 EVENTS = (
     b"jorazhil: the journal was full before the run ended, and what came then was not taken; "
     b"`--events` gives it more room, up to 524288\n"
@@ -106,7 +108,9 @@ NO_COMMAND = b"no command: a script for `control` has none, as its client gives 
 
 GATE_OR_COMMAND = b"`gate`, `to` or a command: `at` or `block`"
 ACT = b"`tempo`, `force`, `request`, `quantum`, `play`, `stop` or `look`"
+BEAT = b"a beat from -1152921504606846976 to 1152921504606846976 microbeats"
 BLOCK_ACT = b"`tempo`, `quantum`, `play` or `stop`"
+TEMPO = b"a tempo from 60060 to 3000000 microseconds per beat (500000 is 120 beats a minute)"
 MOMENT = b"a moment from 0 to 36028797018963968 microseconds"
 VERSION = b"`replay 1` or `replay 2`"
 NODE_LINE = b"`node` and a node's id, seed, tempo, sync and opening moment"
@@ -122,7 +126,13 @@ START_2 = b"`s` and a start, `q` and a quantum, or the end of the line"
 QUANTUM_PART = b"`q` and a quantum, or the end of the line"
 NO_QUANTUM = b"no quantum: only a script that begins with `replay 2` has one"
 GATE_LINE = b"`gate` and the endpoint of the node's first gate"
+TO = b"to 127.0.0.1:20809\n"
+# What may follow where a gate has all its destinations, and where all gates stand.
+FULL_GATE = b", as the gate has 32 destinations"
+GATE_OR_EVENT = b"`gate` or an event" + FULL_GATE + b": `rx`, `tick`, `app`, `audio` or `end`"
+TO_OR_EVENT = b"`to` or an event, as the node has four gates: `rx`, `tick`, `app`, `audio` or `end`"
 GATE_TO_OR_EVENT = b"`gate`, `to` or an event: `rx`, `tick`, `app`, `audio` or `end`"
+AUDIO_NUMBER = b"a number from 1 to 1152921504606846975"
 EVENT = b"an event: `rx`, `tick`, `app`, `audio` or `end`"
 TEXT_END = b"the end of the text"
 SAMPLE = b"a sample count from -1152921504606846976 to 1152921504606846976"
@@ -245,12 +255,7 @@ TEXTS = [
     (["replay"], HEAD_2 + b"tick 5\nquantum 5\n", 8, at_fault(7, 1, EVENT, b'"quantum"')),
     (["replay"], HEAD_2 + b"rx 0 1 127.0.0.1:1 00\n", 8, at_fault(6, 6, b"0, the number of the only gate", b'"1"')),
     (["replay"], b"replay 1\n" + NODE + b"group 0\n", 8, at_fault(3, 1, GATE_LINE, b'"group"')),
-    (
-        ["replay"],
-        HEAD.replace(b"500000", b"60059"),
-        8,
-        at_fault(2, 17, b"a tempo from 60060 to 3000000 microseconds per beat (500000 is 120 beats a minute)", b'"60059"'),
-    ),
+    (["replay"], HEAD.replace(b"500000", b"60059"), 8, at_fault(2, 17, TEMPO, b'"60059"')),
     (["replay"], b"# a comment\n\n" + HEAD.replace(b":20809", b""), 8, at_fault(5, 6, b"an endpoint as in 127.0.0.1:20808", b'"127.0.0.1"')),
     (["replay"], HEAD.replace(b":20809", b""), 8, at_fault(3, 6, b"an endpoint as in 127.0.0.1:20808", b'"127.0.0.1"')),
     (["replay"], HEAD + b"# twice\nend 1\nend\n", 8, at_fault(6, 4, MOMENT, b"the end of the line")),
@@ -277,6 +282,27 @@ TEXTS = [
     (["replay"], HEAD_2 + b"app 0 0 q 5 5\n", 8, at_fault(6, 13, LINE_END, b'"5"')),
     (["replay"], HEAD_2 + b"app 0 0 q 5 s 1 0 0\n", 8, at_fault(6, 13, LINE_END, b'"s"')),
     (["replay"], HEAD_2 + b"app 0 0 q 5\r\n", 8, at_fault(6, 12, QUANTUM, CARRIAGE_RETURN)),
+    # A gate has 32 destinations, and a node four gates.
+    (["replay"], HEAD + TO * 33, 8, at_fault(36, 1, GATE_OR_EVENT, b'"to"')),
+    (["replay"], HEAD + TO * 32 + b"look\n", 8, at_fault(36, 1, GATE_OR_EVENT, b'"look"')),
+    (["replay"], HEAD + TO * 32 + GATE + b"look\n", 8, at_fault(37, 1, GATE_TO_OR_EVENT, b'"look"')),
+    (["replay"], HEAD + TO * 31 + b"look\n", 8, at_fault(35, 1, GATE_TO_OR_EVENT, b'"look"')),
+    (["replay"], HEAD + GATE * 4, 8, at_fault(7, 1, TO_OR_EVENT, b'"gate"')),
+    (["replay"], HEAD + GATE * 2 + b"look\n", 8, at_fault(6, 1, GATE_TO_OR_EVENT, b'"look"')),
+    (["replay"], HEAD + GATE * 3 + TO * 33, 8, at_fault(39, 1, EVENT, b'"to"')),
+    (["live"], LINK + TO * 33, 8, at_fault(36, 1, b"`gate` or a command" + FULL_GATE + b": `at` or `block`", b'"to"')),
+    (["live"], LINK + GATE * 4, 8, at_fault(7, 1, b"`to` or a command, as there are four gates: `at` or `block`", b'"gate"')),
+    (["live"], LINK + GATE * 3 + TO * 33, 8, at_fault(39, 1, b"a command: `at` or `block`", b'"to"')),
+    (["control", CLIENT], LINK + TO * 33, 8, at_fault(36, 1, b"`gate` or the end of the script" + FULL_GATE, b'"to"')),
+    (["control", CLIENT], LINK + GATE * 3 + TO * 33, 8, at_fault(39, 1, b"the end of the script", b'"to"')),
+    # The words of a node behind its id, a beat, and the number of an audio commit.
+    (["replay"], HEAD.replace(b" 1 500000", b" x 500000"), 8, at_fault(2, 15, b"a number from 0 to 18446744073709551615", b'"x"')),
+    (["replay"], HEAD.replace(b"500000 1", b"500000 2"), 8, at_fault(2, 24, b"1 or 0", b'"2"')),
+    (["replay"], HEAD.replace(b"1000000", b"x"), 8, at_fault(2, 26, MOMENT, b'"x"')),
+    (["replay"], HEAD + b"audio 0 1152921504606846976 0\n", 8, at_fault(4, 9, AUDIO_NUMBER, b'"1152921504606846976"')),
+    (["replay"], HEAD + b"audio 0 0 0\n", 8, at_fault(4, 9, AUDIO_NUMBER, b'"0"')),
+    (["live"], LINK + b"at 0 request x\n", 8, at_fault(4, 14, BEAT, b'"x"')),
+    (["live"], LINK + b"at 0 force\n", 8, at_fault(4, 11, BEAT, LINE_END)),
     # The greatest words, one that begins with a plus, and no block: the whole script is read in any case.
     (["midi", "1000000", "524288"], b"", 8, at_fault(1, 1, VERSION, TEXT_END)),
     (["midi", "+5", "1"], HEAD + b"app 0 0 q 3000000\n", 8, at_fault(4, 9, NO_QUANTUM, b'"q"')),
@@ -287,6 +313,8 @@ TEXTS = [
     (["live"], LINK + b"# a comment\n\nlook\n", 8, at_fault(6, 1, GATE_OR_COMMAND, b'"look"')),
     (["live"], LINK + b"at 0 spring\n", 8, at_fault(4, 6, ACT, b'"spring"')),
     (["live"], LINK + b"at 0\n", 8, at_fault(4, 5, ACT, LINE_END)),
+    # A commit that says no tempo, behind a line that is right.
+    (["live"], LINK + LOOK + b"at 0 tempo\n", 8, at_fault(5, 11, TEMPO, LINE_END)),
     (["live"], LINK + b"at 0 quantum\n", 8, at_fault(4, 13, QUANTUM, LINE_END)),
     (["live"], LINK + b"at 0 quantum 0\nat 0 quantum 1099511627777\n", 8, at_fault(5, 14, QUANTUM, b'"1099511627777"')),
     (["live"], LINK + b"at 0 quantum 5 5\n", 8, at_fault(4, 16, LINE_END, b'"5"')),
@@ -319,6 +347,7 @@ TEXTS = [
     (["filter"], b"0 0\n-0 0", 8, at_fault(2, 1, SAMPLE, b'"-0"')),
     (["filter"], b"0\t0\n", 8, at_fault(1, 1, SAMPLE, b'"0\\t0"')),
     (["filter"], b"1152921504606846977 0\n", 8, at_fault(1, 1, SAMPLE, b'"1152921504606846977"')),
+    (["filter"], b"9" * 40 + b" 0\n", 8, at_fault(1, 1, SAMPLE, b'"' + b"9" * 40 + b'"')),
     (["filter"], b"9" * 41 + b" 0\n", 8, at_fault(1, 1, SAMPLE, b'"' + b"9" * 40 + b'"...')),
     (["filter"], b"\r\n", 8, at_fault(1, 1, SAMPLE, CARRIAGE_RETURN)),
     (["filter"], b"0\n", 8, at_fault(1, 2, HOST, LINE_END)),
@@ -396,14 +425,16 @@ def run(program, words, **streams):
     return done.returncode, done.stdout, done.stderr
 
 
+def allowed(count):
+    """What a process calls before it begins, to have so many descriptors at most."""
+    return lambda: resource.setrlimit(resource.RLIMIT_NOFILE, (count, count))
+
+
 def no_live_runs(program):
     """Words behind which nothing is read or written, and something is told."""
     for words in NO_LIVE_RUN:
         status, output, error = run(program, words, input=LINK + LOOK, stdout=subprocess.PIPE)
         yield f"{words}", (status, output, error[:10], b"\n\nUsage: jorazhil " in error), (2, b"", b"jorazhil: ", True)
-    # A commit that says no tempo, behind one that is right.
-    status, output, error = run(program, ["live"], input=LINK + LOOK + b"at 0 tempo\n", stdout=subprocess.PIPE)
-    yield "a tempo without its number", (status, output, error[:18]), (8, b"", b"jorazhil: line 5, ")
 
 
 def read_failures(program):
@@ -443,35 +474,39 @@ def write_failures(program):
 def live_failures(program):
     """A live run goes on without the port or the device that failed, and past a full journal, and tells how much there was."""
 
-    def begins(name, script, words, wanted):
-        status, output, error = run(program, ["live", *words], input=script, stdout=subprocess.PIPE)
+    def begins(name, script, words, wanted, **streams):
+        status, output, error = run(program, ["live", *words], input=script, stdout=subprocess.PIPE, **streams)
         return f"live {name}", (status, output[: len(wanted[1])], error), wanted
 
     # No event but the opening tick and the end, and no block.
     ended = JOURNAL % (2, b"262144 events")
 
-    def without_port(gate, reason):
-        return 3, b"# live 2 1 0 1 0 0 0 0\n# state 0 500000 0 ", NO_GATE % (gate, reason) + ended + PORT
+    def without_port(unbound, reason):
+        return 3, b"# live 2 1 0 1 0 0 0 0\n# state 0 500000 0 ", UNBOUND % (unbound, reason) + ended + PORT
 
     with socket.socket(socket.AF_INET, socket.SOCK_DGRAM) as held:
         held.bind(("127.0.0.1", 0))
         gate = b"127.0.0.1:%d" % held.getsockname()[1]
         taken = LINK.replace(b"127.0.0.1:0", gate)
-        yield begins("on a port in use", taken + LOOK, ["--blocks", "0"], without_port(gate, IN_USE))
+        yield begins("on a port in use", taken + LOOK, ["--blocks", "0"], without_port(b"gate " + gate, IN_USE))
         # The second of two gates is told.
         first = LINK + b"gate " + gate + b"\n"
-        yield begins("whose second gate's port is in use", first + LOOK, ["--blocks", "0"], without_port(gate, IN_USE))
+        yield begins("whose second gate's port is in use", first + LOOK, ["--blocks", "0"], without_port(b"gate " + gate, IN_USE))
         if os.path.exists("/dev/full"):
             # Of two causes the network's comes first.
             with open("/dev/full", "wb") as full:
                 found = run(program, ["live", "--blocks", "0"], input=taken + LOOK, stdout=full)
-            yield "live on a port in use, to a full device", found, (3, None, without_port(gate, IN_USE)[2])
+            yield "live on a port in use, to a full device", found, (3, None, without_port(b"gate " + gate, IN_USE)[2])
     # Nobody holds that port any more but the run's own first gate.
     twice = taken + b"gate " + gate + b"\n"
-    yield begins("with two gates of one port", twice + LOOK, ["--blocks", "0"], without_port(gate, IN_USE))
+    yield begins("with two gates of one port", twice + LOOK, ["--blocks", "0"], without_port(b"gate " + gate, IN_USE))
     # An address that is set aside for documentation, and so is no machine's own.
     elsewhere = LINK.replace(b"127.0.0.1:0", b"192.0.2.1:17000")
-    yield begins("at another's address", elsewhere + LOOK, ["--blocks", "0"], without_port(b"192.0.2.1:17000", NOT_HERE))
+    yield begins("at another's address", elsewhere + LOOK, ["--blocks", "0"], without_port(b"gate 192.0.2.1:17000", NOT_HERE))
+    # Behind the three that it is given a run opens a descriptor to wait by; a bind opens another one, and then one for each gate.
+    for count, unbound in ((4, b"gates"), (5, b"gate 127.0.0.1:0")):
+        wanted = without_port(unbound, b"Too many open files (os error 24)")
+        yield begins(f"with {count} descriptors", LINK + LOOK, ["--blocks", "0"], wanted, preexec_fn=allowed(count))
     most = LIVE_AT % (b"127.0.0.1:0", b"524288 events") + JOURNAL % (2, b"524288 events")
     yield begins("with the most room", LINK + LOOK, ["--blocks", "0", "--events", "524288"], (0, b"# live 2 1 0 1 0 0 0 0\n# state 0 ", most))
     full_journal = LIVE_AT % (b"127.0.0.1:0", b"1 event") + JOURNAL % (1, b"1 event") + EVENTS
@@ -480,15 +515,44 @@ def live_failures(program):
     both = LIVE_AT % (b"127.0.0.1:0 and 127.0.0.1:0", b"262144 events")
     took = JOURNAL % (int((output.split() + [b"0"] * 3)[2]), b"262144 events")
     yield "live without an at command", (status, error), (0, both + took + NO_AT)
-    if os.path.exists("/dev/full"):
-        # The first click comes at once and can't be told, with which the blocks end.
-        with open("/dev/full", "wb") as full:
-            script = LINK.replace(b"500000", b"60060") + b"at 0 play\n"
-            done = subprocess.run([program, "live", "--blocks", "500"], input=script, stdout=subprocess.PIPE, stderr=full, timeout=60, check=False)
-            told = done.stdout.split() + [b"0"] * 10
-            reads, plays = told[4], told[8]
-            found = done.returncode, done.stdout[:7], plays
-            yield "live whose clicks can't be told", found, (4, b"# live ", b"%d" % (int(reads) - 1))
+
+
+def full_pipe():
+    """The ends of a pipe without room, in which a write that finds none fails, and how many bytes are in it."""
+    reader, writer = os.pipe()
+    os.set_blocking(writer, False)
+    count = 0
+    while True:
+        try:
+            count += os.write(writer, b"." * 4096)
+        except BlockingIOError:
+            return reader, writer, count
+
+
+def clicks_without_room(program):
+    """A live run whose first click comes at once and can't be told, with which its blocks end. At its goodbye, behind which it waits for
+    room in standard output, standard error gets room again: so it tells how it ended."""
+    (out, out_end, in_out), (error, error_end, in_error) = full_pipe(), full_pipe()
+    os.set_blocking(out_end, True)
+    with socket.socket(socket.AF_INET, socket.SOCK_DGRAM) as peer, open(out, "rb") as output, open(error, "rb") as told:
+        peer.bind(("127.0.0.1", 0))
+        peer.settimeout(60)
+        script = LINK.replace(b"500000", b"60060") + b"to 127.0.0.1:%d\nat 0 play\n" % peer.getsockname()[1]
+        child = subprocess.Popen([program, "live", "--blocks", "500"], stdin=subprocess.PIPE, stdout=out_end, stderr=error_end)
+        os.close(out_end)
+        os.close(error_end)
+        child.stdin.write(script)
+        child.stdin.close()
+        while peer.recv(513)[:9] != b"_asdp_v\x01\x03":
+            pass
+        told.read(in_error)
+        output.read(in_out)
+        summary, ended = output.read(), told.read()
+        status = child.wait(timeout=60)
+    words = summary.split() + [b"0"] * 10
+    events, reads, plays = (int(words[k]) for k in (2, 4, 8))
+    wanted = 4, b"# live ", reads - 1, JOURNAL % (events, b"262144 events") + AUDIO
+    return "live whose clicks can't be told", (status, summary[:7], plays, ended), wanted
 
 
 def pipe_closed_after(program, count):
@@ -521,6 +585,7 @@ def main(program):
     results += read_failures(program)
     results += write_failures(program)
     results += live_failures(program)
+    results.append(clicks_without_room(program))
     results.append(pipe_closed_after(program, 1000))
     results.append(name_of_no_text(program))
     failed = 0
