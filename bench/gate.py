@@ -7,12 +7,13 @@ processors and more there is one prover a processor, as in `.ci/run`. It watches
 docs/GATE.md, between its two marks: how long the run took, and for each crate the seconds of one processor that its proof, the proof of its
 tests and its must-fail edits took, with the check that the edits begin with. They are divided by how slow the machine was: the seconds that
 the crates of a table of that page, the yardstick, took in the run, over those that it has for them. None of these crates may have changed
-since the commit that the table names; where a run proves none of them, the first is proved after it. Where the page has figures of a commit
-since which neither the crate nor one below it changed, the least of the two counts, since what else is at work on a machine only adds to
-it, and a crate that wasn't proved anew keeps its own. Beside each stands its budget, from the table that people keep between two other
-marks. A table of runs from nothing, between two marks too, gets a row for so many processors in place of the one that it had, as the clock
-told it; rows of other numbers stay. Nothing is written where the run fails. The commit has to be clean, so that the figures are those of a
-commit.
+since the commit that the table names. Where a run proves none of them whole, those stand for them that it proved and the page has figures
+of the same sources of, and where there is none of these, the yardstick's first is proved after it. Where the page has figures of a commit
+since which neither the sources of the crate nor of one below it changed, nor of edits the crate's, the least of the two counts, since what
+else is at work on a machine only adds to it, and a crate that wasn't proved anew keeps its own. Beside each stands its budget, from the
+table that people keep between two other marks. A table of runs from nothing, between two marks too, gets a row for so many processors in
+place of the one that it had, as the clock told it; rows of other numbers stay. Nothing is written where the run fails. The commit has to be
+clean, so that the figures are those of a commit.
 """
 import os
 import platform
@@ -32,6 +33,7 @@ BUDGET, BUDGET_END = "<!-- budget -->", "<!-- end of the budget -->"
 YARDSTICK, YARDSTICK_END = "<!-- yardstick -->", "<!-- end of the yardstick -->"
 RUNS, RUNS_END = "<!-- runs: written by bench/gate.py -->", "<!-- end of the runs -->"
 KINDS = ("proof", "tests", "edits")
+SOURCES = ("src", "specs", "proofs")
 ALL = "all"
 # What stands for a figure that no run has given.
 UNKNOWN = "?"
@@ -162,7 +164,7 @@ def yardstick_of(text):
     commit = re.search(r"at ([0-9a-f]{7,})", rows[0][1]) if rows and len(rows[0]) == 2 else None
     if not commit or not rows[2:] or not all(len(row) == 2 and row[1].isdigit() for row in rows[2:]):
         raise Failed("the yardstick is no table of crates and their seconds, with `at COMMIT` in its head")
-    changed = [name for name, _ in rows[2:] if not is_same(commit[1], name)]
+    changed = [name for name, _ in rows[2:] if not is_same(commit[1], name, "edits")]
     if changed:
         raise Failed(f"these crates of the yardstick changed since {commit[1]}, so they can't be in it: {', '.join(changed)}")
     return {name: int(seconds) for name, seconds in rows[2:]}
@@ -173,6 +175,17 @@ def slowness(sums, yardstick):
     known = [name for name in yardstick if all(sums.get(name, {}).get(kind) or not has_kind(name, kind) for kind in KINDS)]
     taken = sum(sum(sums[name].values()) for name in known)
     return taken / sum(yardstick[name] for name in known) if known else None
+
+
+def slowness_by_page(sums, old):
+    """The same by the crates that are as they were when the page's figures were taken, which are in the yardstick's seconds."""
+    pairs = [
+        (seconds, old[name][0][kind])
+        for name, row in sums.items()
+        for kind, seconds in row.items()
+        if kind != "edits" and name in old and old[name][0].get(kind) and is_same(old[name][1], name, kind)
+    ]
+    return sum(one for one, _ in pairs) / sum(other for _, other in pairs) if pairs else None
 
 
 def below(name):
@@ -189,10 +202,10 @@ def below(name):
     return found
 
 
-def is_same(commit, name):
-    """Whether neither the crate nor one below it changed since a commit."""
-    words = ["git", "diff", "--quiet", commit, "HEAD", "--", *(f"crates/{one}" for one in below(name))]
-    return subprocess.run(words, cwd=HERE, stderr=subprocess.DEVNULL).returncode == 0
+def is_same(commit, name, kind):
+    """Whether what takes the seconds is as it was at a commit: the sources of the crate and of those below it, and of edits these too."""
+    paths = [f"crates/{one}/{part}" for one in below(name) for part in SOURCES] + [f"crates/{name}/must-fail"] * (kind == "edits")
+    return subprocess.run(["git", "diff", "--quiet", commit, "HEAD", "--", *paths], cwd=HERE, stderr=subprocess.DEVNULL).returncode == 0
 
 
 def figures_of(text):
@@ -226,7 +239,7 @@ def joined(names, sums, slow, old, commit):
     found = {}
     for name in names:
         before, at = old.get(name, ({}, None))
-        before = before if at and is_same(at, name) else {}
+        before = {kind: seconds for kind, seconds in before.items() if at and is_same(at, name, kind)}
         new, row = sums.get(name, {}), {}
         for kind in KINDS:
             seconds = [one for one in (new.get(kind, 0.0) / slow, before.get(kind, 0.0)) if one]
@@ -316,11 +329,11 @@ def watched(processors, words):
 
 def measured(processors, is_anew, some, old, budgets, whole, yardstick):
     """Runs the gate, or of it these crates, and returns the lines of its figures, its row among the runs, and how many figures are over
-    their budgets. `old` has the figures of the page. Where the run proves no crate of the yardstick, its first one is proved after it."""
+    their budgets. `old` has the figures of the page."""
     words = ["rt", "ci", *["--anew"] * (is_anew and keeps_proofs()), *some]
     watch, took, worked, last = watched(processors, words)
     sums, commit = watch.sums(), told(["git", "rev-parse", "--short", "HEAD"])
-    slow = slowness(sums, yardstick)
+    slow = slowness(sums, yardstick) or slowness_by_page(sums, old)
     if slow is None and yardstick:
         slow = slowness(watched(processors, ["rt", "ci", "--anew", next(iter(yardstick))])[0].sums(), yardstick)
     slow = slow or 1.0
@@ -337,7 +350,7 @@ def measured(processors, is_anew, some, old, budgets, whole, yardstick):
     )
     say = (
         "Seconds of one processor, divided by how many times slower the machine was than the yardstick's, and of how many by the budget: the "
-        "least of the runs since the crate or one below it last changed, and the commit of the last such run."
+        "least of the runs since its sources or those below last changed, or its edits, and the commit of the last such run."
     )
     return [*prose(head), "", *prose(say), "", *lines], row, over
 
