@@ -279,7 +279,7 @@ def table(figures, budgets, whole, slow):
     over += more
     unknown = [name for name, (taken, _) in figures.items() if None in taken.values()]
     lacking, gone = [name for name in figures if name not in budgets], [name for name in budgets if name not in figures]
-    say = [f"In this run the yardstick's crates took {slow:.2f} times its seconds, by which the seconds of the run are divided."]
+    say = [f"The machine of this run was {slow:.2f} times as slow as the yardstick's, by which the seconds of the run are divided."]
     say += [f"Seconds of all provers together: {together}."]
     say += [f"**Over their budgets: {over}.**" if over else "None is over its budget." if lacking or unknown else "All are within their budgets."]
     say += [f"Not all known: {', '.join(f'`{name}`' for name in unknown)}."] * bool(unknown)
