@@ -9,6 +9,8 @@ from collections import namedtuple
 HEAD = "| what | figure | aim | script | beside | date |\n|---|---|---|---|---|---|"
 # Whether the figures are to be read by a program.
 RAW = os.environ.get("FIGURES") == "raw"
+# So many nanoseconds less the loop around it tell nothing of a call.
+LEAST = 1
 
 
 def note(text):
@@ -75,12 +77,14 @@ class Table:
             print(f"| {what} | {figure} | {told} | {end}")
 
 
-def run(words, given=os.devnull, taken=os.devnull, status=0, said=()):
+def run(words, given=os.devnull, taken=os.devnull, status=0, said=(), meanwhile=None):
     """Seconds, seconds of the processor, peak memory in bytes, of a run over two files that ends with this status, with more said in its
-    environment. What one that is to fail says on standard error isn't shown."""
+    environment. What one that is to fail says on standard error isn't shown. What is to be done meanwhile is called once it has begun."""
     with open(given) as source, open(taken, "w") as sink:
         start = time.perf_counter()
         child = subprocess.Popen(words, stdin=source, stdout=sink, stderr=None if status == 0 else subprocess.DEVNULL, env={**os.environ, **dict(said)})
+        if meanwhile:
+            meanwhile()
         _, ended, used = os.wait4(child.pid, 0)
         seconds = time.perf_counter() - start
     if os.waitstatus_to_exitcode(ended) != status:
@@ -114,8 +118,11 @@ def timed(program, runs, rounds, keys=1):
 
 
 def add_call(table, what, call, loop, aim=None, parts=1):
-    """A row for a call: what is left of its best round without the loop's own. Where a round has several calls at a time,
-    what each took."""
+    """A row for a call: what is left of its best round without the loop's own. Where a round has several calls at a time, what each took.
+    Where hardly anything is left there is no row, but where it is to be raw."""
     took = (call.least - loop.least) / parts
-    table.add(what, ns(took), None if aim is None else f"at most {aim:,} ns", aim is not None and took <= aim)
     note(f"{what}: round {call.least:.1f} ns, loop {loop.least:.1f}, whole {call.whole:.1f}, folded {' '.join(call.results)}")
+    if took < LEAST and not RAW:
+        note(f"{what}: no row, since {took:.1f} ns is what such a difference scatters by")
+        return
+    table.add(what, ns(took), None if aim is None else f"at most {aim:,} ns", aim is not None and took <= aim)
