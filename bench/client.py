@@ -11,7 +11,6 @@ ROWS = [  # the call, the loop without it, and the aim in nanoseconds, if there 
     ("set_tempo", "one_state", 26),
     ("force_beat", "one_state", 80),
     ("request_beat", "one_state", 150),
-    ("set_quantum", "state_and_number", None),
     ("clicks", "state_and_number", None),
     ("between", "three_states", 15),
     ("from_row", "one_row", 10),

@@ -2,9 +2,10 @@
 # What each operation costs beside a former program, in one run: bench/compare.sh FORMER [SCRIPT ..]. FORMER is another checkout of the
 # repository. Of each script that is named, or of all whose tables are of operations, the program is built twice, of the crates of this
 # checkout and of those of FORMER (JORAZHIL_CRATES of bench/shared.sh); each runs once to warm up, and then both seven times by turns.
-# A row has the medians of what the script tells, and ours over the former one; where a figure has several numbers, of each. JORAZHIL_BUILT
-# keeps the programs, which are built anew else. `midi` and `filter` want the built program of each checkout too, and build what isn't.
-# A script that fails over one of both has no rows, and the status is 1.
+# A row has the medians of what the script tells, and ours over the former one; where a figure has several numbers, of each. What is under a
+# nanosecond is less than such differences scatter by: it has no ratio, and no row where it is so over both. JORAZHIL_BUILT keeps the
+# programs, which are built anew else. `midi` and `filter` want the built program of each checkout too, and build what isn't. A script that
+# fails over one of both has no rows, and the status is 1.
 # shellcheck source=bench/shared.sh
 . "$(dirname "${BASH_SOURCE[0]}")/shared.sh"
 former=$(cd -P -- "${1:?bench/compare.sh takes another checkout}" && pwd)

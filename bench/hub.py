@@ -53,7 +53,7 @@ for name, (shown, _, parts) in SHOWN.items():
     for cell, over in CELLS.items():
         took = fresh[name, cell]
         figure = f"{ns(took)}; {ns(filled[name, cell])}" if name.startswith("turn") and parts[0] == 1 else ns(took)
-        aim = (f"at most {AIM} ns", took <= AIM) if name.startswith("capture_audio") and cell == "triple" else ()
+        aim = (f"at most {AIM} ns", took <= AIM) if name.startswith("capture") and cell == "triple" else ()
         table.add(f"{shown}, {over}{': fresh memory; memory filled before' if ';' in figure else ''}", figure, *aim)
 table.add("an event of a link's journal; one of its published states", f"{event} bytes; {state} bytes")
 for events, which in ((262_144, ""), (524_288, ", the most")):

@@ -6,7 +6,7 @@ from figures import Table, add_call, timed
 table = Table()
 ROUNDS = 100
 ROWS = [  # the call, the loop without it, what is printed, and the aim in nanoseconds
-    ("beat_at", "nothing", "`beat_at`, within 6 days of the origin", 20),
+    ("beat_at", "nothing", "`beat_at`, within 6 days of the origin", 11),
     ("time_at", "nothing", "`time_at`, near", None),
     ("encoded_beat", "nothing", "`encoded_beat`, near", 40),
     ("silent_block", "no_block", "`clicks` of 20,000 microseconds without a beat, near", 100),
