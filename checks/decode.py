@@ -2,8 +2,8 @@
 """Compares the built program's `decode` with a plain reading of the formats: checks/decode.py PROGRAM.
 
 Its datagrams are an alive, a response, a bye, a ping and a pong, each with every single byte changed to 0, to 255 and to its value plus
-one; the first n bytes of the alive for every n; repeated, reordered, unknown and empty entries; sizes that pass the end by far; 512 and 513
-bytes. Beside them the texts that checks/worked.py has for `decode`, with what was worked out by hand. The last line is
+one; the first n bytes of the alive for every n; repeated, reordered, unknown and empty entries; sizes that pass the end by far; two faults
+at once; 512 and 513 bytes. Beside them the texts that checks/worked.py has for `decode`, with what was worked out by hand. The last line is
 'N passed, N failed'.
 """
 import re
@@ -150,6 +150,39 @@ def datagrams():
     for length in (511, 512, 513, 514):
         yield alive + entry(b"fill", bytes(length - len(alive) - 8))
         yield b"_link_v\x01\x01" + bytes(length - 9)
+        yield b"_asdp_v\x01\x09\x05\0\0ABCDEFGH" + bytes(length - 20)
+        yield bytes(length)
+    yield from twice_at_fault(header, timeline, session)
+
+
+def twice_at_fault(header, timeline, session):
+    """Payloads with two faults, of which one is told: sizes, cuts, missing keys, and numbers out of range."""
+    link, cut = b"_link_v\x01\x02", b"mep4\x80\0\0\0"
+
+    def line(mpb, beat, time):
+        return entry(b"tmln", struct.pack(">qqq", mpb, beat, time))
+
+    def start(beats, stamp):
+        return entry(b"stst", b"\x80" + struct.pack(">qq", beats, stamp))
+
+    def numbers(*pairs):
+        return b"".join(entry(key, struct.pack(">q", n)) for key, n in pairs)
+
+    yield header + entry(b"sess", b"ABCDEFG") + cut
+    yield header + session + cut
+    yield header + session + entry(b"stst", bytes(16))
+    yield header + start(LIMIT + 1, 0)
+    yield header + line(0, LIMIT + 1, LIMIT + 2) + session
+    yield header + line(500_000, LIMIT + 1, LIMIT + 2) + session
+    yield header + start(LIMIT + 1, 0) + session + line(500_000, 0, LIMIT + 2)
+    yield header + start(LIMIT + 1, LIMIT + 2) + session + timeline
+    yield header + start(-256, 7) + session + timeline
+    yield link + numbers((b"__ht", LIMIT + 1))
+    yield link + session + numbers((b"__ht", LIMIT + 1))
+    yield link + session + cut + numbers((b"__gt", 257))
+    yield link + numbers((b"_pgt", LIMIT + 1), (b"__ht", LIMIT + 2), (b"__gt", 257)) + session
+    yield link + numbers((b"_pgt", LIMIT + 1), (b"__ht", LIMIT + 2), (b"__gt", -LIMIT - 1)) + session
+    yield link + numbers((b"_pgt", 3), (b"__ht", -2), (b"__gt", 257)) + session
 
 
 def answer(program, text):

@@ -4,12 +4,12 @@
 The scripts are of both versions and drawn from the seed (1 where not given). Long and short stories of a node, in most of them of another
 group than 0: what comes next is drawn with the plain reading beside it, so that moments fall on limits and deadlines, pongs fit the
 measurement that runs and commits the timeline that counts; some messages are of other groups, and in version 2 some commits have a quantum.
-Stories in which measurements end at an exact lead, a session is joined and nothing else changes, tables are full, and an origin is spent.
-Scripts with one change: each word of every kind of line at the ends of its range, past them, misspelled, lost and doubled, and lines lost,
-doubled and exchanged. Stories with a changed word, line or byte, and those of version 1 in which a commit has a quantum. Exit status,
-standard output and, under status 8, the line that standard error names first are compared. The first script that differs is shortened and
-printed. A rule that no story reaches is a failure. Beside them stand the scripts that checks/worked.py has for `replay`, whose answers were
-worked out by hand; the plain reading has to give them too. The last line is 'N passed, N failed'.
+Stories in which measurements end at an exact lead, a session is joined and nothing else changes, tables are full, an origin is spent, and
+many destinations are told. Scripts with one change: each word of every kind of line at the ends of its range, past them, misspelled, lost
+and doubled, and lines lost, doubled and exchanged. Stories with a changed word, line or byte, and those of version 1 in which a commit has
+a quantum. Exit status, standard output and, under status 8, the line that standard error names first are compared. The first script that
+differs is shortened and printed. A rule that no story reaches is a failure. Beside them stand the scripts that checks/worked.py has for
+`replay`, whose answers were worked out by hand; the plain reading has to give them too. The last line is 'N passed, N failed'.
 """
 import random
 import re
@@ -389,6 +389,17 @@ def spent(draw):
     return story
 
 
+def wide(draw):
+    """As many gates as there may be, each with as many destinations: a tick and an end reach them all."""
+    story = Story(draw, gates=4, peers=32, now=draw.randrange(10**9))
+    for session in story.ids[:2]:
+        peer_of(story, session, gate=3)
+    story.event(f"tick {story.now}")
+    story.go(20, ALL)
+    story.end()
+    return story
+
+
 # Scripts with one word, line or byte changed; most of them are broken.
 
 # For each place of a word what may stand there and just not any more; the first of each is what stands there in the whole script.
@@ -577,6 +588,8 @@ def scripts(draw):
         yield from edges(head, body)
     for _ in range(300):
         yield broken(draw)
+    for _ in range(6):
+        yield wide(draw).text()
 
 
 # Comparing.

@@ -1,25 +1,15 @@
-//! Scripts worked out by hand from the rules: what a node tells and sends, event by event.
+//! Scripts worked out by hand from the rules: what a node shows and when it has work next, event by event.
 
 ghost use Rattle.std.specs.Prelude.{◌≡◌, ◌≤◌, length};
 ghost use Rattle.link_node.specs.Config.{config_value, IsConfig};
 
-mod broadcasts;
-mod commits;
-mod due;
-mod founding;
-mod measuring;
-mod script;
-pub mod stage;
-mod states;
-mod taking;
-mod ticks;
+mod stage;
 
-use super::{OPENING, OWN, endpoint, fields, timeline};
+use super::{FIRST, OTHER, OWN, PEER, endpoint};
 use arrayvec::ArrayVec;
-use asdp_messages::write_ping_message;
 use link_node::{Config, GateSetup};
-use link_payload::{PeerFields, PingFields, write_ping};
-use lk_base::{NodeId, SessionStart, Timeline, Wire};
+use lk_base::{LIMIT, NodeId, Timeline};
+use stage::{Step, play};
 
 // One of 100 beats a minute, with a greater beat origin.
 const SLOWER: Timeline = Timeline {
@@ -44,7 +34,7 @@ fn gate_of(gate: u16, destinations: u16) -> GateSetup {
     }
 }
 
-fn config(group: u16, gates: u16, destinations: u16, sync: bool) -> Config
+fn config(gates: u16, destinations: u16) -> Config
     requires { (1 ≤ gates) × (gates ≤ 4) }
     ensures config { IsConfig (config_value result) }
     ensures gates { length result.gates.items ≡ gates }
@@ -57,62 +47,182 @@ fn config(group: u16, gates: u16, destinations: u16, sync: bool) -> Config
         id: OWN,
         seed: 1,
         mpb: 500_000,
-        sync,
-        group,
+        sync: true,
+        group: 0,
         quantum: 4_000_000,
         gates: setups,
     }
 }
 
-// What the node tells on a gate.
-fn told(gate: u8, session: NodeId, timeline: Timeline, start: SessionStart) -> PeerFields {
-    fields(session, timeline, start, port_of(u16::from(gate)))
-}
-
-// A ping of a host time, and of the ghost time of the pong before it.
-fn ping(after: u32, previous: Option<i64>) -> Wire {
-    write_ping_message(&PingFields {
-        host: OPENING + i64::from(after),
-        previous,
-    })
-}
-
-// What such a ping carries.
-fn payload(after: u32, previous: Option<i64>) -> Wire {
-    let mut payload = Wire::new();
-    write_ping(
-        &mut payload,
-        &PingFields {
-            host: OPENING + i64::from(after),
-            previous,
-        },
+#[test]
+fn a_node_opens_alone_with_beat_0(rt: HostRuntime) {
+    play(
+        &rt,
+        rt.alloc(),
+        &[
+            Step::Open(2, 2),
+            Step::Shows(OWN, 500_000, 0, 1_000_000, 0, 0, 1_000_000),
+            Step::HasId(OWN),
+            Step::IsIn(OWN),
+            Step::HasTimeline(500_000, 0, 0),
+            Step::IsAt(1_000_000),
+        ],
     );
-    payload
 }
 
-// The id of a number.
-fn numbered(number: u8) -> NodeId {
-    NodeId([b'N', 0, 0, 0, 0, 0, 0, number])
+#[test]
+fn moments_never_fall(rt: HostRuntime) {
+    play(
+        &rt,
+        rt.alloc(),
+        &[
+            Step::Open(1, 1),
+            Step::Tick(7),
+            Step::IsAt(1_000_007),
+            Step::Tick(3),
+            Step::IsAt(1_000_007),
+            Step::Tick(0),
+            Step::IsAt(1_000_007),
+            Step::Tick(8),
+            Step::IsAt(1_000_008),
+        ],
+    );
 }
 
-// So many bytes, all the same.
-fn bytes_of(count: u8) -> Wire {
-    let mut bytes = Wire::new();
-    for _ in 0..count {
-        let _room = bytes.try_push(b'x');
-    }
-    bytes
+#[test]
+fn what_comes_next_is_due(rt: HostRuntime) {
+    play(
+        &rt,
+        rt.alloc(),
+        &[
+            // Broadcasts are due.
+            Step::Open(1, 1),
+            // There was none yet.
+            Step::IsDue(0),
+            Step::Tick(10),
+            Step::IsDue(250_010),
+            Step::HearPeer(0, PEER, OWN, SLOWER, 20),
+            Step::IsDue(50_010),
+            Step::Tick(50_010),
+            Step::IsDue(300_010),
+            // The limits of rows are due.
+            Step::Open(1, 1),
+            Step::HearPeer(0, PEER, OWN, FIRST, 5),
+            Step::Tick(5_900_000),
+            Step::IsDue(6_000_005),
+            // Seen again it stays longer.
+            Step::HearPeer(0, PEER, OWN, FIRST, 5_900_001),
+            Step::IsDue(6_150_000),
+            // Waiting sessions and deadlines are due.
+            Step::Open(1, 1),
+            Step::Tick(0),
+            Step::HearPeer(0, OTHER, OTHER, FIRST, 30),
+            Step::IsDue(30),
+            Step::Tick(40),
+            Step::IsDue(50_040),
+            // While one is measured, another one waits without being due.
+            Step::HearPeer(0, PEER, PEER, FIRST, 50),
+            Step::IsDue(50_040),
+            // After a silence the next ping is waited for.
+            Step::Tick(50_040),
+            Step::IsDue(100_040),
+        ],
+    );
 }
 
-// A ping with this payload.
-fn ping_of(payload: &Wire) -> Wire {
-    let whole = ping(0, None);
-    let mut bytes = Wire::new();
-    for byte in whole.as_slice().iter().take(9) {
-        let _room = bytes.try_push(*byte);
-    }
-    for byte in payload.as_slice() {
-        let _room = bytes.try_push(*byte);
-    }
-    bytes
+// A timeline of the last beat origin.
+const SPENT: Timeline = Timeline {
+    mpb: 500_000,
+    beat: LIMIT,
+    time: 0,
+};
+
+#[test]
+fn a_commit_s_timeline_is_made_as_of_the_commit_s_own_time(rt: HostRuntime) {
+    play(
+        &rt,
+        rt.alloc(),
+        &[
+            // A new tempo begins at the session's beat.
+            Step::Open(1, 0),
+            // At ghost time 600,000 the session's beat is 1.2. The client's beat 0 is there, so the session's beat 1.2 comes
+            // 720,000 microseconds later.
+            Step::Commit(600_000, 0, 1_600_000, 600_000, 600_000),
+            Step::HasTimeline(600_000, 1_200_000, 1_320_000),
+            Step::Shows(OWN, 600_000, 0, 1_600_000, 0, 1, 1_600_000),
+            // Of two commits at one moment the second begins a microbeat after the first.
+            Step::Open(1, 0),
+            // At ghost time 1,000,000 the session's beat is 2, and so is the client's, whose beat 0 is at ghost time 500,000.
+            Step::Commit(250_000, 0, 1_500_000, 1_000_000, 1_000_000),
+            Step::HasTimeline(250_000, 2_000_000, 1_000_000),
+            Step::Shows(OWN, 250_000, 0, 1_500_000, 0, 1, 2_000_000),
+            // The client's beat 0 is at ghost time 0 again, and its beat 2 and a microbeat at 1,000,000 and a half, which is rounded up.
+            Step::Commit(500_000, 0, 1_000_000, 1_000_000, 1_000_000),
+            Step::HasTimeline(500_000, 2_000_001, 1_000_001),
+            Step::Shows(OWN, 500_000, 0, 1_000_000, 0, 2, 2_000_000),
+            // Other beats alone leave the session as it is.
+            Step::Open(1, 0),
+            // The client's beat 3 is at the session's beat 0.
+            Step::Commit(500_000, 3_000_000, 1_000_000, 600_000, 600_000),
+            Step::HasTimeline(500_000, 0, 0),
+            Step::Shows(OWN, 500_000, 3_000_000, 1_000_000, 0, 1, 1_600_000),
+            // A commit may come later than it was made.
+            Step::Open(1, 0),
+            // It was made at ghost time 600,000, beat 1.2, and comes at 900,000.
+            Step::Commit(600_000, 0, 1_600_000, 600_000, 900_000),
+            Step::HasTimeline(600_000, 1_200_000, 1_320_000),
+            Step::Shows(OWN, 600_000, 0, 1_600_000, 0, 1, 1_900_000),
+            // Nothing is taken where the beat origin is spent.
+            Step::Open(1, 0),
+            Step::HearPeer(0, OTHER, OWN, SPENT, 10),
+            Step::HasTimeline(500_000, LIMIT, 0),
+            // The session's beat 0 is 2^59 microseconds before its ghost time 0, and the client's beat then is clipped.
+            Step::Shows(OWN, 500_000, -LIMIT, 1_000_000 - LIMIT / 2, 1, 0, 1_000_010),
+            Step::Commit(600_000, 0, 1_600_000, 600_000, 600_000),
+            Step::HasTimeline(500_000, LIMIT, 0),
+            Step::Shows(OWN, 500_000, -LIMIT, 1_000_000 - LIMIT / 2, 1, 1, 1_600_000),
+        ],
+    );
+}
+
+// What the generator draws first from the seed 1.
+const DRAWN: NodeId = NodeId(*b">pz1+Yoc");
+
+#[test]
+fn who_is_left_founds_a_session(rt: HostRuntime) {
+    play(
+        &rt,
+        rt.alloc(),
+        &[
+            // A peer on two gates is lost with its later row, and ghost time begins anew then.
+            Step::Open(2, 0),
+            Step::HearPeer(0, PEER, OWN, FIRST, 1_000_000),
+            Step::HearPeer(1, PEER, OWN, FIRST, 2_000_000),
+            Step::HearBye(0, PEER, 3_000_000),
+            Step::Tick(7_999_999),
+            Step::HasId(OWN),
+            Step::Tick(8_000_000),
+            Step::HasId(DRAWN),
+            Step::IsIn(DRAWN),
+            // The ghost time was 8,000,000, which is 16 beats after the origin.
+            Step::HasTimeline(500_000, 16_000_000, 0),
+            // Its beat 0 is at host time 1,000,000 as before, so ghost time is the host time less 9,000,000.
+            Step::Shows(DRAWN, 500_000, 0, 1_000_000, 0, 0, 9_000_000),
+        ],
+    );
+}
+
+#[test]
+fn a_tick_sends_at_most_a_ping_and_alives_to_all(rt: HostRuntime) {
+    play(
+        &rt,
+        rt.alloc(),
+        &[
+            Step::Open(4, 32),
+            Step::HearPeer(3, OTHER, OTHER, FIRST, 7),
+            Step::Sent(1, 159),
+            Step::Tick(8),
+            Step::Sent(129, 31),
+        ],
+    );
 }

@@ -1,16 +1,8 @@
 //! Texts of `link_text`: lines as they are written, scripts as they are read.
 
 mod commands;
-mod control;
-mod explanations;
 mod head;
-mod lines;
-mod live;
 mod load;
-mod readings;
-mod replay;
-mod script;
-mod words;
 mod writing;
 
 use link_text::LineBuf;

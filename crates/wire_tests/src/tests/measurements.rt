@@ -2,10 +2,10 @@
 
 ghost use Rattle.lk_base.specs.Ranges.{IsMoment, IsWithinLimit};
 
-use super::{expect, joined};
+use super::expect;
 use link_payload::{PingFields, PongFields};
 use lk_base::{Endpoint, Gate, LIMIT, MOMENT_MAX, NodeId, Target};
-use ping_measure::{Measure, MeasureFault, Outcome, answer_ping};
+use ping_measure::{Measure, MeasureFault, Outcome};
 use std::process::Abort;
 
 const HERE: Endpoint = Endpoint {
@@ -183,93 +183,11 @@ fn only_the_target_is_heard_and_only_of_the_measured_session(rt: HostRuntime) {
     expect_steps(&rt, &mut measure, STRAYED, 15);
 }
 
-const POINTLESS: &[Step] = &[
-    (Pong(0, 0, 0), 10, Idle, 50_005),
-    (Pong(0, 0, 7), 20, Idle, 50_005),
-    (Pong(0, 7, 0), 30, Idle, 50_005),
-    (Pong(0, 7, 7), 40, Idle, 50_005),
-    (Pong(7, 0, 0), 50, Idle, 50_005),
-    (Pong(7, 0, 7), 60, Idle, 50_005),
-    (Pong(7, 7, 0), 70, Again(Some(7)), 50_070),
-    (Pong(7, 7, 7), 80, Again(Some(7)), 50_080),
-    (Pong(-7, 7, 0), 90, Again(Some(-7)), 50_090),
-    (Pong(7, -7, -7), 100, Again(Some(7)), 50_100),
-    (Tick, 50_099, Idle, 50_100),
-    (Tick, 50_100, Again(None), 100_100),
-];
-
-#[test]
-fn a_pong_without_a_point_is_passed_over(rt: HostRuntime) {
-    expect_steps(&rt, &mut started(5), POINTLESS, 1_000_000);
-}
-
 fn offset_of(outcome: Outcome) -> Option<i64> {
     match outcome {
         Outcome::Done(xform) => Some(xform.offset),
         _ => None,
     }
-}
-
-// How many of such pongs, all alike and at one moment, end a measurement, and the offset then.
-fn repeated(pong: (i64, i64, i64), now: i64) -> Option<(u16, i64)> {
-    let mut measure = started(0);
-    for k in 1..102 {
-        if let Some(offset) = offset_of(hear(&mut measure, pong, now)) {
-            return Some((k, offset));
-        }
-    }
-    None
-}
-
-// A pong and when it comes; how many there are of it, and the offset.
-const ALIKE: &[((i64, i64, i64), i64, (u16, i64))] = &[
-    // 101 points alike: half of one, rounded.
-    ((700, 120, 0), 120_000, (101, -59_360)),
-    ((900, 100, 0), 14, (101, 843)),
-    ((-7, 7, 0), 90, (101, -56)),
-    ((7, -7, 0), 100, (101, -40)),
-    ((5, 5, 0), 0, (101, 3)),
-    // 51 first and 51 second points: a quarter of the sum of one and the other, which are 1686 and 780, -79 and 14, 5 and 0.
-    ((900, 100, 80), 14, (51, 617)),
-    ((7, -7, -7), 100, (51, -16)),
-    ((5, 5, 5), 0, (51, 1)),
-    // Beyond the limits.
-    ((LIMIT, -LIMIT, LIMIT), MOMENT_MAX, (51, LIMIT)),
-    ((-LIMIT, LIMIT, -LIMIT), MOMENT_MAX, (51, -LIMIT)),
-];
-
-// The k-th of a hundred pongs, each as far out as may be, by turns below and above; the first and the last give two points.
-fn outermost(k: u16) -> (i64, i64, i64) {
-    match k {
-        0 => (-LIMIT, LIMIT, -LIMIT),
-        99 => (LIMIT, -LIMIT, LIMIT),
-        _ if k % 2 == 0 => (-LIMIT, LIMIT, 0),
-        _ => (LIMIT, -LIMIT, 0),
-    }
-}
-
-// What a hundred of them tell at last.
-fn outermost_offset() -> Option<i64> {
-    let mut measure = started(0);
-    let mut last = None;
-    for k in 0..100 {
-        last = offset_of(hear(&mut measure, outermost(k), MOMENT_MAX));
-    }
-    last
-}
-
-#[test]
-fn a_pong_gives_its_points_in_half_microseconds(rt: HostRuntime) {
-    for &(pong, now, wanted) in ALIKE {
-        expect(&rt, &pong, &repeated(pong, now), &Some(wanted));
-    }
-    // The middle points are -3 * 2^60 and 3 * 2^60, each less the moment, which is 2^55.
-    expect(
-        &rt,
-        &"outermost",
-        &outermost_offset(),
-        &Some(-MOMENT_MAX / 2),
-    );
 }
 
 // The k-th pong of a peer that is about 5 seconds ahead, which may be the first of its peer, and when it comes.
@@ -381,50 +299,5 @@ fn an_honest_peer_is_measured_within_half_of_the_longest_delay(rt: HostRuntime) 
         let longest = 37 * seed + 1;
         let found = measured(seed, ahead, longest).map(|told| is_near(told, ahead, longest));
         expect(&rt, &seed, &found, &Some(true));
-    }
-}
-
-// It shows a clock that is ahead of its own by twice the longest delay.
-#[test]
-fn a_lying_peer_is_not(rt: HostRuntime) {
-    for seed in 0..20u16 {
-        let ahead = 7_000_001 * i32::from(seed);
-        let longest = 37 * seed + 40;
-        let shown = ahead + 2 * i32::from(longest);
-        let found = measured(seed, shown, longest).map(|told| is_near(told, ahead, longest));
-        expect(&rt, &seed, &found, &Some(false));
-    }
-}
-
-// What stands before the echo of a ping.
-const ANSWER: &[u8] = b"_link_v\x01\x02sess\0\0\0\x08QRSTUVWX__gt\0\0\0\x08\0\0\0\0\0\0\0\xfa";
-
-// The payload of a ping, and whether it is answered.
-const PINGS: &[(&[u8], bool)] = &[
-    (b"__ht\0\0\0\x08\0\0\0\0\0\0\x03\xe8", true),
-    (&[], true),
-    (&[7], true),
-    (&[7; 32], true),
-    (&[7; 33], false),
-    (&[7; 200], false),
-];
-
-fn expect_answer(rt: &impl Abort, payload: &[u8], wanted: bool) {
-    let answer = answer_ping(payload, NodeId(*b"QRSTUVWX"), 250);
-    expect(rt, &payload, &answer.is_some(), &wanted);
-    if let Some(wire) = answer {
-        expect(
-            rt,
-            &"answer",
-            &wire.as_slice(),
-            &joined(&[ANSWER, payload]).as_slice(),
-        );
-    }
-}
-
-#[test]
-fn a_ping_of_up_to_32_bytes_is_answered(rt: HostRuntime) {
-    for &(payload, wanted) in PINGS {
-        expect_answer(&rt, payload, wanted);
     }
 }

@@ -252,6 +252,18 @@ const LIMITS: &[Step] = &[
     Prune(6_000_000, 1),
     Rows(1),
     Row(0, 6_500_000, 1, 73),
+    // those of one limit by gate, and then by id
+    Saw(1, 71, 5, 72, None, 500_000, Seen::New),
+    Saw(0, 74, 5, 72, None, 500_000, Seen::New),
+    Saw(0, 70, 5, 72, None, 500_000, Seen::New),
+    Rows(4),
+    Row(0, 6_500_000, 0, 70),
+    Row(1, 6_500_000, 0, 74),
+    Row(2, 6_500_000, 1, 71),
+    Row(3, 6_500_000, 1, 73),
+    Bye(0, 74, true),
+    Rows(3),
+    Row(1, 6_500_000, 1, 71),
 ];
 
 #[test]

@@ -1,7 +1,6 @@
 //! The sessions that are known, step by step: which timeline counts, which session wins, and the order of the others.
 
 ghost use Rattle.lk_base.specs.Timeline.{IsTidy};
-ghost use Rattle.session_choice.specs.Table.{HasTidyTimelines};
 
 use super::expect;
 use ghost_xform::XForm;
@@ -32,116 +31,78 @@ fn at(beat: i64) -> Timeline
     }
 }
 
-// Another one with the same beat origin, of 100 beats a minute.
-fn slower_at(beat: i64) -> Timeline
-    ensures { IsTidy result }
-{
-    Timeline {
-        mpb: 600_000,
-        beat: beat.clamp(-LIMIT, LIMIT),
-        time: 4,
-    }
-}
-
 // The current session alone, with the origin 0.
 fn alone(alloc: Global) -> Result<Sessions, AllocError> {
     Sessions::new(alloc, CURRENT, at(0), HELD)
 }
 
-// What a session holds, what is seen of it then, and the answer.
-const COUNTS: &[(i64, i64, Saw)] = &[
-    (0, 0, Saw::Kept),
-    (0, -1, Saw::Kept),
-    (0, 1, Saw::Taken),
-    (-5, -5, Saw::Kept),
-    (-5, -6, Saw::Kept),
-    (-5, -4, Saw::Taken),
-    (-1, 1, Saw::Taken),
-    (1, -1, Saw::Kept),
-    (0, LIMIT, Saw::Taken),
-    (LIMIT - 1, LIMIT, Saw::Taken),
-    (LIMIT, LIMIT, Saw::Kept),
-    (LIMIT, LIMIT - 1, Saw::Kept),
-    (LIMIT, -LIMIT, Saw::Kept),
-    (-LIMIT, -LIMIT, Saw::Kept),
-    (-LIMIT, LIMIT, Saw::Taken),
-];
-
-// Of the first and the second timeline of a session that one counts which the answer tells.
-fn expect_counts(
-    rt: &impl Abort,
-    sessions: &mut Sessions,
-    session: NodeId,
-    &(before, after, answer): &(i64, i64, Saw),
-) {
-    sessions.reset(CURRENT, at(before), HELD);
-    sessions.saw(session, at(before));
-    let found = sessions.saw(session, slower_at(after));
-    let counts = match answer {
-        Saw::Taken => slower_at(after),
-        _ => at(before),
-    };
-    let told = (found, sessions.timeline_of(session));
-    expect(
-        rt,
-        &(session, before, after),
-        &told,
-        &(answer, Some(counts)),
-    );
-}
-
-#[test]
-fn a_timeline_counts_where_its_beat_origin_is_greater(rt: HostRuntime) -> Result<(), Fail> {
-    let mut sessions = alone(rt.alloc())?;
-    for row in COUNTS {
-        expect_counts(&rt, &mut sessions, CURRENT, row);
-        expect_counts(&rt, &mut sessions, id(b'A'), row);
-    }
-    Ok(())
-}
-
-// Another session, its lead, and whether it is joined.
-const LEADS: &[([u8; 8], i64, bool)] = &[
-    (*b"AAAAAAAA", 500_001, true),
-    (*b"ZZZZZZZZ", 500_001, true),
-    (*b"AAAAAAAA", 500_000, false),
-    (*b"ZZZZZZZZ", 500_000, false),
-    (*b"AAAAAAAA", 499_999, true),
-    (*b"ZZZZZZZZ", 499_999, false),
-    (*b"AAAAAAAA", 0, true),
-    (*b"ZZZZZZZZ", 0, false),
-    (*b"AAAAAAAA", -1, true),
-    (*b"AAAAAAAA", -499_999, true),
-    (*b"ZZZZZZZZ", -499_999, false),
-    (*b"AAAAAAAA", -500_000, false),
-    (*b"ZZZZZZZZ", -500_000, false),
-    (*b"AAAAAAAA", -500_001, false),
-    (*b"AAAAAAAA", -86_400_000_000, false),
-    (*b"ZZZZZZZZ", 86_400_000_000, true),
+// Another session, the current one's offset, by how much the other's is greater, the moment, and whether it is joined.
+const LEADS: &[([u8; 8], i64, i64, i64, bool)] = &[
+    (*b"AAAAAAAA", -7, 500_001, 1_000_000, true),
+    (*b"ZZZZZZZZ", -7, 500_001, 1_000_000, true),
+    (*b"AAAAAAAA", -7, 500_000, 1_000_000, false),
+    (*b"ZZZZZZZZ", -7, 500_000, 1_000_000, false),
+    (*b"AAAAAAAA", -7, 499_999, 1_000_000, true),
+    (*b"ZZZZZZZZ", -7, 499_999, 1_000_000, false),
+    (*b"AAAAAAAA", -7, 0, 1_000_000, true),
+    (*b"ZZZZZZZZ", -7, 0, 1_000_000, false),
+    (*b"AAAAAAAA", -7, -1, 1_000_000, true),
+    (*b"AAAAAAAA", -7, -499_999, 1_000_000, true),
+    (*b"ZZZZZZZZ", -7, -499_999, 1_000_000, false),
+    (*b"AAAAAAAA", -7, -500_000, 1_000_000, false),
+    (*b"ZZZZZZZZ", -7, -500_000, 1_000_000, false),
+    (*b"AAAAAAAA", -7, -500_001, 1_000_000, false),
+    (*b"AAAAAAAA", -7, -86_400_000_000, 1_000_000, false),
+    (*b"ZZZZZZZZ", -7, 86_400_000_000, 1_000_000, true),
     // The first byte that differs decides, and bytes have no sign.
-    (*b"MMMMMMML", 0, true),
-    (*b"MMMMMMMN", 0, false),
-    (*b"LZZZZZZZ", 0, true),
-    (*b"NAAAAAAA", 0, false),
-    ([200; 8], 0, false),
-    ([0; 8], 0, true),
+    (*b"MMMMMMML", -7, 0, 1_000_000, true),
+    (*b"MMMMMMMN", -7, 0, 1_000_000, false),
+    (*b"LZZZZZZZ", -7, 0, 1_000_000, true),
+    (*b"NAAAAAAA", -7, 0, 1_000_000, false),
+    ([200; 8], -7, 0, 1_000_000, false),
+    ([0; 8], -7, 0, 1_000_000, true),
+    // Ghost times are clipped before they are compared.
+    (*b"ZZZZZZZZ", LIMIT, 1_000_000, 0, false),
+    (*b"AAAAAAAA", LIMIT, 1_000_000, 0, true),
+    (*b"ZZZZZZZZ", LIMIT - 500_000, 1_500_000, 0, false),
+    (*b"AAAAAAAA", LIMIT - 500_000, 1_500_000, 0, false),
+    (*b"ZZZZZZZZ", LIMIT - 500_001, 1_500_001, 0, true),
+    (*b"AAAAAAAA", -LIMIT, -1_000_000, 0, true),
+    (
+        *b"AAAAAAAA",
+        i64::MAX - 1_000_000,
+        1_000_000,
+        i64::MAX,
+        true,
+    ),
+    (
+        *b"ZZZZZZZZ",
+        i64::MAX - 1_000_000,
+        1_000_000,
+        i64::MAX,
+        false,
+    ),
+    // From the greatest offset to the least, and back.
+    (*b"AAAAAAAA", i64::MAX, 1, 0, false),
+    (*b"ZZZZZZZZ", i64::MIN, -1, 0, true),
+    (*b"ZZZZZZZZ", i64::MIN, -1, i64::MIN, true),
 ];
 
 // Another session is joined, or the current one stays, by this lead. Both stay known.
 fn expect_led(
     rt: &impl Abort,
     sessions: &mut Sessions,
-    &(other, lead, joins): &([u8; 8], i64, bool),
+    &(other, held, lead, now, joins): &([u8; 8], i64, i64, i64, bool),
 ) {
     let session = NodeId(other);
-    let offset = HELD.offset.saturating_add(lead);
-    sessions.reset(CURRENT, at(5), HELD);
+    let offset = held.wrapping_add(lead);
+    sessions.reset(CURRENT, at(5), XForm { offset: held });
     sessions.saw(session, at(2));
-    let verdict = sessions.measured(session, XForm { offset }, 1_000_000);
+    let verdict = sessions.measured(session, XForm { offset }, now);
     let wanted = if joins {
         (Verdict::Joined, session, at(2), offset)
     } else {
-        (Verdict::Stayed, CURRENT, at(5), HELD.offset)
+        (Verdict::Stayed, CURRENT, at(5), held)
     };
     let current = sessions.current();
     let found = (
@@ -164,38 +125,6 @@ fn a_session_wins_by_its_lead_or_by_its_id(rt: HostRuntime) -> Result<(), Fail> 
     let mut sessions = alone(rt.alloc())?;
     for row in LEADS {
         expect_led(&rt, &mut sessions, row);
-    }
-    Ok(())
-}
-
-// The other session, the current offset, the other one, the moment, and whether it is joined.
-const CLIPPED: &[(u8, i64, i64, i64, bool)] = &[
-    (b'Z', LIMIT, LIMIT + 1_000_000, 0, false),
-    (b'A', LIMIT, LIMIT + 1_000_000, 0, true),
-    (b'Z', LIMIT - 500_000, LIMIT + 1_000_000, 0, false),
-    (b'A', LIMIT - 500_000, LIMIT + 1_000_000, 0, false),
-    (b'Z', LIMIT - 500_001, LIMIT + 1_000_000, 0, true),
-    (b'A', -LIMIT, -LIMIT - 1_000_000, 0, true),
-    (b'A', i64::MAX, i64::MIN, 0, false),
-    (b'Z', i64::MIN, i64::MAX, 0, true),
-    (b'Z', i64::MIN, i64::MAX, i64::MIN, true),
-    (b'A', i64::MAX - 1_000_000, i64::MAX, i64::MAX, true),
-    (b'Z', i64::MAX - 1_000_000, i64::MAX, i64::MAX, false),
-];
-
-fn expect_clipped(rt: &impl Abort, sessions: &mut Sessions, row: &(u8, i64, i64, i64, bool)) {
-    let &(byte, held, offset, now, joins) = row;
-    sessions.reset(CURRENT, at(0), XForm { offset: held });
-    sessions.saw(id(byte), at(0));
-    let verdict = sessions.measured(id(byte), XForm { offset }, now);
-    expect(rt, row, &(verdict == Verdict::Joined), &joins);
-}
-
-#[test]
-fn ghost_times_are_clipped_before_they_are_compared(rt: HostRuntime) -> Result<(), Fail> {
-    let mut sessions = alone(rt.alloc())?;
-    for row in CLIPPED {
-        expect_clipped(&rt, &mut sessions, row);
     }
     Ok(())
 }
@@ -324,28 +253,17 @@ fn the_current_session_is_remeasured_and_a_stranger_unknown(rt: HostRuntime) -> 
     Ok(())
 }
 
-const CROWDED: &[Step] = &[
+// Of a full table one is joined and one forgotten. The old session stands where the joined one stood: the 31st, less the one that was
+// forgotten.
+const ROOM: &[Step] = &[
     Crowd,
     // A full table still takes the timelines of those that are known.
     Step::Saw(164, 9, Saw::Full),
     Step::Saw(163, 2, Saw::Taken),
     Step::Saw(100, 1, Saw::Kept),
     Step::Saw(b'M', 1, Saw::Taken),
-    Step::Saw(164, 9, Saw::Full),
-    Others(64),
     Counts(164, None),
-];
-
-#[test]
-fn sixty_four_others_are_known_and_no_more(rt: HostRuntime) -> Result<(), Fail> {
-    play(&rt, rt.alloc(), CROWDED)?;
-    Ok(())
-}
-
-// Of a full table one is joined and one forgotten. The old session stands where the joined one stood: the 31st, less the one that was
-// forgotten.
-const ROOM: &[Step] = &[
-    Crowd,
+    Others(64),
     Measured(130, 900_000, Verdict::Joined),
     Step::Saw(164, 9, Saw::Full),
     Forget(100, true),
@@ -361,7 +279,7 @@ const ROOM: &[Step] = &[
 ];
 
 #[test]
-fn the_room_of_a_forgotten_session_is_free(rt: HostRuntime) -> Result<(), Fail> {
+fn sixty_four_others_are_known_and_no_more(rt: HostRuntime) -> Result<(), Fail> {
     play(&rt, rt.alloc(), ROOM)?;
     Ok(())
 }
@@ -449,58 +367,5 @@ const RESET: &[Step] = &[
 #[test]
 fn a_reset_leaves_one_session(rt: HostRuntime) -> Result<(), Fail> {
     play(&rt, rt.alloc(), RESET)?;
-    Ok(())
-}
-
-// Commits the timeline that counts.
-fn commit_held(sessions: &mut Sessions)
-    requires { HasTidyTimelines sessions.old }
-{
-    let held = sessions.current().timeline;
-    sessions.commit(held);
-}
-
-// Commits a timeline where its beat origin is greater than that of the one that counts.
-fn commit_later(sessions: &mut Sessions, next: Timeline) -> bool
-    requires { IsTidy next }
-{
-    let held = sessions.current().timeline;
-    if held.beat < next.beat {
-        sessions.commit(next);
-        return true;
-    }
-    false
-}
-
-// The origin that is committed after 0, the one that is seen then, and the answer.
-const COMMITTED: &[(i64, i64, Saw)] = &[
-    (1, 1, Saw::Kept),
-    (1, 0, Saw::Kept),
-    (1, 2, Saw::Taken),
-    (LIMIT, LIMIT, Saw::Kept),
-];
-
-// Commits the timeline of the origin 0, another one, and sees a third with this answer.
-fn expect_committed(
-    rt: &impl Abort,
-    sessions: &mut Sessions,
-    &(beat, after, answer): &(i64, i64, Saw),
-) {
-    sessions.reset(CURRENT, at(0), HELD);
-    commit_held(sessions);
-    expect(rt, &beat, &sessions.timeline_of(CURRENT), &Some(at(0)));
-    let next = slower_at(beat);
-    let later = commit_later(sessions, next);
-    let counts = sessions.timeline_of(CURRENT);
-    let found = (later, counts, sessions.saw(CURRENT, at(after)));
-    expect(rt, &beat, &found, &(true, Some(next), answer));
-}
-
-#[test]
-fn a_committed_timeline_counts(rt: HostRuntime) -> Result<(), Fail> {
-    let mut sessions = alone(rt.alloc())?;
-    for row in COMMITTED {
-        expect_committed(&rt, &mut sessions, row);
-    }
     Ok(())
 }

@@ -1,13 +1,11 @@
-//! The lines of scripts and of replays, as they are written.
+//! The lines of scripts, as they are written.
 
 use super::expect_line;
 use crate::tests::expect;
 use arrayvec::ArrayVec;
-use client_state::{Commit, State};
-use link_node::{Config, Event, GateSetup, Sending};
-use link_text::{
-    LineBuf, write_done_line, write_event, write_head, write_sending, write_state_line,
-};
+use client_state::Commit;
+use link_node::{Config, Event, GateSetup};
+use link_text::{LineBuf, write_event, write_head};
 use lk_base::{ClientStart, Endpoint, Gate, NodeId, Timeline, Wire};
 use std::process::Abort;
 
@@ -35,202 +33,11 @@ const HIGHEST: Endpoint = Endpoint {
     port: 65_535,
 };
 
-/// A state before anything happened.
-const FIRST: State = State {
-    timeline: Timeline {
-        mpb: 500_000,
-        beat: 0,
-        time: 0,
-    },
-    start: ClientStart {
-        playing: false,
-        time: 0,
-        stamp: 0,
-    },
-    sync: false,
-    peers: 0,
-    moment: 0,
-    app: 0,
-    audio: 0,
-    session: NodeId(*b"QRSTUVWX"),
-    quantum: 4_000_000,
-};
-
-/// A state with numbers of its own in every place.
-const LATER: State = State {
-    timeline: Timeline {
-        mpb: 60_060,
-        beat: -LIMIT,
-        time: -1,
-    },
-    start: ClientStart {
-        playing: true,
-        time: -20,
-        stamp: 300,
-    },
-    sync: true,
-    peers: 4_294_967_295,
-    moment: LAST,
-    app: 1_152_921_504_606_846_975,
-    audio: 9,
-    session: NodeId(*b"\x00\x01\xfe\xff\xaf\x10 ~"),
-    quantum: 1_099_511_627_776,
-};
-
-/// The first with sync.
-const SHARED: State = State {
-    sync: true,
-    ..FIRST
-};
-
-/// That one after a commit of a quantum.
-const BARRED: State = State {
-    app: 1,
-    quantum: 3_000_000,
-    ..SHARED
-};
-
-/// The first with the least moment and the greatest number of commits that words have room for.
-const LEAST: State = State {
-    moment: -9_223_372_036_854_775_808,
-    app: 18_446_744_073_709_551_615,
-    quantum: -9_223_372_036_854_775_808,
-    ..FIRST
-};
-
-// Fails where a state of a number is told otherwise in a version than by a row's line.
-fn expect_states(rt: &impl Abort, version: u8, rows: &[(u64, State, &[u8])]) {
-    for (row, (number, state, wanted)) in rows.iter().enumerate() {
-        let mut line = LineBuf::new();
-        write_state_line(&mut line, version, *number, state);
-        expect_line(rt, row, &line, wanted);
-    }
-}
-
-#[test]
-fn a_state_is_told_by_its_number_and_its_words(rt: HostRuntime) {
-    expect_states(
-        &rt,
-        1,
-        &[
-            (0, FIRST, b"state 0 500000 0 0 0 0 0 0 0 0 0 0\n"),
-            (
-                18_446_744_073_709_551_615,
-                LATER,
-                b"state 18446744073709551615 60060 -1152921504606846976 -1 1 -20 300 1 4294967295 36028797018963968 1152921504606846975 9\n",
-            ),
-            (1, SHARED, b"state 1 500000 0 0 0 0 0 1 0 0 0 0\n"),
-            (
-                2,
-                LEAST,
-                b"state 2 500000 0 0 0 0 0 0 0 -9223372036854775808 18446744073709551615 0\n",
-            ),
-        ],
-    );
-    expect_states(
-        &rt,
-        2,
-        &[
-            (
-                0,
-                SHARED,
-                b"state 0 500000 0 0 0 0 0 1 0 0 0 0 5152535455565758 4000000\n",
-            ),
-            (
-                1,
-                BARRED,
-                b"state 1 500000 0 0 0 0 0 1 0 0 1 0 5152535455565758 3000000\n",
-            ),
-            (
-                18_446_744_073_709_551_615,
-                LATER,
-                b"state 18446744073709551615 60060 -1152921504606846976 -1 1 -20 300 1 4294967295 36028797018963968 1152921504606846975 9 \
-0001feffaf10207e 1099511627776\n",
-            ),
-            (
-                2,
-                LEAST,
-                b"state 2 500000 0 0 0 0 0 0 0 -9223372036854775808 18446744073709551615 0 5152535455565758 -9223372036854775808\n",
-            ),
-        ],
-    );
-}
-
-// Fails where a last line is told otherwise than a row's.
-fn expect_dones(rt: &impl Abort, rows: &[(u64, u64, u64, &[u8])]) {
-    for (row, (events, states, sends, wanted)) in rows.iter().enumerate() {
-        let mut line = LineBuf::new();
-        write_done_line(&mut line, *events, *states, *sends);
-        expect_line(rt, row, &line, wanted);
-    }
-}
-
-#[test]
-fn the_last_line_tells_events_states_and_sendings(rt: HostRuntime) {
-    expect_dones(
-        &rt,
-        &[
-            (0, 1, 0, b"done 0 1 0\n"),
-            (10, 9, 100, b"done 10 9 100\n"),
-            (
-                18_446_744_073_709_551_615,
-                18_446_744_073_709_551_615,
-                18_446_744_073_709_551_615,
-                b"done 18446744073709551615 18446744073709551615 18446744073709551615\n",
-            ),
-        ],
-    );
-}
-
 /// A datagram of these bytes.
 fn wire(bytes: &[u8]) -> Wire {
     let mut wire = Wire::new();
     let _all = wire.try_extend_from_slice(bytes);
     wire
-}
-
-// Fails where a sending is told otherwise than by a row's line.
-fn expect_sendings(rt: &impl Abort, rows: &[(i64, u8, Endpoint, &[u8], &[u8])]) {
-    for (row, (now, gate, to, bytes, wanted)) in rows.iter().enumerate() {
-        let sending = Sending {
-            gate: Gate(*gate),
-            to: *to,
-            bytes: wire(bytes),
-        };
-        let mut line = LineBuf::new();
-        write_sending(&mut line, *now, &sending);
-        expect_line(rt, row, &line, wanted);
-    }
-}
-
-#[test]
-fn a_sending_is_told_by_its_moment_gate_endpoint_and_bytes(rt: HostRuntime) {
-    expect_sendings(
-        &rt,
-        &[
-            (
-                0,
-                0,
-                THERE,
-                b"_asdp",
-                b"tx 0 0 224.76.78.75:20808 5f61736470\n",
-            ),
-            (
-                LAST,
-                255,
-                HIGHEST,
-                b"\x00\x0a\xff",
-                b"tx 36028797018963968 255 255.255.255.255:65535 000aff\n",
-            ),
-            (
-                -LIMIT,
-                3,
-                Endpoint { addr: 0, port: 0 },
-                b"\x80",
-                b"tx -1152921504606846976 3 0.0.0.0:0 80\n",
-            ),
-        ],
-    );
 }
 
 // Fails where a datagram that came is told otherwise than by a row's line.
@@ -332,26 +139,18 @@ const COUNTED: Commit = Commit {
     ..NONE
 };
 
-// Fails where an application's commit is told otherwise than by a row's line.
-fn expect_apps(rt: &impl Abort, rows: &[(i64, Commit, &[u8])]) {
-    for (row, (now, commit, wanted)) in rows.iter().enumerate() {
-        let event = Event::App {
-            commit: *commit,
-            now: *now,
-        };
-        let mut line = LineBuf::new();
-        write_event(&mut line, &event);
-        expect_line(rt, row, &line, wanted);
-    }
-}
-
-// Fails where the audio thread's commit of a number is told otherwise than by a row's line.
-fn expect_audios(rt: &impl Abort, rows: &[(i64, u64, Commit, &[u8])]) {
+// Fails where a commit is told otherwise than by a row's line: the audio thread's of a number, an application's where that is 0.
+fn expect_commits(rt: &impl Abort, rows: &[(i64, u64, Commit, &[u8])]) {
     for (row, (now, number, commit, wanted)) in rows.iter().enumerate() {
-        let event = Event::Audio {
-            number: *number,
-            commit: *commit,
-            now: *now,
+        let (commit, number, now) = (*commit, *number, *now);
+        let event = if number == 0 {
+            Event::App { commit, now }
+        } else {
+            Event::Audio {
+                number,
+                commit,
+                now,
+            }
         };
         let mut line = LineBuf::new();
         write_event(&mut line, &event);
@@ -361,32 +160,30 @@ fn expect_audios(rt: &impl Abort, rows: &[(i64, u64, Commit, &[u8])]) {
 
 #[test]
 fn a_commit_is_told_by_what_it_carries(rt: HostRuntime) {
-    expect_apps(
+    expect_commits(
         &rt,
         &[
-            (5, NONE, b"app 5 -7\n"),
+            (5, 0, NONE, b"app 5 -7\n"),
             (
                 5,
+                0,
                 MOVED,
                 b"app 5 6 t 3000000 1152921504606846976 -1152921504606846976\n",
             ),
-            (5, STOPPED, b"app 5 6 s 0 3 -4\n"),
+            (5, 0, STOPPED, b"app 5 6 s 0 3 -4\n"),
             (
                 5,
+                0,
                 BEGUN,
                 b"app 5 6 t 3000000 1152921504606846976 -1152921504606846976 s 0 3 -4\n",
             ),
-            (5, COUNTED, b"app 5 -7 q 0\n"),
+            (5, 0, COUNTED, b"app 5 -7 q 0\n"),
             (
                 5,
+                0,
                 EDITED,
                 b"app 5 6 t 3000000 1152921504606846976 -1152921504606846976 s 0 3 -4 q 1099511627776\n",
             ),
-        ],
-    );
-    expect_audios(
-        &rt,
-        &[
             (0, 1, NONE, b"audio 0 1 -7\n"),
             (
                 LAST,
@@ -457,8 +254,14 @@ fn four_gates() -> Config {
     }
 }
 
-// Fails where the lines of a head aren't these.
-fn expect_head(rt: &impl Abort, line: &mut LineBuf, config: &Config, now: i64, lines: &[&[u8]]) {
+/// Fails where the lines of a head aren't these.
+pub fn expect_head(
+    rt: &impl Abort,
+    line: &mut LineBuf,
+    config: &Config,
+    now: i64,
+    lines: &[&[u8]],
+) {
     let mut k = 0u32;
     for wanted in lines {
         expect(rt, k as usize, &write_head(line, config, now, k), &true);
@@ -507,42 +310,4 @@ fn a_head_is_told_line_by_line_and_ends(rt: HostRuntime) {
         &[13, 14, 4_294_967_295],
         b"to 127.0.0.1:20808\n",
     );
-}
-
-// One gate without destinations.
-fn one_gate() -> Config {
-    let mut gates = ArrayVec::new();
-    let _only = gates.try_push(GateSetup {
-        local: HERE,
-        peers: ArrayVec::new(),
-    });
-    Config {
-        id: NodeId(*b"abcdefgh"),
-        seed: 0,
-        mpb: 60_060,
-        sync: false,
-        group: 0,
-        quantum: 4_000_000,
-        gates,
-    }
-}
-
-#[test]
-fn the_head_of_one_gate_has_five_lines(rt: HostRuntime) {
-    let config = one_gate();
-    let mut line = LineBuf::new();
-    expect_head(
-        &rt,
-        &mut line,
-        &config,
-        0,
-        &[
-            b"replay 2\n",
-            b"node abcdefgh 0 60060 0 0\n",
-            b"group 0\n",
-            b"quantum 4000000\n",
-            b"gate 127.0.0.1:20808\n",
-        ],
-    );
-    expect_past(&rt, &mut line, &config, &[5], b"gate 127.0.0.1:20808\n");
 }

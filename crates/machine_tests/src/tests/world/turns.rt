@@ -1,8 +1,8 @@
 //! Scripts of two peers who meet, with further turns between theirs and behind them.
 
 use super::{endpoint_of, hear, world_of};
-use crate::tests::node::stage::founder;
-use crate::tests::{OPENING, OWN, wire_of};
+use crate::tests::{FIRST, OPENING, OWN, STILL, fields, wire_of};
+use asdp_messages::write_alive;
 use client_state::Commit;
 use link_node::Event;
 use link_world::{Turn, World};
@@ -46,7 +46,7 @@ fn event_of(row: &Row) -> Event {
         Row::Datagram(_, now) => Event::Rx {
             gate: Gate(0),
             from: endpoint_of(0),
-            bytes: wire_of(&founder(OWN, 20_000)),
+            bytes: wire_of(&write_alive(OWN, 0, &fields(OWN, FIRST, STILL, 20_000))),
             now: *now,
         },
         Row::App(_, mpb, now) => Event::App {
