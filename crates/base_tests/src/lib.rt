@@ -1,5 +1,5 @@
-//! The tests of the lowest crates, `lk_base`, `lk_outside`, `timeline_math`, `ghost_xform`, `link_hostfilter`, `client_state` and
-//! `link_midi`, over their public calls.
+//! The tests of the lowest crates, `lk_base`, `lk_outside`, `timeline_math`, `ghost_xform`, `link_hostfilter` and `client_state`, over
+//! their public calls.
 #![tactic(auto)]
 
 #[cfg(test)]

@@ -9,11 +9,9 @@ mod conversions;
 mod filter;
 mod ids;
 mod lines;
-mod midi;
 mod numbers;
 mod offsets;
 mod outside;
-mod random;
 mod rows;
 mod states;
 

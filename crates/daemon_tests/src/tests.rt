@@ -5,6 +5,5 @@ mod control;
 mod cut;
 mod faults;
 mod live;
-mod live_words;
 mod rows;
 mod runs;

@@ -1,6 +1,8 @@
 //! Edits of a state, and its clicks, by exact fractions.
 
 ghost use Rattle.std.specs.Prelude.{◌≡◌};
+ghost use Rattle.lk_base.specs.Ranges.{IsQuantum, IsWithinLimit};
+ghost use Rattle.lk_base.specs.Timeline.{IsTidy};
 
 use super::clicks::{a_block, expect_found};
 use super::{LONGEST, a_place, a_quantum, a_timeline, expect, start, timeline};
@@ -187,10 +189,18 @@ pub(super) fn state(tl: Timeline, peers: u32) -> State
 // Sets the tempo, and expects this timeline and all else as it was.
 fn expect_tempo(rt: &impl Abort, row: &[i64; 8]) {
     let [mpb, beat, time, set, at, want_mpb, want_beat, want_time] = *row;
-    let mut now = state(a_timeline(rt, mpb, beat, time), 2);
-    now.set_tempo(set, a_place(rt, at));
+    let found = tempo_set(a_timeline(rt, mpb, beat, time), set, a_place(rt, at));
     let wanted = timeline(want_mpb, want_beat, want_time);
-    expect(rt, row, &now, &state(wanted, 2));
+    expect(rt, row, &found, &state(wanted, 2));
+}
+
+fn tempo_set(tl: Timeline, set: i64, at: i64) -> State
+    requires tl { IsTidy tl }
+    requires at { IsWithinLimit at }
+{
+    let mut now = state(tl, 2);
+    now.set_tempo(set, at);
+    now
 }
 
 // Forces the beat, with a peer, and expects all but the timeline as it was.
@@ -199,35 +209,67 @@ fn expect_forced(rt: &impl Abort, row: &[i64; 10]) {
         mpb,
         beat,
         time,
-        forced,
+        asked,
         at,
         quantum,
         want_beat,
         want_time,
-        _,
-        _,
+        ..
     ] = *row;
-    let mut now = state(a_timeline(rt, mpb, beat, time), 1);
-    now.force_beat(a_place(rt, forced), a_place(rt, at), a_quantum(rt, quantum));
+    let tl = a_timeline(rt, mpb, beat, time);
+    let found = forced(
+        tl,
+        a_place(rt, asked),
+        a_place(rt, at),
+        a_quantum(rt, quantum),
+    );
     expect(
         rt,
         row,
-        &now,
+        &found,
         &state(timeline(mpb, want_beat, want_time), 1),
     );
+}
+
+fn forced(tl: Timeline, beat: i64, at: i64, quantum: i64) -> State
+    requires tl { IsTidy tl }
+    requires beat { IsWithinLimit beat }
+    requires at { IsWithinLimit at }
+    requires quantum { IsQuantum quantum }
+{
+    let mut now = state(tl, 1);
+    now.force_beat(beat, at, quantum);
+    now
 }
 
 // Requests the beat with so many peers, and expects these origins and all else as it was.
 fn expect_requested(rt: &impl Abort, row: &[i64; 10], peers: u32, want_beat: i64, want_time: i64) {
     let [mpb, beat, time, asked, at, quantum, ..] = *row;
-    let mut now = state(a_timeline(rt, mpb, beat, time), peers);
-    now.request_beat(a_place(rt, asked), a_place(rt, at), a_quantum(rt, quantum));
+    let tl = a_timeline(rt, mpb, beat, time);
+    let found = requested(
+        tl,
+        peers,
+        a_place(rt, asked),
+        a_place(rt, at),
+        a_quantum(rt, quantum),
+    );
     expect(
         rt,
         row,
-        &now,
+        &found,
         &state(timeline(mpb, want_beat, want_time), peers),
     );
+}
+
+fn requested(tl: Timeline, peers: u32, beat: i64, at: i64, quantum: i64) -> State
+    requires tl { IsTidy tl }
+    requires beat { IsWithinLimit beat }
+    requires at { IsWithinLimit at }
+    requires quantum { IsQuantum quantum }
+{
+    let mut now = state(tl, peers);
+    now.request_beat(beat, at, quantum);
+    now
 }
 
 // The clicks of the first second of a state that plays from that time on, or doesn't play.

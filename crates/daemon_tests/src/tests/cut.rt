@@ -23,9 +23,19 @@ const CUTS: &[(u8, &str)] = &[
 
 #[test]
 fn an_alive_is_cut_at_each_byte(rt: HostRuntime) -> Result<(), Fail> {
-    let text = answer_to(&rt, rt.alloc(), "decode", &fronts(rt.alloc())?)?;
-    assert!(rt; text == cut_answers(rt.alloc())?);
+    assert!(rt; are_told_cut(&rt, rt.alloc())?);
     Ok(())
+}
+
+fn are_told_cut<R: Threads + Wait + Sync>(rt: &R, alloc: Global) -> Result<bool, AllocError> {
+    let text = told_of_fronts(rt, alloc)?;
+    let wanted = cut_answers(alloc)?;
+    Ok(text.as_slice() == wanted.as_slice())
+}
+
+fn told_of_fronts<R: Threads + Wait + Sync>(rt: &R, alloc: Global) -> Result<Vec<u8>, AllocError> {
+    let input = fronts(alloc)?;
+    answer_to(rt, alloc, "decode", &input)
 }
 
 // A line for each number of bytes, from none to one less than all.
@@ -41,7 +51,7 @@ fn fronts(alloc: Global) -> Result<Vec<u8>, AllocError> {
 fn cut_answers(alloc: Global) -> Result<Vec<u8>, AllocError> {
     let mut text = Vec::new(alloc);
     for count in 0..20_u8 {
-        text.extend_from_slice(format!(in alloc; "fault short {count}\n")?.as_bytes())?;
+        put_short(alloc, &mut text, count)?;
     }
     for (lines, answer) in CUTS {
         for _ in 0..*lines {
@@ -49,6 +59,11 @@ fn cut_answers(alloc: Global) -> Result<Vec<u8>, AllocError> {
         }
     }
     Ok(text)
+}
+
+fn put_short(alloc: Global, text: &mut Vec<u8>, count: u8) -> Result<(), AllocError> {
+    let line = format!(in alloc; "fault short {count}\n")?;
+    text.extend_from_slice(line.as_bytes())
 }
 
 /// How many peers there are, whether each is in the node's own session or in one of its own, and the last line of what comes of their
@@ -61,28 +76,55 @@ const CROWDS: &[(u8, bool, &[u8])] = &[
 #[test]
 fn a_crowd_is_answered_though_tables_are_full(rt: HostRuntime) -> Result<(), Fail> {
     for (peers, is_one, end) in CROWDS {
-        let text = answer_to(
-            &rt,
-            rt.alloc(),
-            "replay",
-            &crowd(rt.alloc(), *peers, *is_one)?,
-        )?;
-        assert!(rt; text.ends_with(end), "{peers}");
+        assert!(rt;
+            is_answered_so(&rt, rt.alloc(), *peers, *is_one, end)?,
+            "{peers}"
+        );
     }
     Ok(())
+}
+
+fn is_answered_so<R: Threads + Wait + Sync>(
+    rt: &R,
+    alloc: Global,
+    peers: u8,
+    is_one: bool,
+    end: &[u8],
+) -> Result<bool, AllocError> {
+    let text = told_of_crowd(rt, alloc, peers, is_one)?;
+    Ok(text.ends_with(end))
+}
+
+fn told_of_crowd<R: Threads + Wait + Sync>(
+    rt: &R,
+    alloc: Global,
+    peers: u8,
+    is_one: bool,
+) -> Result<Vec<u8>, AllocError> {
+    let input = crowd(alloc, peers, is_one)?;
+    answer_to(rt, alloc, "replay", &input)
 }
 
 // An alive of each peer.
 fn crowd(alloc: Global, peers: u8, is_one: bool) -> Result<Vec<u8>, AllocError> {
     let mut text = Vec::from_slice(alloc, HEAD.as_bytes())?;
     for k in 0..peers {
-        let id = format!(in alloc; "50454552303{}3{}3{}", k / 100, k / 10 % 10, k % 10)?;
-        let session = if is_one { OWN } else { id.as_str() };
-        for part in [RX, id.as_str(), TIMELINE, session, START] {
-            text.extend_from_slice(part.as_bytes())?;
-        }
+        put_peer(alloc, &mut text, k, is_one)?;
     }
     Ok(text)
+}
+
+fn put_peer(alloc: Global, text: &mut Vec<u8>, k: u8, is_one: bool) -> Result<(), AllocError> {
+    let id = format!(in alloc; "50454552303{}3{}3{}", k / 100, k / 10 % 10, k % 10)?;
+    let session = if is_one { OWN } else { id.as_str() };
+    put_alive(text, id.as_str(), session)
+}
+
+fn put_alive(text: &mut Vec<u8>, id: &str, session: &str) -> Result<(), AllocError> {
+    for part in [RX, id, TIMELINE, session, START] {
+        text.extend_from_slice(part.as_bytes())?;
+    }
+    Ok(())
 }
 
 /// The parts of an alive's line, between its id and its session.

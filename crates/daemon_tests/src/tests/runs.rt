@@ -51,6 +51,20 @@ pub fn texts_over(
     Ok(Texts { input, out })
 }
 
+/// The same over a case's text, as `text_of` says.
+pub fn texts_of(
+    alloc: Global,
+    case: &str,
+    most: usize,
+    bad_read: u64,
+    bad_write: u64,
+) -> Result<Texts, AllocError>
+    requires { 0 < most }
+{
+    let text = text_of(alloc, case)?;
+    texts_over(alloc, &text, most, bad_read, bad_write)
+}
+
 fn source(alloc: Global, text: &[u8], most: usize, bad: u64) -> Result<BytesSource, AllocError>
     requires { 0 < most }
 {
@@ -66,20 +80,26 @@ fn failing(alloc: Global, call: u64) -> Result<Vec<(u8, u64)>, AllocError> {
     Vec::from_slice(alloc, &[(0, call)])
 }
 
-/// The devices of a run that calls none.
+/// The words and the devices of a run that calls none of these.
 #[derive(Drop)]
 struct Devices {
+    words: Vec<String>,
     port: ListPort,
     audio: ListAudio,
+    talk: ListTalk,
     report: Report,
 }
 
-fn no_devices(alloc: Global) -> Result<Devices, AllocError> {
+fn no_devices(alloc: Global, words: &str) -> Result<Devices, AllocError> {
     let port = ListPort::new(alloc, Vec::new(alloc), 0, Vec::new(alloc))?;
     let audio = ListAudio::new(alloc, Vec::new(alloc), Vec::new(alloc))?;
+    let talk = silent_talk(alloc)?;
+    let words = spelled(alloc, words)?;
     Ok(Devices {
+        words,
         port,
         audio,
+        talk,
         report: Report::new(alloc),
     })
 }
@@ -104,18 +124,16 @@ pub fn run<R: Threads + Wait + Sync, S: Source, K: Sink>(
     input: &mut S,
     out: &mut K,
 ) -> Result<Status, AllocError> {
-    let words = spelled(alloc, words)?;
-    let mut talk = silent_talk(alloc)?;
-    let mut devices = no_devices(alloc)?;
+    let mut devices = no_devices(alloc, words)?;
     Ok(link_main(
         rt,
         alloc,
-        &words,
+        &devices.words,
         0,
         input,
         &mut devices.port,
         &mut devices.audio,
-        &mut talk,
+        &mut devices.talk,
         &mut ListPace::new(0),
         out,
         &mut devices.report,

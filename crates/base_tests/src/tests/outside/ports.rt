@@ -345,7 +345,12 @@ fn expect_bind(
     after: &[Endpoint],
 ) {
     assert!(rt; 1 <= gates.len() && gates.len() <= 4);
-    expect(rt, &"bind", &port.bind(gates), &bound);
+    let found = port.bind(gates);
+    expect(rt, &"bind", &found, &bound);
+    expect_gates(rt, port, after);
+}
+
+fn expect_gates(rt: &impl Abort, port: &ListPort, after: &[Endpoint]) {
     expect(rt, &"gates", &port.gates(), &after);
 }
 
@@ -357,7 +362,8 @@ fn expect_posts(rt: &impl Abort, port: &ListPort, wanted: &[&[u8]]) {
 }
 
 fn expect_post(rt: &impl Abort, post: &Post, bytes: &[u8]) {
-    expect(rt, &"post", &(post.gate, post.to), &(Gate(0), AWAY));
+    expect(rt, &"gate", &post.gate, &Gate(0));
+    expect(rt, &"end", &post.to, &AWAY);
     expect(rt, &"post", &post.bytes.as_slice(), &bytes);
 }
 

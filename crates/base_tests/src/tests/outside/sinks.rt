@@ -45,10 +45,15 @@ fn write_all(rt: &impl Abort, sink: &mut BytesSink, writes: &[Write]) {
     }
 }
 
-fn expect_write(rt: &impl Abort, sink: &mut BytesSink, (text, whole, written, faults): &Write) {
-    expect(rt, &"answer", &write_whole(sink, text), whole);
-    let found = (sink.bytes(), sink.fault_count());
-    expect(rt, &"written", &found, &(*written, *faults));
+fn expect_write(rt: &impl Abort, sink: &mut BytesSink, write: &Write) {
+    let whole = write_whole(sink, write.0);
+    expect(rt, &"answer", &whole, &write.1);
+    expect_written(rt, sink, write);
+}
+
+fn expect_written(rt: &impl Abort, sink: &BytesSink, write: &Write) {
+    expect(rt, &"written", &sink.bytes(), &write.2);
+    expect(rt, &"faults", &sink.fault_count(), &write.3);
 }
 
 #[test]

@@ -64,20 +64,17 @@ fn expect_reads(
     expect(rt, &"left", &found, &left);
 }
 
-fn expect_read(
-    rt: &impl Abort,
-    alloc: Global,
-    source: &mut BytesSource,
-    (limit, fault, length, end): &Read,
-) {
-    match read_all(alloc, source, *limit) {
-        Ok(bytes) => {
-            expect(rt, limit, &None, fault);
-            expect(rt, limit, &bytes.len(), length);
-            expect(rt, limit, &bytes.ends_with(end), &true);
-        }
-        Err(found) => expect(rt, limit, &Some(found), fault),
+fn expect_read(rt: &impl Abort, alloc: Global, source: &mut BytesSource, read: &Read) {
+    match read_all(alloc, source, read.0) {
+        Ok(bytes) => expect_bytes(rt, &bytes, read),
+        Err(found) => expect(rt, &read.0, &Some(found), &read.1),
     }
+}
+
+fn expect_bytes(rt: &impl Abort, bytes: &[u8], read: &Read) {
+    expect(rt, &read.0, &None, &read.1);
+    expect(rt, &read.0, &bytes.len(), &read.2);
+    expect(rt, &read.0, &bytes.ends_with(read.3), &true);
 }
 
 fn text_of(rt: &impl Abort, alloc: Global, text: &[u8]) -> Vec<u8> {

@@ -196,9 +196,18 @@ fn expect_listen(rt: &impl Abort, talk: &mut ListTalk, k: usize, bound: Bound)
     requires { IsSome (opened_of talk.old) }
     ensures { IsSome (opened_of talk.new) }
 {
+    let found = listened(talk);
+    expect(rt, &k, &found, &bound);
+}
+
+// Whatever the talk answers, it stays open.
+fn listened(talk: &mut ListTalk) -> Bound
+    requires { IsSome (opened_of talk.old) }
+    ensures { IsSome (opened_of talk.new) }
+{
     match talk.listen(HERE) {
-        Ready => expect(rt, &k, &Ready, &bound),
-        Bound::Failed => expect(rt, &k, &Bound::Failed, &bound),
+        Ready => Ready,
+        Bound::Failed => Bound::Failed,
     }
 }
 
@@ -208,9 +217,13 @@ fn expect_read(rt: &impl Abort, talk: &mut ListTalk, k: usize, taken: Taken, byt
 {
     let mut dots = [b'.'; 5];
     assert!(rt; 1 <= bytes.len() && bytes.len() <= 5);
-    expect(rt, &k, &talk.read(&mut dots[..bytes.len()]), &taken);
-    let found = &dots[..bytes.len()];
-    expect(rt, &k, &found, &bytes);
+    let found = talk.read(&mut dots[..bytes.len()]);
+    expect_dots(rt, k, found, &dots, taken, bytes);
+}
+
+fn expect_dots(rt: &impl Abort, k: usize, found: Taken, dots: &[u8], taken: Taken, bytes: &[u8]) {
+    expect(rt, &k, &found, &taken);
+    expect(rt, &k, &dots.starts_with(bytes), &true);
 }
 
 fn expect_write(rt: &impl Abort, talk: &mut ListTalk, k: usize, bytes: &[u8], put: Put)

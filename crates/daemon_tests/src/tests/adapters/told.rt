@@ -1,110 +1,12 @@
-//! What is told of a run on standard error: how it was set up, and what the system refused to send.
+//! What is told of a run on standard error: what the system refused to send.
 
-use link_adapters::{About, RefusedSends};
+use link_adapters::RefusedSends;
 use lk_base::Endpoint;
 use std::alloc::{AllocError, Global};
 use std::cell::RefCell;
 use std::fmt::Display;
 use std::io;
 use std::test::Fail;
-
-/// Blocks, events, a quantum and a group, and what is told of them.
-const ABOUTS: &[(u64, u64, u64, u16, &str)] = &[
-    (
-        150,
-        262_144,
-        4_000_000,
-        0,
-        "at most 150 blocks of 20 milliseconds (3 seconds), room for 262144 events, bars of 4 beats",
-    ),
-    (0, 1, 0, 0, "no blocks, room for 1 event, no bars"),
-    (
-        1,
-        2,
-        4,
-        0,
-        "at most 1 block of 20 milliseconds (0.02 seconds), room for 2 events, bars of 0.000004 beats, so every click is an accent",
-    ),
-    (
-        50,
-        2,
-        999_999,
-        0,
-        "at most 50 blocks of 20 milliseconds (1 second), room for 2 events, bars of 0.999999 beats, so every click is an accent",
-    ),
-    (
-        5_999,
-        2,
-        1_000_000,
-        0,
-        "at most 5999 blocks of 20 milliseconds (119.98 seconds), room for 2 events, bars of 1 beat",
-    ),
-    (
-        6_000,
-        2,
-        1_500_000,
-        0,
-        "at most 6000 blocks of 20 milliseconds (2 minutes), room for 2 events, bars of 1.5 beats",
-    ),
-    (
-        179_999,
-        2,
-        3_000_001,
-        0,
-        "at most 179999 blocks of 20 milliseconds (59 minutes), room for 2 events, bars of 3.000001 beats",
-    ),
-    (
-        180_000,
-        2,
-        10_000_000,
-        0,
-        "at most 180000 blocks of 20 milliseconds (1 hour), room for 2 events, bars of 10 beats",
-    ),
-    (
-        262_144,
-        2,
-        1_099_511_627_776,
-        0,
-        "at most 262144 blocks of 20 milliseconds (1 hour 27 minutes), room for 2 events, bars of 1099511.627776 beats",
-    ),
-    (
-        363_000,
-        2,
-        4_010_000,
-        65_535,
-        "at most 363000 blocks of 20 milliseconds (2 hours 1 minute), room for 2 events, bars of 4.01 beats, group 65535",
-    ),
-];
-
-#[test]
-fn it_is_told_how_a_run_was_set_up(rt: HostRuntime) -> Result<(), Fail> {
-    for (blocks, events, quantum, group, told) in ABOUTS {
-        let about = About {
-            program: "jorazhil",
-            command: "live",
-            blocks: Some(*blocks),
-            events: *events,
-            quantum: *quantum,
-            group: *group,
-        };
-        assert!(rt; tells(rt.alloc(), about, told)?, "{told}");
-    }
-    let about = About {
-        program: "jorazhil",
-        command: "control",
-        blocks: None,
-        events: 1,
-        quantum: 0,
-        group: 0,
-    };
-    assert!(rt; tells(rt.alloc(), about, "room for 1 event, no bars")?);
-    Ok(())
-}
-
-fn tells(alloc: Global, about: About, told: &str) -> Result<bool, AllocError> {
-    let text = format!(in alloc; "{about}")?;
-    Ok(text.as_str() == told)
-}
 
 /// A standard error that keeps what is printed there.
 #[derive(Drop)]

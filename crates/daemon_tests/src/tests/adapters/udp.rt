@@ -207,13 +207,22 @@ const SCRIPTS: &[(&str, &[Step])] = &[
 #[test]
 fn two_ports_go_by_each_script(rt: HostRuntime) -> Result<(), Fail> {
     for (shown, steps) in SCRIPTS {
-        let ends = ends(&rt)?;
-        let mut near = without_gates(rt, rt.alloc())?;
-        let mut far = without_gates(rt, rt.alloc())?;
-        let done = steps_done(&rt, rt.alloc(), &ends, &mut near, &mut far, steps);
+        let done = done_of(rt, rt.alloc(), steps)?;
         assert!(rt; done == steps.len(), "{shown}: step {done}");
     }
     Ok(())
+}
+
+// How many steps two ports without gates do as they have to.
+fn done_of<R: Net + Clock + Wait + Eprint + Copy + Drop>(
+    rt: R,
+    alloc: Global,
+    steps: &[Step],
+) -> io::Result<usize> {
+    let ends = ends(&rt)?;
+    let mut near = without_gates(rt, alloc)?;
+    let mut far = without_gates(rt, alloc)?;
+    Ok(steps_done(&rt, alloc, &ends, &mut near, &mut far, steps))
 }
 
 fn ends<R: Net>(rt: &R) -> io::Result<Ends> {

@@ -2,8 +2,9 @@
 
 ghost use Rattle.std.specs.Prelude.{◌<◌};
 
-use super::super::live::sides::{Sides, quiet_port, sides_over};
-use link_daemon::{SessionLog, Status};
+use super::super::live::sides::{Sides, quiet_port};
+use super::super::runs::empty_log;
+use link_daemon::Status;
 use lk_outside::{ListPace, ListTalk};
 use std::alloc::{AllocError, Global};
 use std::sync::Wait;
@@ -26,18 +27,22 @@ pub fn client(alloc: Global, sent: &[u8], most: usize) -> Result<ListTalk, Alloc
     ListTalk::new(alloc, sent, most, 100_000, Vec::new(alloc))
 }
 
-/// Runs the program on these words and `SCRIPT`, over a port that nothing comes to and no block. Answers how it ended, and what else it
-/// leaves.
+/// Runs the program on these words, over a port that nothing comes to, and answers how it ended.
 pub fn run_with<R: Threads + Wait + Sync>(
     rt: &R,
     alloc: Global,
     words: &str,
+    sides: &mut Sides,
     talk: &mut ListTalk,
-    log: &mut SessionLog,
-) -> Result<(Status, Sides), AllocError> {
+) -> Result<Status, AllocError> {
     let mut port = quiet_port(alloc, 0)?;
-    let mut sides = sides_over(alloc, SCRIPT.as_bytes(), 0)?;
-    let pace = &mut ListPace::new(0);
-    let status = sides.run_talking(rt, alloc, words, &mut port, talk, pace, log)?;
-    Ok((status, sides))
+    sides.run_talking(
+        rt,
+        alloc,
+        words,
+        &mut port,
+        talk,
+        &mut ListPace::new(0),
+        &mut empty_log(alloc),
+    )
 }

@@ -25,9 +25,10 @@ const TOO_MANY: usize = 4_097;
 
 /// A run whose client asks for the status so often, what is wrong in it, and what comes of it.
 struct Case {
-    words: &'static str,
-    /// A line behind the head, or nothing.
-    command: &'static str,
+    /// Whether the journal takes one event alone.
+    one_event: bool,
+    /// Whether a command stands behind the head.
+    has_command: bool,
     asks: usize,
     of_port: Call,
     of_talk: Call,
@@ -42,8 +43,8 @@ struct Case {
 
 const CASES: &[Case] = &[
     Case {
-        words: WORDS,
-        command: "at 0 look\n",
+        one_event: false,
+        has_command: true,
         asks: 1,
         of_port: NEVER,
         of_talk: NEVER,
@@ -54,8 +55,8 @@ const CASES: &[Case] = &[
         answered: 0,
     },
     Case {
-        words: WORDS,
-        command: "",
+        one_event: false,
+        has_command: false,
         asks: 1,
         of_port: NEVER,
         of_talk: (LISTEN, 1),
@@ -66,8 +67,8 @@ const CASES: &[Case] = &[
         answered: 0,
     },
     Case {
-        words: WORDS,
-        command: "",
+        one_event: false,
+        has_command: false,
         asks: 1,
         of_port: NEVER,
         of_talk: (HEAR, 1),
@@ -78,8 +79,8 @@ const CASES: &[Case] = &[
         answered: 0,
     },
     Case {
-        words: WORDS,
-        command: "",
+        one_event: false,
+        has_command: false,
         asks: 2,
         of_port: NEVER,
         of_talk: (SAY, 1),
@@ -90,8 +91,8 @@ const CASES: &[Case] = &[
         answered: 0,
     },
     Case {
-        words: WORDS,
-        command: "",
+        one_event: false,
+        has_command: false,
         asks: TOO_MANY,
         of_port: NEVER,
         of_talk: NEVER,
@@ -102,20 +103,8 @@ const CASES: &[Case] = &[
         answered: 4_096,
     },
     Case {
-        words: ONE_EVENT,
-        command: "",
-        asks: 1,
-        of_port: NEVER,
-        of_talk: NEVER,
-        of_sink: NEVER,
-        status: 6,
-        line: 0,
-        logged: 1,
-        answered: 1,
-    },
-    Case {
-        words: WORDS,
-        command: "",
+        one_event: false,
+        has_command: false,
         asks: 1,
         of_port: NEVER,
         of_talk: NEVER,
@@ -128,8 +117,8 @@ const CASES: &[Case] = &[
     // Of two causes the first in the order is told: the port, the talk, the journal, the lines, the sink. Without the network a client is
     // served all the same.
     Case {
-        words: WORDS,
-        command: "",
+        one_event: false,
+        has_command: false,
         asks: 2,
         of_port: (BIND, 1),
         of_talk: (SAY, 2),
@@ -140,8 +129,8 @@ const CASES: &[Case] = &[
         answered: 1,
     },
     Case {
-        words: ONE_EVENT,
-        command: "",
+        one_event: true,
+        has_command: false,
         asks: 1,
         of_port: NEVER,
         of_talk: (SAY, 1),
@@ -152,20 +141,8 @@ const CASES: &[Case] = &[
         answered: 0,
     },
     Case {
-        words: ONE_EVENT,
-        command: "",
-        asks: TOO_MANY,
-        of_port: NEVER,
-        of_talk: NEVER,
-        of_sink: NEVER,
-        status: 6,
-        line: 0,
-        logged: 4_096,
-        answered: 4_096,
-    },
-    Case {
-        words: WORDS,
-        command: "",
+        one_event: false,
+        has_command: false,
         asks: TOO_MANY,
         of_port: NEVER,
         of_talk: NEVER,
@@ -196,15 +173,34 @@ fn is_told<R: Threads + Wait + Sync>(
     case: &Case,
 ) -> Result<bool, AllocError> {
     let mut talk = talk_of(alloc, case)?;
-    let port = port_of(alloc, case)?;
-    let sides = sides_of(alloc, case)?;
-    let (status, logged) = run_over(rt, alloc, case.words, port, &mut talk, sides)?;
+    is_told_over(rt, alloc, case, &mut talk)
+}
+
+fn is_told_over<R: Threads + Wait + Sync>(
+    rt: &R,
+    alloc: Global,
+    case: &Case,
+    talk: &mut ListTalk,
+) -> Result<bool, AllocError> {
+    let (status, logged) = run_by(rt, alloc, case, talk)?;
     Ok(
         status.number() == case.status
             && line_of(status) == case.line
             && logged == case.logged
             && are_answers(talk.bytes(), case.answered),
     )
+}
+
+fn run_by<R: Threads + Wait + Sync>(
+    rt: &R,
+    alloc: Global,
+    case: &Case,
+    talk: &mut ListTalk,
+) -> Result<(Status, usize), AllocError> {
+    let port = port_of(alloc, case)?;
+    let sides = sides_of(alloc, case)?;
+    let words = if case.one_event { ONE_EVENT } else { WORDS };
+    run_over(rt, alloc, words, port, talk, sides)
 }
 
 // How a run ended, and how many lines it logged.
@@ -250,7 +246,8 @@ fn port_of(alloc: Global, case: &Case) -> Result<ListPort, AllocError> {
 
 fn sides_of(alloc: Global, case: &Case) -> Result<Sides, AllocError> {
     let out = BytesSink::new(alloc, 1_000, 4096, one(alloc, case.of_sink)?)?;
-    let script = format!(in alloc; "{SCRIPT}{}", case.command)?;
+    let command = if case.has_command { "at 0 look\n" } else { "" };
+    let script = format!(in alloc; "{SCRIPT}{command}")?;
     let mut sides = sides_over(alloc, script.as_bytes(), 0)?;
     sides.out = out;
     Ok(sides)

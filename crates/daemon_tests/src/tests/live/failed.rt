@@ -30,16 +30,19 @@ type Call = (u8, u64);
 /// A call that is never made.
 const NEVER: Call = (0, 0);
 
+/// Words that say no number of events.
+const NO_NUMBER: u8 = 9;
+
 /// What is wrong in a run, and the number of the status that comes of it.
 struct Cause {
     of_port: Call,
     of_device: Call,
     of_source: Call,
     of_sink: Call,
-    /// The words that say how many events the journal takes; empty where nothing is wrong with that.
-    words: &'static str,
-    /// A line outside the grammar, or nothing.
-    line: &'static str,
+    /// How many events the journal takes; 0 where nothing is wrong with that, and `NO_NUMBER` where the words say none.
+    events: u8,
+    /// Whether a line is outside the grammar.
+    bad_line: bool,
     /// How many commands more the script has.
     looks: u32,
     status: u8,
@@ -55,8 +58,8 @@ const CAUSES: &[Cause] = &[
         of_device: NEVER,
         of_source: NEVER,
         of_sink: NEVER,
-        words: "",
-        line: "",
+        events: 0,
+        bad_line: false,
         looks: 0,
         status: 0,
         leaves: [1, 1, 1, 3, 3, 1, 1, 6],
@@ -66,8 +69,8 @@ const CAUSES: &[Cause] = &[
         of_device: NEVER,
         of_source: NEVER,
         of_sink: NEVER,
-        words: "",
-        line: "",
+        events: 0,
+        bad_line: false,
         looks: 0,
         status: 3,
         leaves: [1, 1, 1, 3, 3, 1, 1, 0],
@@ -77,8 +80,8 @@ const CAUSES: &[Cause] = &[
         of_device: NEVER,
         of_source: NEVER,
         of_sink: NEVER,
-        words: "",
-        line: "",
+        events: 0,
+        bad_line: false,
         looks: 0,
         status: 0,
         leaves: [1, 1, 1, 3, 3, 1, 1, 6],
@@ -88,8 +91,8 @@ const CAUSES: &[Cause] = &[
         of_device: NEVER,
         of_source: NEVER,
         of_sink: NEVER,
-        words: "",
-        line: "",
+        events: 0,
+        bad_line: false,
         looks: 0,
         status: 0,
         leaves: [1, 1, 1, 3, 3, 1, 1, 6],
@@ -99,8 +102,8 @@ const CAUSES: &[Cause] = &[
         of_device: NEVER,
         of_source: NEVER,
         of_sink: NEVER,
-        words: "",
-        line: "",
+        events: 0,
+        bad_line: false,
         looks: 0,
         status: 3,
         leaves: [1, 1, 1, 3, 3, 1, 1, 3],
@@ -110,8 +113,8 @@ const CAUSES: &[Cause] = &[
         of_device: NEVER,
         of_source: NEVER,
         of_sink: NEVER,
-        words: "",
-        line: "",
+        events: 0,
+        bad_line: false,
         looks: 0,
         status: 3,
         leaves: [1, 1, 1, 3, 3, 1, 1, 3],
@@ -121,8 +124,8 @@ const CAUSES: &[Cause] = &[
         of_device: NEVER,
         of_source: NEVER,
         of_sink: NEVER,
-        words: "",
-        line: "",
+        events: 0,
+        bad_line: false,
         looks: 0,
         status: 3,
         leaves: [1, 1, 1, 3, 3, 1, 1, 3],
@@ -132,8 +135,8 @@ const CAUSES: &[Cause] = &[
         of_device: NEVER,
         of_source: NEVER,
         of_sink: NEVER,
-        words: "",
-        line: "",
+        events: 0,
+        bad_line: false,
         looks: 0,
         status: 3,
         leaves: [1, 1, 1, 3, 3, 1, 1, 0],
@@ -143,8 +146,8 @@ const CAUSES: &[Cause] = &[
         of_device: NEVER,
         of_source: NEVER,
         of_sink: NEVER,
-        words: "",
-        line: "",
+        events: 0,
+        bad_line: false,
         looks: 0,
         status: 3,
         leaves: [1, 1, 1, 3, 3, 1, 1, 1],
@@ -154,8 +157,8 @@ const CAUSES: &[Cause] = &[
         of_device: NEVER,
         of_source: NEVER,
         of_sink: NEVER,
-        words: "",
-        line: "",
+        events: 0,
+        bad_line: false,
         looks: 0,
         status: 3,
         leaves: [1, 1, 1, 3, 3, 1, 1, 2],
@@ -165,8 +168,8 @@ const CAUSES: &[Cause] = &[
         of_device: (NEXT, 1),
         of_source: NEVER,
         of_sink: NEVER,
-        words: "",
-        line: "",
+        events: 0,
+        bad_line: false,
         looks: 0,
         status: 4,
         leaves: [1, 1, 1, 0, 0, 1, 1, 6],
@@ -176,8 +179,8 @@ const CAUSES: &[Cause] = &[
         of_device: (NEXT, 2),
         of_source: NEVER,
         of_sink: NEVER,
-        words: "",
-        line: "",
+        events: 0,
+        bad_line: false,
         looks: 0,
         status: 4,
         leaves: [1, 1, 1, 1, 1, 1, 1, 6],
@@ -187,8 +190,8 @@ const CAUSES: &[Cause] = &[
         of_device: (NEXT, 3),
         of_source: NEVER,
         of_sink: NEVER,
-        words: "",
-        line: "",
+        events: 0,
+        bad_line: false,
         looks: 0,
         status: 4,
         leaves: [1, 1, 1, 2, 2, 1, 1, 6],
@@ -198,8 +201,8 @@ const CAUSES: &[Cause] = &[
         of_device: (PLAY, 1),
         of_source: NEVER,
         of_sink: NEVER,
-        words: "",
-        line: "",
+        events: 0,
+        bad_line: false,
         looks: 0,
         status: 4,
         leaves: [1, 1, 1, 1, 0, 1, 1, 6],
@@ -209,8 +212,8 @@ const CAUSES: &[Cause] = &[
         of_device: (PLAY, 2),
         of_source: NEVER,
         of_sink: NEVER,
-        words: "",
-        line: "",
+        events: 0,
+        bad_line: false,
         looks: 0,
         status: 4,
         leaves: [1, 1, 1, 2, 1, 1, 1, 6],
@@ -220,8 +223,8 @@ const CAUSES: &[Cause] = &[
         of_device: (PLAY, 3),
         of_source: NEVER,
         of_sink: NEVER,
-        words: "",
-        line: "",
+        events: 0,
+        bad_line: false,
         looks: 0,
         status: 4,
         leaves: [1, 1, 1, 3, 2, 1, 1, 6],
@@ -231,8 +234,8 @@ const CAUSES: &[Cause] = &[
         of_device: NEVER,
         of_source: (READ, 1),
         of_sink: NEVER,
-        words: "",
-        line: "",
+        events: 0,
+        bad_line: false,
         looks: 0,
         status: 5,
         leaves: [0; 8],
@@ -242,8 +245,8 @@ const CAUSES: &[Cause] = &[
         of_device: NEVER,
         of_source: (READ, 2),
         of_sink: NEVER,
-        words: "",
-        line: "",
+        events: 0,
+        bad_line: false,
         looks: 0,
         status: 5,
         leaves: [0; 8],
@@ -253,8 +256,8 @@ const CAUSES: &[Cause] = &[
         of_device: NEVER,
         of_source: (READ, 3),
         of_sink: NEVER,
-        words: "",
-        line: "",
+        events: 0,
+        bad_line: false,
         looks: 0,
         status: 5,
         leaves: [0; 8],
@@ -264,8 +267,8 @@ const CAUSES: &[Cause] = &[
         of_device: NEVER,
         of_source: NEVER,
         of_sink: (WRITE, 1),
-        words: "",
-        line: "",
+        events: 0,
+        bad_line: false,
         looks: 0,
         status: 7,
         leaves: [1, 1, 1, 3, 3, 1, 1, 6],
@@ -275,8 +278,8 @@ const CAUSES: &[Cause] = &[
         of_device: NEVER,
         of_source: NEVER,
         of_sink: (WRITE, 2),
-        words: "",
-        line: "",
+        events: 0,
+        bad_line: false,
         looks: 0,
         status: 7,
         leaves: [1, 1, 1, 3, 3, 1, 1, 6],
@@ -286,8 +289,8 @@ const CAUSES: &[Cause] = &[
         of_device: NEVER,
         of_source: NEVER,
         of_sink: (WRITE, 3),
-        words: "",
-        line: "",
+        events: 0,
+        bad_line: false,
         looks: 0,
         status: 7,
         leaves: [1, 1, 1, 3, 3, 1, 1, 6],
@@ -297,8 +300,8 @@ const CAUSES: &[Cause] = &[
         of_device: NEVER,
         of_source: NEVER,
         of_sink: NEVER,
-        words: "live --events 1",
-        line: "",
+        events: 1,
+        bad_line: false,
         looks: 0,
         status: 6,
         leaves: [1, 0, 0, 3, 3, 1, 1, 3],
@@ -308,8 +311,8 @@ const CAUSES: &[Cause] = &[
         of_device: NEVER,
         of_source: NEVER,
         of_sink: NEVER,
-        words: "live --events 2",
-        line: "",
+        events: 2,
+        bad_line: false,
         looks: 0,
         status: 6,
         leaves: [1, 1, 0, 3, 3, 1, 1, 3],
@@ -319,8 +322,8 @@ const CAUSES: &[Cause] = &[
         of_device: NEVER,
         of_source: NEVER,
         of_sink: NEVER,
-        words: "live --events 3",
-        line: "",
+        events: 3,
+        bad_line: false,
         looks: 0,
         status: 0,
         leaves: [1, 1, 1, 3, 3, 1, 1, 6],
@@ -330,8 +333,8 @@ const CAUSES: &[Cause] = &[
         of_device: NEVER,
         of_source: NEVER,
         of_sink: NEVER,
-        words: "live --events x",
-        line: "",
+        events: NO_NUMBER,
+        bad_line: false,
         looks: 0,
         status: 2,
         leaves: [0; 8],
@@ -341,8 +344,8 @@ const CAUSES: &[Cause] = &[
         of_device: NEVER,
         of_source: NEVER,
         of_sink: NEVER,
-        words: "",
-        line: "",
+        events: 0,
+        bad_line: false,
         looks: 4096,
         status: 10,
         leaves: [0; 8],
@@ -352,8 +355,8 @@ const CAUSES: &[Cause] = &[
         of_device: NEVER,
         of_source: NEVER,
         of_sink: NEVER,
-        words: "",
-        line: "at x tempo\n",
+        events: 0,
+        bad_line: true,
         looks: 0,
         status: 8,
         leaves: [0; 8],
@@ -367,8 +370,8 @@ const ORDER: &[Cause] = &[
         of_device: NEVER,
         of_source: NEVER,
         of_sink: NEVER,
-        words: "live --events x",
-        line: "",
+        events: NO_NUMBER,
+        bad_line: false,
         looks: 0,
         status: 2,
         leaves: [0; 8],
@@ -378,8 +381,8 @@ const ORDER: &[Cause] = &[
         of_device: NEVER,
         of_source: (READ, 2),
         of_sink: NEVER,
-        words: "",
-        line: "",
+        events: 0,
+        bad_line: false,
         looks: 0,
         status: 5,
         leaves: [0; 8],
@@ -389,8 +392,8 @@ const ORDER: &[Cause] = &[
         of_device: NEVER,
         of_source: NEVER,
         of_sink: NEVER,
-        words: "",
-        line: "",
+        events: 0,
+        bad_line: false,
         looks: 4096,
         status: 10,
         leaves: [0; 8],
@@ -400,8 +403,8 @@ const ORDER: &[Cause] = &[
         of_device: NEVER,
         of_source: NEVER,
         of_sink: NEVER,
-        words: "",
-        line: "at x tempo\n",
+        events: 0,
+        bad_line: true,
         looks: 0,
         status: 8,
         leaves: [0; 8],
@@ -411,8 +414,8 @@ const ORDER: &[Cause] = &[
         of_device: NEVER,
         of_source: NEVER,
         of_sink: NEVER,
-        words: "",
-        line: "",
+        events: 0,
+        bad_line: false,
         looks: 0,
         status: 3,
         leaves: [1, 1, 1, 3, 3, 1, 1, 3],
@@ -422,8 +425,8 @@ const ORDER: &[Cause] = &[
         of_device: (NEXT, 2),
         of_source: NEVER,
         of_sink: NEVER,
-        words: "",
-        line: "",
+        events: 0,
+        bad_line: false,
         looks: 0,
         status: 4,
         leaves: [1, 1, 1, 1, 1, 1, 1, 6],
@@ -433,8 +436,8 @@ const ORDER: &[Cause] = &[
         of_device: NEVER,
         of_source: NEVER,
         of_sink: NEVER,
-        words: "live --events 1",
-        line: "",
+        events: 1,
+        bad_line: false,
         looks: 0,
         status: 6,
         leaves: [1, 0, 0, 3, 3, 1, 1, 3],
@@ -444,8 +447,8 @@ const ORDER: &[Cause] = &[
         of_device: NEVER,
         of_source: NEVER,
         of_sink: (WRITE, 2),
-        words: "",
-        line: "",
+        events: 0,
+        bad_line: false,
         looks: 0,
         status: 7,
         leaves: [1, 1, 1, 3, 3, 1, 1, 6],
@@ -458,8 +461,8 @@ const NOTHING: Cause = Cause {
     of_device: NEVER,
     of_source: NEVER,
     of_sink: NEVER,
-    words: "",
-    line: "",
+    events: 0,
+    bad_line: false,
     looks: 0,
     status: 0,
     leaves: [1, 1, 1, 3, 3, 1, 1, 6],
@@ -504,13 +507,22 @@ fn expect<R: Threads + Wait + Sync + Abort>(
     first: &Cause,
     second: &Cause,
 ) -> Result<(), AllocError> {
-    let port = port_of(alloc, first, second)?;
-    let sides = sides_of(alloc, first, second)?;
-    let found = run_over(rt, alloc, words_of(first, second), port, sides)?;
+    let found = outcome_of(rt, alloc, first, second)?;
     let (status, other) = (first.status, second.status);
     assert_eq!(rt; found.status, status, "beside {other}");
     assert!(rt; leaves(first, second, &found), "beside {other}: {status}");
     Ok(())
+}
+
+fn outcome_of<R: Threads + Wait + Sync>(
+    rt: &R,
+    alloc: Global,
+    first: &Cause,
+    second: &Cause,
+) -> Result<Outcome, AllocError> {
+    let port = port_of(alloc, first, second)?;
+    let sides = sides_of(alloc, first, second)?;
+    run_over(rt, alloc, words_of(first, second), port, sides)
 }
 
 fn run_over<R: Threads + Wait + Sync>(
@@ -584,13 +596,18 @@ fn lesser(mut counts: Counts, others: Counts) -> Counts {
 
 // The words of the command line.
 fn words_of(first: &Cause, second: &Cause) -> &'static str {
-    if !first.words.is_empty() {
-        return first.words;
+    let events = if first.events == 0 {
+        second.events
+    } else {
+        first.events
+    };
+    match events {
+        0 => "live --events 300",
+        1 => "live --events 1",
+        2 => "live --events 2",
+        3 => "live --events 3",
+        _ => "live --events x",
     }
-    if !second.words.is_empty() {
-        return second.words;
-    }
-    "live --events 300"
 }
 
 fn port_of(alloc: Global, first: &Cause, second: &Cause) -> Result<ListPort, AllocError> {
@@ -644,15 +661,16 @@ fn both(alloc: Global, first: Call, second: Call) -> Result<Vec<Call>, AllocErro
 const HEAD: &str = "link 1\nsetup 500000 1\ngate 127.0.0.1:20808\n\
     to 127.0.0.1:20809\nto 127.0.0.1:20810\nto 127.0.0.1:20811\n";
 
-const TEMPO: &str = "at 1000000 tempo 250000\n";
+const TEMPO: &[u8] = b"at 1000000 tempo 250000\n";
 
 const LOOK: &[u8] = b"at 0 look\n";
 
 fn script_of(alloc: Global, first: &Cause, second: &Cause) -> Result<Vec<u8>, AllocError> {
-    let mut script = Vec::new(alloc);
-    for part in [HEAD, first.line, second.line, TEMPO] {
-        script.extend_from_slice(part.as_bytes())?;
+    let mut script = Vec::from_slice(alloc, HEAD.as_bytes())?;
+    if first.bad_line || second.bad_line {
+        script.extend_from_slice(b"at x tempo\n")?;
     }
+    script.extend_from_slice(TEMPO)?;
     for _ in 0..first.looks.max(second.looks) {
         script.extend_from_slice(LOOK)?;
     }

@@ -191,14 +191,25 @@ impl<'a> Pace for Lines<'a> {
 
 #[test]
 fn the_loops_overlap(rt: HostRuntime) -> Result<(), Fail> {
-    let script = script_of(rt.alloc())?;
-    let mut sides = sides_over(rt.alloc(), &script, 0)?;
-    let inner = quiet_port(rt.alloc(), 200)?;
-    let talk = silent_talk(rt.alloc())?;
-    let words = spelled(rt.alloc(), "live")?;
-    assert!(rt; go_on_together(&rt, rt.alloc(), &words, &mut sides, inner, talk));
-    assert!(rt; are_rounds(&sides.report));
+    let mut sides = sides_of_rounds(rt.alloc())?;
+    assert!(rt; go_in_rounds(&rt, rt.alloc(), &mut sides)?);
     Ok(())
+}
+
+fn sides_of_rounds(alloc: Global) -> Result<Sides, AllocError> {
+    let script = script_of(alloc)?;
+    sides_over(alloc, &script, 0)
+}
+
+fn go_in_rounds<R: Threads + Wait + Sync>(
+    rt: &R,
+    alloc: Global,
+    sides: &mut Sides,
+) -> Result<bool, AllocError> {
+    let inner = quiet_port(alloc, 200)?;
+    let talk = silent_talk(alloc)?;
+    let words = spelled(alloc, "live")?;
+    Ok(go_on_together(rt, alloc, &words, sides, inner, talk) && are_rounds(&sides.report))
 }
 
 // Whether a run does all, and gives each datagram and each block.

@@ -105,7 +105,18 @@ fn replayed_run<R: Threads + Wait + Sync + Abort>(
     let mut sides = drawn_sides(alloc, random)?;
     let port = drawn_port(alloc, random, group)?;
     let words = if group == 0 { WORDS } else { GROUP_WORDS };
-    let (status, port) = recorded_run(rt, alloc, words, &mut sides, port, held)?;
+    replayed_over(rt, alloc, words, &mut sides, port, held)
+}
+
+fn replayed_over<R: Threads + Wait + Sync + Abort>(
+    rt: &R,
+    alloc: Global,
+    words: &str,
+    sides: &mut Sides,
+    port: ListPort,
+    held: bool,
+) -> Result<Amounts, AllocError> {
+    let (status, port) = recorded_run(rt, alloc, words, sides, port, held)?;
     let replayed = is_replayed(rt, alloc, sides.out.bytes(), &sides.report, port.posts())?;
     assert!(rt; status == Status::Done && replayed);
     Ok(amounts_of(&sides.report, &port))
@@ -144,10 +155,17 @@ pub fn is_replayed<R: Threads + Wait + Sync>(
     report: &Report,
     posts: &[Post],
 ) -> Result<bool, AllocError> {
-    let summary = summary_of(alloc, report)?;
-    let done = done_of(alloc, report, posts.len())?;
+    if !is_summed_up(alloc, record, report)? {
+        return Ok(false);
+    }
     let text = replay_of(rt, alloc, record)?;
-    Ok(record.starts_with(summary.as_bytes()) && is_replay(&text, posts, done.as_bytes(), record))
+    let done = done_of(alloc, report, posts.len())?;
+    Ok(is_replay(&text, posts, done.as_bytes(), record))
+}
+
+fn is_summed_up(alloc: Global, record: &[u8], report: &Report) -> Result<bool, AllocError> {
+    let summary = summary_of(alloc, report)?;
+    Ok(record.starts_with(summary.as_bytes()))
 }
 
 // What `replay` writes of a record; nothing where it isn't done.

@@ -55,13 +55,6 @@ const CASES: &[Case] = &[
         summary: b"# live 3 2 2 1 1 0 2 0\n# state 1 250000 0 500000 0 0 0 1 0 0 1 0 2d6b653a343a2e60 4000000\n",
         head: "replay 2\nnode -ke:4:.` 7 500000 1 0\ngroup 0\nquantum 4000000\ngate 127.0.0.1:20808\n",
     },
-    Case {
-        words: "live --group 65535 --record --quantum 0",
-        script: TEMPO,
-        commits: 1,
-        summary: b"# live 3 2 2 1 1 0 2 0\n# state 1 250000 0 500000 0 0 0 1 0 0 1 0 2d6b653a343a2e60 0\n",
-        head: "replay 2\nnode -ke:4:.` 7 500000 1 0\ngroup 65535\nquantum 0\ngate 127.0.0.1:20808\n",
-    },
     // The quantum of the words is the first one.
     Case {
         words: "live",
@@ -108,8 +101,18 @@ fn tells<R: Threads + Wait + Sync>(
     sides: &mut Sides,
 ) -> Result<bool, AllocError> {
     let mut port = quiet_port(alloc, 0)?;
-    let status = sides.run(rt, alloc, case.words, &mut port, &mut ListPace::new(0))?;
-    Ok(status == Status::Done && is_told(sides, &port, case))
+    tells_over(rt, alloc, case, sides, &mut port)
+}
+
+fn tells_over<R: Threads + Wait + Sync>(
+    rt: &R,
+    alloc: Global,
+    case: &Case,
+    sides: &mut Sides,
+    port: &mut ListPort,
+) -> Result<bool, AllocError> {
+    let status = sides.run(rt, alloc, case.words, port, &mut ListPace::new(0))?;
+    Ok(status == Status::Done && is_told(sides, port, case))
 }
 
 // Whether the text and the report are those of the script, and nothing was sent.
