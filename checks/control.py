@@ -145,6 +145,8 @@ WRONG = [
     *(b"beat 00", b"beat 01", b"beat -01", b"beat +1", b"beat 1.0", b"beat - 1", b"beat --1", b"beat -", b"beat 1 2", b"beat 1\r", b"beat\xa01"),
     *(b"time -0", b"time 07", b"time +0", b"time 1_0", b"time 1 ", b"beat \xd9\xa1", b"\xff\xfe", b"tempo 120", b"look", b"force 0", b"quantum 4"),
     *(b"at 0 tempo 500000", b"x" * 25, b"x" * 64, b"x" * 65, b"x" * 66, b"beat " + b"1" * 59, b"beat " + b"1" * 60, b"status" + b" " * 59, b"y" * 600),
+    *(b"statu", b"PLAY", b"Tempo 500000", b"tempo500000", b"tempo 500000 1", b"tempo 18446744073710051616", b"beat ", b"beat  1", b"beat 1 "),
+    *(b"time +1", b"time 01", b"time 1 2", b"at 0 play", b"status\xff", b"beat 1" + b"0" * 59),
 ]
 
 

@@ -1,10 +1,8 @@
 //! Sessions of one client over a talk in memory, and whole runs of two threads.
 
 mod answers;
-mod drawn;
 mod faults;
 mod moments;
 mod node;
-mod plain;
 mod run;
 mod session;

@@ -1,4 +1,4 @@
-ghost use Rattle.std.specs.Prelude.{◌≡◌, ◌≤◌, length, IfOk};
+ghost use Rattle.std.specs.Prelude.{◌≡◌, ◌≤◌, length};
 ghost use Rattle.std.specs.Option.{ForSome};
 ghost use Rattle.client_state.specs.Commit.{IsTidyCommit, IsTidyStart};
 ghost use Rattle.link_node.specs.Config.{config_value, IsConfig};
@@ -12,11 +12,10 @@ use link_node::{Config, GateSetup, Sends};
 use link_shared::{Ended, LinkName, Parts};
 use lk_base::{ClientStart, Endpoint, NodeId, Timeline};
 use runs::{RUNS, end_run, events_of, play_run};
-use std::alloc::{AllocError, Global};
+use std::alloc::Global;
 use std::marker::Brand;
 use std::process::Abort;
 use std::sync::Wait;
-use std::test::*;
 use std::thread::Threads;
 use threads::{EVENTS, Reports, check_outcome, run_threads};
 use triple_buffer::Triple;
@@ -67,17 +66,18 @@ fn config() -> Config
     }
 }
 
-fn parts_of<C: StateCell<11>, R: Wait>(
+fn parts_of<C: StateCell<11>, R: Wait + Abort>(
     rt: &R,
     alloc: Global,
     way: &C::Way,
     events: u64,
-) -> Result<Parts<C>, AllocError>
+) -> Parts<C>
     requires { (1 ≤ events) × (events ≤ 524_288) }
-    ensures gate { IfOk result (λ parts. length parts.config.gates ≡ 1) }
-    ensures shares { IfOk result (λ parts. parts.shares ≡ 65536) }
+    ensures gate { length result.config.gates ≡ 1 }
+    ensures shares { result.shares ≡ 65536 }
 {
-    Parts::<C>::new(rt, alloc, way, &config(), OPENING, events)
+    let parts = Parts::<C>::new(rt, alloc, way, &config(), OPENING, events);
+    parts.expect(rt, "memory for a link")
 }
 
 /// The start that plays from a time on, and was set then.
@@ -95,7 +95,7 @@ fn start_at(time: u16) -> ClientStart
 fn start_in(time: u16) -> Option<ClientStart>
     ensures { ForSome result IsTidyStart }
 {
-    if time % 4 == 3 {
+    if time & 3 == 3 {
         None
     } else {
         Some(start_at(time))
@@ -114,32 +114,35 @@ fn edit(time: u16) -> Commit
     }
 }
 
-/// The state after so many commits at the opening moment, with that start and that quantum.
-fn state_of(app: u64, audio: u64, start: ClientStart, quantum: i64) -> State {
-    State {
-        timeline: Timeline {
-            mpb: 500_000,
-            beat: 0,
-            time: OPENING,
-        },
-        start,
-        sync: false,
-        peers: 0,
-        moment: OPENING,
-        app,
-        audio,
-        session: NODE,
-        quantum,
-    }
-}
-
-fn opening_state() -> State {
-    let still = ClientStart {
+/// The state that each node opens with.
+const OPENED: State = State {
+    timeline: Timeline {
+        mpb: 500_000,
+        beat: 0,
+        time: OPENING,
+    },
+    start: ClientStart {
         playing: false,
         time: 0,
         stamp: 0,
-    };
-    state_of(0, 0, still, QUANTUM)
+    },
+    sync: false,
+    peers: 0,
+    moment: OPENING,
+    app: 0,
+    audio: 0,
+    session: NODE,
+    quantum: QUANTUM,
+};
+
+/// The state after so many commits at the opening moment, with that start and that quantum.
+fn state_of(app: u64, audio: u64, start: ClientStart, quantum: i64) -> State {
+    let mut state = OPENED;
+    state.app = app;
+    state.audio = audio;
+    state.start = start;
+    state.quantum = quantum;
+    state
 }
 
 /// The state with that commit over it.
@@ -150,13 +153,35 @@ fn shown_with(state: &State, time: u16) -> State {
     shown
 }
 
-/// What is tried on a new link.
+/// What is done with a new link.
 #[derive(Clone, Copy)]
-enum Trial<'a> {
-    Queue,
-    Many,
-    Run(&'a str),
+enum Doing {
+    FillsQueue,
+    PushesMany,
+    Runs,
 }
+
+/// What is tried on a new link: what is done with it, how many events the journal takes, and the run, of which all but runs have the
+/// ending alone.
+#[derive(Clone, Copy)]
+struct Trial<'a> {
+    doing: Doing,
+    events: u64,
+    run: &'a str,
+}
+
+const QUEUE: Trial = Trial {
+    doing: Doing::FillsQueue,
+    events: 300,
+    run: "z2E>1=*",
+};
+
+/// A journal of an event for each of the many commits.
+const MANY: Trial = Trial {
+    doing: Doing::PushesMany,
+    events: COMMITS,
+    run: "z2F=*",
+};
 
 fn try_link<C: StateCell<11>, N: LinkName, R: Wait + Abort>(
     rt: &R,
@@ -165,54 +190,45 @@ fn try_link<C: StateCell<11>, N: LinkName, R: Wait + Abort>(
     parts: Parts<C>,
     sends: Sends,
     trial: Trial,
-) -> Result<(), AllocError>
+)
     requires cells { (parts.app_states ≡ N.app_states) × (parts.audio_states ≡ N.audio_states) × (parts.audio_commits ≡ N.audio_commits) }
     requires queue { parts.queue ≡ N.queue }
     requires ledger { (parts.ledger ≡ N.name) × (parts.shares ≡ N.parts) × (N.whole ≡ N.parts) }
     requires gate { length parts.config.gates ≡ 1 }
 {
-    let bench = Bench::<C, N>::open(rt, alloc, way, parts, sends)?;
-    try_bench(rt, alloc, way, bench, trial);
-    Ok(())
+    let mut bench = Bench::<C, N>::open(rt, alloc, way, parts, sends);
+    try_bench(rt, alloc, way, &mut bench, trial);
+    end_run(rt, way, bench, trial.run);
 }
 
 fn try_bench<C: StateCell<11>, N: LinkName, R: Wait + Abort>(
     rt: &R,
     alloc: Global,
     way: &C::Way,
-    mut bench: Bench<C, N>,
+    bench: &mut Bench<C, N>,
     trial: Trial,
 ) {
-    match trial {
-        Trial::Queue => fill_queue(rt, alloc, way, &mut bench),
-        Trial::Many => push_many(rt, alloc, way, &mut bench),
-        Trial::Run(run) => {
-            play_run(rt, alloc, way, &mut bench, run);
-            end_run(rt, way, bench, run);
-        }
+    match trial.doing {
+        Doing::FillsQueue => fill_queue(rt, alloc, way, bench),
+        Doing::PushesMany => push_many(rt, alloc, way, bench),
+        Doing::Runs => play_run(rt, alloc, way, bench, trial.run),
     }
 }
 
-/// A journal of 300 events for the queue, of one for each of the many commits, and of what a run says for it.
 fn try_new_link<C: StateCell<11>, R: Wait + Abort>(
     rt: &R,
     alloc: Global,
     way: &C::Way,
     trial: Trial,
-) -> Result<(), AllocError> {
-    let events = match trial {
-        Trial::Queue => 300,
-        Trial::Many => COMMITS,
-        Trial::Run(run) => events_of(run),
-    };
-    let sends = Sends::new(alloc)?;
-    let parts = parts_of::<C, R>(rt, alloc, way, events)?;
-    try_link::<C, Brand, R>(rt, alloc, way, parts, sends, trial)
+) {
+    let sends = Sends::new(alloc).expect(rt, "memory for what is sent");
+    let parts = parts_of::<C, R>(rt, alloc, way, trial.events.clamp(1, 524_288));
+    try_link::<C, Brand, R>(rt, alloc, way, parts, sends, trial);
 }
 
-fn try_both_cells<R: Wait + Abort>(rt: &R, alloc: Global, trial: Trial) -> Result<(), AllocError> {
-    try_new_link::<Triple<11>, R>(rt, alloc, &(), trial)?;
-    try_new_link::<SeqState<R, 11>, R>(rt, alloc, rt, trial)
+fn try_both_cells<R: Wait + Abort>(rt: &R, alloc: Global, trial: Trial) {
+    try_new_link::<Triple<11>, R>(rt, alloc, &(), trial);
+    try_new_link::<SeqState<R, 11>, R>(rt, alloc, rt, trial);
 }
 
 fn thread_link<
@@ -226,7 +242,7 @@ fn thread_link<
     parts: Parts<C>,
     sends: Sends,
     reports: Reports,
-) -> Result<(Ended, Reports), AllocError>
+) -> (Ended, Reports)
 where
     C::Way: Sync,
     requires cells { (parts.app_states ≡ N.app_states) × (parts.audio_states ≡ N.audio_states) × (parts.audio_commits ≡ N.audio_commits) }
@@ -234,48 +250,53 @@ where
     requires ledger { (parts.ledger ≡ N.name) × (parts.shares ≡ N.parts) × (N.whole ≡ N.parts) }
     requires gate { length parts.config.gates ≡ 1 }
 {
-    let bench = Bench::<C, N>::open(rt, alloc, way, parts, sends)?;
-    Ok(run_threads(rt, alloc, way, bench, reports))
+    let bench = Bench::<C, N>::open(rt, alloc, way, parts, sends);
+    run_threads(rt, alloc, way, bench, reports)
 }
 
 fn thread_new_link<C: StateCell<11> + Sync, R: Threads + Wait + Sync + Abort>(
     rt: &R,
     alloc: Global,
     way: &C::Way,
-) -> Result<(), AllocError>
+)
 where
     C::Way: Sync,
 {
-    let reports = Reports::new(alloc)?;
-    let sends = Sends::new(alloc)?;
-    let parts = parts_of::<C, R>(rt, alloc, way, EVENTS)?;
-    let (ended, reports) = thread_link::<C, Brand, R>(rt, alloc, way, parts, sends, reports)?;
-    check_outcome(rt, alloc, &ended, &reports)
+    let reports = Reports::new(rt, alloc);
+    let sends = Sends::new(alloc).expect(rt, "memory for what is sent");
+    let parts = parts_of::<C, R>(rt, alloc, way, EVENTS);
+    let (ended, reports) = thread_link::<C, Brand, R>(rt, alloc, way, parts, sends, reports);
+    check_outcome(rt, alloc, &ended, &reports);
+}
+
+fn thread_both_cells<R: Threads + Wait + Sync + Abort>(rt: &R, alloc: Global) {
+    thread_new_link::<Triple<11>, R>(rt, alloc, &());
+    thread_new_link::<SeqState<R, 11>, R>(rt, alloc, rt);
 }
 
 #[test]
-fn a_full_queue_hands_the_commit_back_until_a_turn_takes_one(rt: HostRuntime) -> Result<(), Fail> {
-    try_both_cells(&rt, rt.alloc(), Trial::Queue)?;
-    Ok(())
+fn a_full_queue_hands_the_commit_back_until_a_turn_takes_one(rt: HostRuntime) {
+    try_both_cells(&rt, rt.alloc(), QUEUE);
 }
 
 #[test]
-fn seventy_thousand_commits_are_numbered_and_taken(rt: HostRuntime) -> Result<(), Fail> {
-    try_new_link::<Triple<11>, HostRuntime>(&rt, rt.alloc(), &(), Trial::Many)?;
-    Ok(())
+fn seventy_thousand_commits_are_numbered_and_taken(rt: HostRuntime) {
+    try_new_link::<Triple<11>, HostRuntime>(&rt, rt.alloc(), &(), MANY);
 }
 
 #[test]
-fn steps_in_any_order_answer_as_worked_by_hand(rt: HostRuntime) -> Result<(), Fail> {
+fn steps_in_any_order_answer_as_worked_by_hand(rt: HostRuntime) {
     for run in RUNS {
-        try_both_cells(&rt, rt.alloc(), Trial::Run(run))?;
+        let trial = Trial {
+            doing: Doing::Runs,
+            events: events_of(run),
+            run,
+        };
+        try_both_cells(&rt, rt.alloc(), trial);
     }
-    Ok(())
 }
 
 #[test]
-fn four_threads_see_published_states_and_lose_no_commit(rt: HostRuntime) -> Result<(), Fail> {
-    thread_new_link::<Triple<11>, HostRuntime>(&rt, rt.alloc(), &())?;
-    thread_new_link::<SeqState<HostRuntime, 11>, HostRuntime>(&rt, rt.alloc(), &rt)?;
-    Ok(())
+fn four_threads_see_published_states_and_lose_no_commit(rt: HostRuntime) {
+    thread_both_cells(&rt, rt.alloc());
 }

@@ -2,13 +2,12 @@
 //!
 //! Each link opens at 0 with 500,000 microseconds per beat from beat 0 there, and all is done at that moment.
 
-use super::session::{Given, Session, USUAL, served};
+use super::session::{Given, Session, USUAL, append, served};
 use arrayvec::ArrayVec;
 use link_control::Served;
-use std::alloc::{AllocError, Global};
+use std::alloc::Global;
 use std::process::Abort;
 use std::sync::Wait;
-use std::test::Fail;
 
 // How many bytes a read gives at most.
 const MOSTS: &[usize] = &[1, 2, 3, 512];
@@ -155,26 +154,36 @@ fn a_long_line_is_bad_and_the_next_one_is_read(rt: HostRuntime) {
 }
 
 // A line so many times, and what stands behind it.
-fn repeated(alloc: Global, line: &[u8], times: u16, behind: &[u8]) -> Result<Vec<u8>, AllocError> {
+fn repeated(rt: &impl Abort, alloc: Global, line: &[u8], times: u16, behind: &[u8]) -> Vec<u8> {
     let mut text = Vec::new(alloc);
     for _ in 0..times {
-        text.extend_from_slice(line)?;
+        append(rt, &mut text, line);
     }
-    text.extend_from_slice(behind)?;
-    Ok(text)
+    append(rt, &mut text, behind);
+    text
 }
 
 #[test]
-fn no_line_behind_4096_is_answered(rt: HostRuntime) -> Result<(), Fail> {
+fn no_line_behind_4096_is_answered(rt: HostRuntime) {
     for &(times, behind, end, count) in COUNTS {
-        let sent = repeated(rt.alloc(), b"status\n", times, behind)?;
-        let answers = repeated(rt.alloc(), b"status 500000 0 0 0 0\n", count, b"")?;
-        let given = Given {
-            sent: &sent,
-            ..USUAL
-        };
-        let session = served(&rt, rt.alloc(), &given);
-        expect_session(&rt, &session, end, &answers, usize::from(count));
+        expect_count(&rt, rt.alloc(), times, behind, end, count);
     }
-    Ok(())
+}
+
+fn expect_count<R: Wait + Abort>(
+    rt: &R,
+    alloc: Global,
+    times: u16,
+    behind: &[u8],
+    end: Served,
+    count: u16,
+) {
+    let sent = repeated(rt, alloc, b"status\n", times, behind);
+    let answers = repeated(rt, alloc, b"status 500000 0 0 0 0\n", count, b"");
+    let given = Given {
+        sent: &sent,
+        ..USUAL
+    };
+    let session = served(rt, alloc, &given);
+    expect_session(rt, &session, end, &answers, usize::from(count));
 }

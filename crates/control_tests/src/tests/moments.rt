@@ -1,6 +1,7 @@
 //! At which moments the lines of a client are answered.
 
 use super::session::{Given, USUAL, served};
+use client_state::Commit;
 use link_control::LineLog;
 use lk_base::ClientStart;
 use std::alloc::Global;
@@ -44,21 +45,21 @@ fn expect_log(rt: &impl Abort, late: i64, log: &[LineLog], moments: &[i64; 4]) {
 }
 
 fn expect_commit(rt: &impl Abort, k: u64, line: &LineLog) {
-    match line.commit {
-        Some((number, commit)) => {
-            let start = ClientStart {
-                playing: true,
-                time: line.moment,
-                stamp: line.moment,
-            };
-            assert_eq!(rt; number, k);
-            assert_eq!(rt; commit.at, line.moment);
-            assert_eq!(rt; commit.start, Some(start));
-        }
-        None => {
-            assert!(rt; k == 0 || k == 3);
-        }
-    }
+    let right = match line.commit {
+        Some((number, commit)) => number == k && is_start(&commit, line.moment),
+        None => k == 0 || k == 3,
+    };
+    assert!(rt; right, "{k}");
+}
+
+// Whether a commit is made at a moment, and starts to play then.
+fn is_start(commit: &Commit, moment: i64) -> bool {
+    let start = ClientStart {
+        playing: true,
+        time: moment,
+        stamp: moment,
+    };
+    commit.at == moment && commit.start == Some(start)
 }
 
 fn expect_row<R: Wait + Abort>(rt: &R, alloc: Global, late: i64, moments: &[i64; 4]) {

@@ -10,72 +10,49 @@ ghost use Rattle.link_node.specs.Config.{config_value, IsConfig};
 ghost use Rattle.link_control.specs.ControlRun.{IsReady};
 
 use super::node::{HERE, config};
+use super::session::{append, talk_of};
+use arrayvec::ArrayVec;
+use itoa::Buffer;
 use link_control::{ControlEnd, ControlRoom, ControlRun, SessionLog, control_run};
 use link_node::{Config, Event};
 use link_shared::{LinkName, Parts};
-use link_text::{LineBuf, put, put_decimal};
 use lk_outside::{BIND, HEAR, LISTEN, ListPace, ListPort, ListTalk, Pace, RECEIVE, SAY};
-use std::alloc::{AllocError, Global};
+use std::alloc::Global;
 use std::marker::Brand;
 use std::process::Abort;
 use std::sync::Wait;
-use std::test::Fail;
 use std::thread::Threads;
 use triple_buffer::Triple;
 
 /// What is given to a run, and what comes of it.
-struct Row {
-    sent: &'static [u8],
+#[derive(Clone, Copy)]
+struct Row<'a> {
+    sent: &'a [u8],
     /// How many events the journal takes.
     most: u64,
     /// The calls of the port and of the talk that fail: the k-th of a kind.
     port: (u8, u64),
     talk: (u8, u64),
     end: ControlEnd,
-    answers: &'static [u8],
-    counts: Counts,
-}
-
-/// What a run told.
-#[derive(Clone, Copy, Debug, PartialEq, Eq)]
-struct Counts {
-    /// How many lines were logged, states captured and commits made.
-    lines: usize,
-    captures: usize,
-    commits: usize,
-    /// How many ticks, commits and ends stand in the journal.
-    ticks: u64,
-    taken: u64,
-    ends: u64,
-    /// The state published last: its tempo, and whether it plays.
-    mpb: i64,
-    playing: bool,
+    answers: &'a [u8],
+    /// What is told of it.
+    told: &'static str,
 }
 
 /// A call that is never made.
 const NEVER: (u8, u64) = (0, 0);
 
 /// What is told where nothing was sent: the first turn ticks, and so does no other.
-const NOTHING: Counts = Counts {
-    lines: 0,
-    captures: 0,
-    commits: 0,
-    ticks: 1,
-    taken: 0,
-    ends: 1,
-    mpb: 500_000,
-    playing: false,
-};
+const NOTHING: &str = ": 0 lines, 0 captures, 0 commits, t1 c0 e1, 500000-";
 
 /// What is told where one line was sent, which sets a tempo.
-const ONE: Counts = Counts {
-    lines: 1,
-    captures: 1,
-    commits: 1,
-    taken: 1,
-    mpb: 250_000,
-    ..NOTHING
-};
+const ONE: &str = ": 1 lines, 1 captures, 1 commits, t1 c1 e1, 250000-";
+
+/// What is told of three lines that set tempos, where there is no room for the last commit.
+const FULL: &str = ": 3 lines, 3 captures, 3 commits, t1 c2 e0, 200000-";
+
+/// What is told of as many commits as lines are answered, each of which starts to play.
+const MANY: &str = ": 4096 lines, 4096 captures, 4096 commits, t1 c4096 e1, 500000p";
 
 const ROWS: &[Row] = &[
     Row {
@@ -85,7 +62,7 @@ const ROWS: &[Row] = &[
         talk: NEVER,
         end: ControlEnd::Well,
         answers: b"",
-        counts: NOTHING,
+        told: NOTHING,
     },
     // Whether the commits were taken by then or not, the status shows both. The tempo changes at beat 2, half a second of four beats a
     // second behind beat 0.
@@ -96,14 +73,7 @@ const ROWS: &[Row] = &[
         talk: NEVER,
         end: ControlEnd::Well,
         answers: b"status 500000 0 1000000 0 0\nok 1\nok 2\nstatus 250000 0 1500000 1 0\nbad\n",
-        counts: Counts {
-            lines: 5,
-            captures: 5,
-            commits: 2,
-            taken: 2,
-            playing: true,
-            ..ONE
-        },
+        told: ": 5 lines, 5 captures, 2 commits, t1 c2 e1, 250000p",
     },
     // Where the talk can't be opened no line is answered.
     Row {
@@ -113,7 +83,7 @@ const ROWS: &[Row] = &[
         talk: (LISTEN, 1),
         end: ControlEnd::Talk,
         answers: b"",
-        counts: NOTHING,
+        told: NOTHING,
     },
     // The read that would have met the end.
     Row {
@@ -123,7 +93,7 @@ const ROWS: &[Row] = &[
         talk: (HEAR, 2),
         end: ControlEnd::Talk,
         answers: b"ok 1\n",
-        counts: ONE,
+        told: ONE,
     },
     // What can't be answered is done.
     Row {
@@ -133,7 +103,7 @@ const ROWS: &[Row] = &[
         talk: (SAY, 1),
         end: ControlEnd::Talk,
         answers: b"",
-        counts: ONE,
+        told: ONE,
     },
     Row {
         sent: b"tempo 250000\n",
@@ -142,7 +112,7 @@ const ROWS: &[Row] = &[
         talk: NEVER,
         end: ControlEnd::Port,
         answers: b"ok 1\n",
-        counts: ONE,
+        told: ONE,
     },
     Row {
         sent: b"tempo 250000\n",
@@ -151,7 +121,7 @@ const ROWS: &[Row] = &[
         talk: NEVER,
         end: ControlEnd::Port,
         answers: b"ok 1\n",
-        counts: ONE,
+        told: ONE,
     },
     // The port comes before the talk.
     Row {
@@ -161,7 +131,7 @@ const ROWS: &[Row] = &[
         talk: (LISTEN, 1),
         end: ControlEnd::Port,
         answers: b"",
-        counts: NOTHING,
+        told: NOTHING,
     },
     // The tick stands before the second commit, and for the third there is no room.
     Row {
@@ -171,15 +141,7 @@ const ROWS: &[Row] = &[
         talk: NEVER,
         end: ControlEnd::Events,
         answers: b"ok 1\nok 2\nok 3\n",
-        counts: Counts {
-            lines: 3,
-            captures: 3,
-            commits: 3,
-            taken: 2,
-            ends: 0,
-            mpb: 200_000,
-            ..ONE
-        },
+        told: FULL,
     },
     // The talk comes before the journal.
     Row {
@@ -189,15 +151,7 @@ const ROWS: &[Row] = &[
         talk: (SAY, 3),
         end: ControlEnd::Talk,
         answers: b"ok 1\nok 2\n",
-        counts: Counts {
-            lines: 3,
-            captures: 3,
-            commits: 3,
-            taken: 2,
-            ends: 0,
-            mpb: 200_000,
-            ..ONE
-        },
+        told: FULL,
     },
 ];
 
@@ -209,59 +163,57 @@ fn two_threads_run_over_a_link(rt: HostRuntime) {
 }
 
 fn expect_row<R: Threads + Wait + Sync + Abort>(rt: &R, alloc: Global, row: &Row) {
-    let sent = row.sent.to_vec(alloc).expect(rt, "memory for bytes");
-    let mut talk = talk_of(alloc, sent, row.talk).expect(rt, "memory for a talk");
+    let mut talk = talk_of(rt, alloc, row.sent, 512, 40_000, row.talk);
     let mut log = SessionLog::new(alloc).expect(rt, "memory for a log");
     let run = run_on(rt, alloc, row.most, row.port, &mut talk, &mut log);
-    let counts = counts_of(&run, log.lines.len());
     assert_eq!(rt; talk.bytes(), row.answers);
-    assert_eq!(rt; run.end, row.end);
-    assert_eq!(rt; counts, row.counts, "{:?}", row.end);
+    expect_told(rt, &run, log.lines.len(), row.end, row.told);
+}
+
+// Fails where a run ended otherwise, or told something else.
+fn expect_told(rt: &impl Abort, run: &ControlRun, lines: usize, end: ControlEnd, told: &str) {
+    assert_eq!(rt; run.end, end);
+    assert_eq!(rt; tell(run, lines).as_slice(), told.as_bytes(), "{end:?}");
 }
 
 // As many commits as lines are answered: the queue of a link holds a sixteenth of them.
 const COMMITS: u64 = 4_096;
 
 #[test]
-fn a_commit_waits_for_room_in_the_queue(rt: HostRuntime) -> Result<(), Fail> {
-    let alloc = rt.alloc();
-    let (sent, answers) = many_lines(alloc)?;
-    let mut talk = talk_of(alloc, sent, NEVER)?;
-    let mut log = SessionLog::new(alloc)?;
-    let run = run_on(&rt, alloc, 5_000, NEVER, &mut talk, &mut log);
-    assert_eq!(rt; talk.bytes(), answers.as_slice());
-    assert_eq!(rt; run.end, ControlEnd::Well);
-    assert_eq!(rt; count_of(&run.events, Kind::Commit), COMMITS);
-    Ok(())
+fn a_commit_waits_for_room_in_the_queue(rt: HostRuntime) {
+    let (sent, answers) = many_lines(&rt, rt.alloc());
+    let row = Row {
+        sent: &sent,
+        most: 5_000,
+        port: NEVER,
+        talk: NEVER,
+        end: ControlEnd::Well,
+        answers: &answers,
+        told: MANY,
+    };
+    expect_row(&rt, rt.alloc(), &row);
 }
 
 // So many lines that commit, and their answers.
-fn many_lines(alloc: Global) -> Result<(Vec<u8>, Vec<u8>), AllocError> {
+fn many_lines(rt: &impl Abort, alloc: Global) -> (Vec<u8>, Vec<u8>) {
     let mut sent = Vec::new(alloc);
     let mut answers = Vec::new(alloc);
     for k in 0..COMMITS {
-        sent.extend_from_slice(b"play\n")?;
-        let mut line = LineBuf::new();
-        put(&mut line, b"ok ");
-        put_decimal(&mut line, k.wrapping_add(1));
+        let mut line = Text::new();
+        put_number(&mut line, b"ok ", k.wrapping_add(1));
         put(&mut line, b"\n");
-        answers.extend_from_slice(&line)?;
+        append(rt, &mut sent, b"play\n");
+        append(rt, &mut answers, &line);
     }
-    Ok((sent, answers))
+    (sent, answers)
 }
 
 // ---- a run
 
-// A talk that isn't opened, of which this call fails.
-fn talk_of(alloc: Global, sent: Vec<u8>, failing: (u8, u64)) -> Result<ListTalk, AllocError> {
-    let failing = vec![in alloc; failing]?;
-    ListTalk::new(alloc, sent, 512, 40_000, failing)
-}
-
 // A port that nothing comes to, of which this call fails.
-fn port_of(alloc: Global, failing: (u8, u64)) -> Result<ListPort, AllocError> {
-    let failing = vec![in alloc; failing]?;
-    ListPort::new(alloc, Vec::new(alloc), 500, failing)
+fn port_of(rt: &impl Abort, alloc: Global, failing: (u8, u64)) -> ListPort {
+    let failing = vec![in alloc; failing].expect(rt, "memory for a call");
+    ListPort::new(alloc, Vec::new(alloc), 500, failing).expect(rt, "memory for a port")
 }
 
 fn run_on<R: Threads + Wait + Sync + Abort>(
@@ -274,7 +226,7 @@ fn run_on<R: Threads + Wait + Sync + Abort>(
 ) -> ControlRun
     requires log { (log.old.lines.items ≡ []) × (4_096 ≤ vec_capacity log.old.lines) }
 {
-    let mut port = port_of(alloc, failing).expect(rt, "memory for a port");
+    let mut port = port_of(rt, alloc, failing);
     let room = ControlRoom::new(alloc).expect(rt, "memory for a run");
     let config = config();
     let mut pace = ListPace::new(1_000_000);
@@ -312,42 +264,46 @@ fn run_of<N: LinkName + Send + Sync, R: Threads + Wait + Sync>(
 
 // ---- what is told
 
-/// Which events are counted.
-#[derive(Clone, Copy, PartialEq, Eq)]
-enum Kind {
-    Tick,
-    Commit,
-    End,
-    Other,
+/// What is told of a run. What finds no room in it is left out.
+type Text = ArrayVec<u8, 100>;
+
+fn put(text: &mut Text, bytes: &[u8]) {
+    let _room = text.try_extend_from_slice(bytes);
 }
 
-fn counts_of(run: &ControlRun, lines: usize) -> Counts {
-    let (mpb, playing) = match run.published.last() {
-        Some(state) => (state.timeline.mpb, state.start.playing),
-        None => (0, false),
-    };
-    Counts {
-        lines,
-        captures: run.captures.len(),
-        commits: run.commits.len(),
-        ticks: count_of(&run.events, Kind::Tick),
-        taken: count_of(&run.events, Kind::Commit),
-        ends: count_of(&run.events, Kind::End),
-        mpb,
-        playing,
+// Some bytes, and a number behind them.
+fn put_number(text: &mut Text, before: &[u8], number: u64) {
+    put(text, before);
+    put(text, Buffer::new().format(number).as_bytes());
+}
+
+// How many lines were logged, states captured and commits made; how many ticks, commits and ends stand in the journal; and of the state
+// published last the tempo, and `p` where it plays, `-` where it doesn't.
+fn tell(run: &ControlRun, lines: usize) -> Text {
+    let mut text = Text::new();
+    put_number(&mut text, b": ", lines as u64);
+    put_number(&mut text, b" lines, ", run.captures.len() as u64);
+    put_number(&mut text, b" captures, ", run.commits.len() as u64);
+    put_number(&mut text, b" commits, t", count_of(&run.events, b't'));
+    put_number(&mut text, b" c", count_of(&run.events, b'c'));
+    put_number(&mut text, b" e", count_of(&run.events, b'e'));
+    if let Some(state) = run.published.last() {
+        put_number(&mut text, b", ", state.timeline.mpb.unsigned_abs());
+        put(&mut text, if state.start.playing { b"p" } else { b"-" });
     }
+    text
 }
 
-fn kind_of(event: &Event) -> Kind {
+fn kind_of(event: &Event) -> u8 {
     match event {
-        Event::Tick { .. } => Kind::Tick,
-        Event::App { .. } => Kind::Commit,
-        Event::End { .. } => Kind::End,
-        Event::Rx { .. } | Event::Audio { .. } => Kind::Other,
+        Event::Tick { .. } => b't',
+        Event::App { .. } => b'c',
+        Event::End { .. } => b'e',
+        Event::Rx { .. } | Event::Audio { .. } => b'*',
     }
 }
 
-fn count_of(events: &[Event], kind: Kind) -> u64 {
+fn count_of(events: &[Event], kind: u8) -> u64 {
     let mut count = 0u64;
     for event in events {
         count = count.wrapping_add(u64::from(kind_of(event) == kind));

@@ -50,9 +50,15 @@ pub struct Session {
     pub log: SessionLog,
 }
 
+/// Puts bytes behind others.
+pub fn append(rt: &impl Abort, bytes: &mut Vec<u8>, more: &[u8]) {
+    bytes.extend_from_slice(more).expect(rt, "memory for bytes");
+}
+
 /// A session over a link that is opened at 0.
 pub fn served<R: Wait + Abort>(rt: &R, alloc: Global, given: &Given) -> Session {
-    let mut talk = talk_of(rt, alloc, given);
+    let mut talk = talk_of(rt, alloc, given.sent, given.most, given.room, given.failing);
+    open(rt, &mut talk);
     let mut pace = ListPace::new(given.late.clamp(0, MOMENT_MAX));
     let mut log = SessionLog::new(alloc).expect(rt, "memory for a log");
     let mut sends = Sends::new(alloc).expect(rt, "memory for what is sent");
@@ -65,17 +71,25 @@ pub fn served<R: Wait + Abort>(rt: &R, alloc: Global, given: &Given) -> Session 
     Session { end, talk, log }
 }
 
-// An open talk.
-fn talk_of(rt: &impl Abort, alloc: Global, given: &Given) -> ListTalk
-    ensures { IsSome (opened_of result) }
+/// A talk that isn't opened, with room for so many bytes, of which this call fails. A read gives so many bytes at most.
+pub fn talk_of(
+    rt: &impl Abort,
+    alloc: Global,
+    sent: &[u8],
+    most: usize,
+    room: usize,
+    failing: (u8, u64),
+) -> ListTalk {
+    let failing = vec![in alloc; failing].expect(rt, "memory for a call");
+    let sent = sent.to_vec(alloc).expect(rt, "memory for bytes");
+    let talk = ListTalk::new(alloc, sent, most.max(1), room, failing);
+    talk.expect(rt, "memory for a talk")
+}
+
+fn open(rt: &impl Abort, talk: &mut ListTalk)
+    ensures { IsSome (opened_of talk.new) }
 {
-    let failing = vec![in alloc; given.failing].expect(rt, "memory for a call");
-    let sent = given.sent.to_vec(alloc).expect(rt, "memory for bytes");
-    assert!(rt; given.most > 0);
-    let talk = ListTalk::new(alloc, sent, given.most, given.room, failing);
-    let mut talk = talk.expect(rt, "memory for a talk");
     assert!(rt; talk.listen(HERE) == Bound::Ready);
-    talk
 }
 
 // The datagram of these bytes, if there are any.

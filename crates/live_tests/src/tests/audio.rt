@@ -18,73 +18,58 @@ use audio_handoff::StateCell;
 use client_state::Commit;
 use link_live::{Room, audio_loop};
 use link_shared::{AudioPass, Link, LinkName, Opened, Parts};
-use link_text::{LiveFault, LiveScript};
+use link_text::LiveScript;
 use lk_base::ClientStart;
 use lk_outside::ListAudio;
 use rows::{ROWS, Row};
-use std::alloc::{AllocError, Global};
+use std::alloc::Global;
 use std::marker::Brand;
 use std::process::Abort;
 use std::sync::Wait;
-use std::test::Fail;
 use told::tell;
 use triple_buffer::Triple;
 
 #[test]
-fn each_block_is_played_by_one_state_and_its_commits_follow(rt: HostRuntime) -> Result<(), Fail> {
+fn each_block_is_played_by_one_state_and_its_commits_follow(rt: HostRuntime) {
     for row in ROWS {
         expect_row(&rt, rt.alloc(), row);
     }
-    Ok(())
 }
 
 fn expect_row<R: Wait + Abort>(rt: &R, alloc: Global, row: &Row) {
-    let Ok(told) = told_for(rt, alloc, row) else {
-        panic!(rt; "no run: {}", row.commands);
-    };
+    let script = script_of(alloc, row.commands).expect(rt, "a script");
+    let told = told_by(rt, alloc, row, &script);
     assert_eq!(rt; told.as_slice(), row.told.as_bytes(), "{}", row.commands);
 }
 
-fn told_for<R: Wait>(rt: &R, alloc: Global, row: &Row) -> Result<Text, LiveFault> {
-    let script = script_of(alloc, row.commands)?;
-    told_by(rt, alloc, row, &script).map_err(LiveFault::Memory)
-}
-
-fn told_by<R: Wait>(
-    rt: &R,
-    alloc: Global,
-    row: &Row,
-    script: &LiveScript,
-) -> Result<Text, AllocError>
+fn told_by<R: Wait + Abort>(rt: &R, alloc: Global, row: &Row, script: &LiveScript) -> Text
     requires apps { All (λ command. IsCommand (app_command command)) script.now.apps.items }
     requires commands { All (λ command. IsCommand (block_command command)) script.now.blocks.items }
     requires few { length script.now.blocks.items ≤ 99 }
 {
-    let mut room = Room::new(alloc, script, u64::from(row.blocks))?;
-    let mut device = device_of(alloc, Blocks::Long, row.device, row.failing)?;
-    let ended = played_on(rt, alloc, row, script, &mut room, &mut device)?;
-    Ok(tell(&room.audio, &device, ended))
+    let room = Room::new(alloc, script, u64::from(row.blocks));
+    let mut room = room.expect(rt, "memory for a run");
+    let mut device = device_of(rt, alloc, Blocks::Long, row.device, row.failing);
+    let ended = played_on(rt, alloc, row, script, &mut room, &mut device);
+    tell(&room.audio, &device, ended)
 }
 
-// Whether the blocks of a row ended well. The link comes last, since nothing can fail behind it.
-fn played_on<R: Wait>(
+// Whether the blocks of a row ended well.
+fn played_on<R: Wait + Abort>(
     rt: &R,
     alloc: Global,
     row: &Row,
     script: &LiveScript,
     room: &mut Room,
     device: &mut ListAudio,
-) -> Result<bool, AllocError>
+) -> bool
     requires few { length script.now.blocks.items ≤ 99 }
     requires ready { IsReady script.now row.now.blocks room.old }
 {
-    let parts = new_parts(rt, alloc)?;
-    Ok(played_over::<Triple<11>, Brand>(parts, row, script, room, device))
-}
-
-fn new_parts<R: Wait>(rt: &R, alloc: Global) -> Result<Parts<Triple<11>>, AllocError> {
     let config = config_of(&[0]);
-    Parts::<Triple<11>>::new(rt, alloc, &(), &config, 1_000_000, 1)
+    let parts = Parts::<Triple<11>>::new(rt, alloc, &(), &config, 1_000_000, 1);
+    let parts = parts.expect(rt, "memory for a link");
+    played_over::<Triple<11>, Brand>(parts, row, script, room, device)
 }
 
 fn played_over<C: StateCell<11, Way = ()>, N: LinkName>(

@@ -6,6 +6,7 @@ ghost use Rattle.lk_outside.specs.Audio.{IsBlock};
 use lk_base::Block;
 use lk_outside::ListAudio;
 use std::alloc::{AllocError, Global};
+use std::process::Abort;
 
 /// When the blocks of a device begin.
 #[derive(Clone, Copy)]
@@ -18,13 +19,15 @@ pub enum Blocks {
 
 /// A device of so many blocks, whose call of this kind and number fails, from 1. One of number 0 is never made.
 pub fn device_of(
+    rt: &impl Abort,
     alloc: Global,
     blocks: Blocks,
     count: u16,
     failing: (u8, u64),
-) -> Result<ListAudio, AllocError> {
-    let failing = vec![in alloc; failing]?;
-    ListAudio::new(alloc, blocks_of(alloc, blocks, count)?, failing)
+) -> ListAudio {
+    let failing = vec![in alloc; failing].expect(rt, "memory for a call");
+    let blocks = blocks_of(alloc, blocks, count).expect(rt, "memory for blocks");
+    ListAudio::new(alloc, blocks, failing).expect(rt, "memory for a device")
 }
 
 fn blocks_of(alloc: Global, blocks: Blocks, count: u16) -> Result<Vec<Block>, AllocError>

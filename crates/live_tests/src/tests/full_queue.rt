@@ -11,11 +11,10 @@ use client_state::Commit;
 use link_live::ask_to_end;
 use link_node::Sends;
 use link_shared::{AppPass, Got, Hub, Link, LinkName, Opened, Parts};
-use std::alloc::{AllocError, Global};
+use std::alloc::Global;
 use std::marker::Brand;
 use std::process::Abort;
 use std::sync::Wait;
-use std::test::Fail;
 use std::thread;
 use std::thread::{Parker, Threads};
 use std::time::Duration;
@@ -38,16 +37,15 @@ const NOTHING: Commit = Commit {
 };
 
 #[test]
-fn a_quit_waits_for_room_behind_256_commits(rt: HostRuntime) -> Result<(), Fail> {
-    quit_late(&rt, rt.alloc())?;
-    Ok(())
+fn a_quit_waits_for_room_behind_256_commits(rt: HostRuntime) {
+    quit_late(&rt, rt.alloc());
 }
 
-fn quit_late<R: Threads + Wait + Sync + Abort>(rt: &R, alloc: Global) -> Result<(), AllocError> {
-    let sends = Sends::new(alloc)?;
-    let parts = Parts::<Triple<11>>::new(rt, alloc, &(), &config_of(&[0]), 0, 300)?;
+fn quit_late<R: Threads + Wait + Sync + Abort>(rt: &R, alloc: Global) {
+    let sends = Sends::new(alloc).expect(rt, "memory for what is sent");
+    let parts = Parts::<Triple<11>>::new(rt, alloc, &(), &config_of(&[0]), 0, 300);
+    let parts = parts.expect(rt, "memory for a link");
     quit_over::<Triple<11>, Brand, R>(rt, &(), parts, sends);
-    Ok(())
 }
 
 fn quit_over<C: StateCell<11> + Sync, N: LinkName + Send + Sync, R: Threads + Wait + Sync + Abort>(

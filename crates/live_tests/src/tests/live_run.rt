@@ -19,13 +19,12 @@ use client_state::State;
 use link_live::{LiveEnd, LiveRun, Room, live_run};
 use link_node::{Config, Event};
 use link_shared::{LinkName, Parts};
-use link_text::{LineBuf, LiveFault, LiveScript, write_state_line};
+use link_text::{LineBuf, LiveScript, write_state_line};
 use lk_outside::{BIND, ListAudio, ListPace, ListPort, NEXT, Pace, RECEIVE};
-use std::alloc::{AllocError, Global};
+use std::alloc::Global;
 use std::marker::Brand;
 use std::process::Abort;
 use std::sync::Wait;
-use std::test::Fail;
 use std::thread::Threads;
 use triple_buffer::Triple;
 
@@ -143,29 +142,18 @@ const ROWS: &[Row] = &[
 ];
 
 #[test]
-fn three_threads_run_over_a_link(rt: HostRuntime) -> Result<(), Fail> {
+fn three_threads_run_over_a_link(rt: HostRuntime) {
     for row in ROWS {
         expect_row(&rt, rt.alloc(), row);
     }
-    Ok(())
 }
 
 // ---- a run
 
 fn expect_row<R: Threads + Wait + Sync + Abort>(rt: &R, alloc: Global, row: &Row) {
-    let Ok(told) = told_for(rt, alloc, row) else {
-        panic!(rt; "no run: {}", row.commands);
-    };
+    let script = script_of(alloc, row.commands).expect(rt, "a script");
+    let told = told_by(rt, alloc, row, &script);
     assert_eq!(rt; told.as_slice(), row.told.as_bytes(), "{}", row.commands);
-}
-
-fn told_for<R: Threads + Wait + Sync + Abort>(
-    rt: &R,
-    alloc: Global,
-    row: &Row,
-) -> Result<Text, LiveFault> {
-    let script = script_of(alloc, row.commands)?;
-    told_by(rt, alloc, row, &script).map_err(LiveFault::Memory)
 }
 
 fn told_by<R: Threads + Wait + Sync + Abort>(
@@ -173,21 +161,21 @@ fn told_by<R: Threads + Wait + Sync + Abort>(
     alloc: Global,
     row: &Row,
     script: &LiveScript,
-) -> Result<Text, AllocError>
+) -> Text
     requires apps { All (λ command. IsCommand (app_command command)) script.now.apps.items }
     requires commands { All (λ command. IsCommand (block_command command)) script.now.blocks.items }
     requires few { length script.now.blocks.items ≤ 99 }
 {
-    let mut port = port_of(alloc, row.port)?;
-    let mut device = device_of(alloc, Blocks::Short, row.blocks, row.device)?;
+    let mut port = port_of(rt, alloc, row.port);
+    let mut device = device_of(rt, alloc, Blocks::Short, row.blocks, row.device);
     let run = run_on(rt, alloc, row, script, &mut port, &mut device);
-    Ok(tell(&run))
+    tell(&run)
 }
 
 // A port that nothing comes to, of which this call fails.
-fn port_of(alloc: Global, failing: (u8, u64)) -> Result<ListPort, AllocError> {
-    let failing = vec![in alloc; failing]?;
-    ListPort::new(alloc, Vec::new(alloc), 500, failing)
+fn port_of(rt: &impl Abort, alloc: Global, failing: (u8, u64)) -> ListPort {
+    let failing = vec![in alloc; failing].expect(rt, "memory for a call");
+    ListPort::new(alloc, Vec::new(alloc), 500, failing).expect(rt, "memory for a port")
 }
 
 fn run_on<R: Threads + Wait + Sync + Abort>(

@@ -1,5 +1,5 @@
 //! A link whose node has one gate, with two applications.
-ghost use Rattle.std.specs.Prelude.{◌≡◌, length};
+ghost use Rattle.std.specs.Prelude.{◌≡◌, ◌≤◌, ◌<◌, ◌+◌, length};
 ghost use Rattle.link_shared.specs.Hub.{IsOnGate};
 
 use super::{OPENING, endpoint};
@@ -7,7 +7,7 @@ use audio_handoff::StateCell;
 use link_node::Sends;
 use link_shared::{AppPass, AudioPass, Ended, Got, Hub, Link, LinkName, Opened, Parts, Turned};
 use lk_base::{Gate, Wire};
-use std::alloc::{AllocError, Global};
+use std::alloc::Global;
 use std::process::Abort;
 use std::sync::Wait;
 
@@ -61,13 +61,13 @@ pub struct Bench<C: StateCell<11>, N: LinkName> {
 
 impl<C: StateCell<11>, N: LinkName> Bench<C, N> {
     /// The second pass is made by the first.
-    pub fn open<R: Wait>(
+    pub fn open<R: Wait + Abort>(
         rt: &R,
         alloc: Global,
         way: &C::Way,
         parts: Parts<C>,
         sends: Sends,
-    ) -> Result<Bench<C, N>, AllocError>
+    ) -> Bench<C, N>
         requires cells { (parts.app_states ≡ N.app_states) × (parts.audio_states ≡ N.audio_states) × (parts.audio_commits ≡ N.audio_commits) }
         requires queue { parts.queue ≡ N.queue }
         requires ledger { (parts.ledger ≡ N.name) × (parts.shares ≡ N.parts) × (N.whole ≡ N.parts) }
@@ -75,20 +75,21 @@ impl<C: StateCell<11>, N: LinkName> Bench<C, N> {
     {
         let mut opened = Link::<C, N>::make(parts);
         let Opened { link, app, .. } = &mut opened;
-        let second = link.app_pass(rt, alloc, way, app)?;
+        let second = link.app_pass(rt, alloc, way, app);
+        let second = second.expect(rt, "memory for a pass");
         let Opened {
             link,
             hub,
             audio,
             app: first,
         } = opened;
-        Ok(Bench {
+        Bench {
             link,
             network: Network { hub, sends },
             audio,
             first,
             second,
-        })
+        }
     }
 
     /// The last turn, so many microseconds after the opening, with so many of the two passes handed in. Answers how many datagrams it
@@ -109,28 +110,20 @@ impl<C: StateCell<11>, N: LinkName> Bench<C, N> {
         } = self;
         let Network { mut hub, mut sends } = network;
         assert!(rt; hub.handed() == 0);
-        hand_in(&mut hub, first, second, passes);
+        hand_in(&mut hub, first, passes > 0);
+        hand_in(&mut hub, second, passes > 1);
         let now = OPENING + i64::from(after);
         let ended = hub.last_turn(rt, link, way, audio, now, &mut sends);
         (ended, sends.list().len())
     }
 }
 
-// Hands in none of two passes, the first one, or both.
-fn hand_in<C: StateCell<11>, N: LinkName>(
-    hub: &mut Hub<C, N>,
-    first: AppPass<C, N>,
-    second: AppPass<C, N>,
-    passes: u8,
-)
-    requires { length hub.old.handed ≡ 0 }
+// Hands in a pass, or leaves it.
+fn hand_in<C: StateCell<11>, N: LinkName>(hub: &mut Hub<C, N>, pass: AppPass<C, N>, goes_in: bool)
+    requires { length hub.old.handed < 16 }
+    ensures { length hub.new.handed ≤ length hub.old.handed + 1 }
 {
-    if passes == 0 {
-        return;
+    if goes_in {
+        hub.hand_in(pass);
     }
-    hub.hand_in(first);
-    if passes == 1 {
-        return;
-    }
-    hub.hand_in(second);
 }

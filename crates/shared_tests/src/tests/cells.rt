@@ -3,16 +3,12 @@ ghost use Rattle.std.specs.Prelude.{◌≡◌};
 ghost use Rattle.std.specs.Option.{ForSome};
 
 use audio_handoff::{Read, SeqState, StateCell};
-use std::alloc::{AllocError, Global};
-use std::fmt::Debug;
+use std::alloc::Global;
 use std::process::Abort;
 use std::sync::Wait;
-use std::test::*;
 use triple_buffer::Triple;
 
-/// The rows of a case stand under their numbers; the first is the opening row.
-const SAME_WORDS: &[[u64; 9]] = &[[40, 41, 42, 43, 44, 45, 46, 47, 48], [1; 9], [2; 9], [3; 9]];
-
+/// The rows stand under their numbers; the first is the opening row.
 const ROWS: &[[u64; 9]] = &[
     [0, 1, 2, 3, 4, 5, 6, 7, 8],
     [10, 11, 12, 13, 14, 15, 16, 17, 18],
@@ -37,11 +33,14 @@ const CASES: &str = "\
     r0pr1=1 r0pr1pr2=2 r0pr1pr2pr3=3 r0ppr2=2 r0pppr3ppr5=5 pppppppppr9=9 wt=0 wtr0=0 ntr0=0 pwtr1=1 \
     pwpr2t=2 pwprtr2=2 ppwtr2=2 pwppctr3=3 pwcr1tr1=1 wpctr1=1 ncr0tr0=0 pr1ntr1=1 pr1npctr2=2 \
     pr1npr2ctr2=2 pr1nppwtr3=3 wwwtr0=0 pwcccctr1=1 t=0 cr0=0 ttpr1=1 pr1wppr3tr3p=4 r0nppr2t=2 \
-    ppwr2ctppr4=4 prpnrpwctrpr4=4 \
+    ppwr2ctppr4=4 prpnrpwctrpr4=4 l0r0pwtr1ppwcr3otl3=3 l0r0r0ppl0r2l2=2 \
 ";
 
-/// A cell with its tokens, at most one note, the number of the row made last, what was answered last, and whether all was right
-/// that has no answer: each row got the next number, no writer was spent, and no note was refused.
+/// What stands for a row that isn't there: words that no row has.
+const NO_ROW: [u64; 9] = [99; 9];
+
+/// A cell with its tokens, at most one note, the number of the row made last, what was answered last, and whether each row got the next
+/// number, and no writer was spent.
 #[derive(Drop)]
 struct Bench<C: StateCell<9>> {
     cell: C,
@@ -56,18 +55,20 @@ struct Bench<C: StateCell<9>> {
     ghost note_is: { ForSome note (λ n. (C.noting n).cell ≡ C.cell cell) },
 }
 
-/// What a read of the row of that number answers. A row that isn't there is of words that no row has.
-fn read_of(rows: &[[u64; 9]], number: u64) -> Read<9> {
+/// What a read of the row of that number answers.
+fn read_of(number: u64) -> Read<9> {
     Read {
         number,
-        row: rows.get(number as usize).copied().unwrap_or([99; 9]),
+        row: ROWS.get(number as usize).copied().unwrap_or(NO_ROW),
     }
 }
 
 impl<C: StateCell<9>> Bench<C> {
-    fn open(alloc: Global, way: &C::Way, opening: Read<9>) -> Result<Bench<C>, AllocError> {
-        let (cell, writer, reader) = C::make(alloc, way, &opening.row)?;
-        Ok(Bench {
+    fn open(rt: &impl Abort, alloc: Global, way: &C::Way) -> Bench<C> {
+        let opening = read_of(0);
+        let made = C::make(alloc, way, &opening.row);
+        let (cell, writer, reader) = made.expect(rt, "memory for a cell");
+        Bench {
             cell,
             writer,
             reader,
@@ -75,7 +76,7 @@ impl<C: StateCell<9>> Bench<C> {
             made: 0,
             answer: opening,
             right: true,
-        })
+        }
     }
 
     /// Makes a row.
@@ -88,58 +89,52 @@ impl<C: StateCell<9>> Bench<C> {
             ..
         } = self;
         let before = *made;
-        if cell.is_spent(writer) {
-            *right = false;
-        } else {
+        if !cell.is_spent(writer) {
             *made = cell.publish(way, writer, row);
         }
-        *right = *right && before < *made && *made - before == 1;
+        *right = *right & (made.wrapping_sub(before) == 1);
     }
 
-    /// The steps that make a note, or tell one that is made at once.
-    fn take_note(&mut self, alloc: Global, way: &C::Way, step: u8) {
+    fn note_of_writer(&mut self, rt: &impl Abort, alloc: Global, way: &C::Way) {
         let Bench {
             cell,
             writer,
-            reader,
             note,
-            right,
             ..
         } = self;
-        match step {
-            b'w' => {
-                *note = cell.note_of_writer(alloc, way, writer).ok();
-                *right = *right && note.is_some();
-            }
-            b'n' => {
-                *note = cell.note_of_reader(alloc, way, reader).ok();
-                *right = *right && note.is_some();
-            }
-            b'o' => match cell.note_of_reader(alloc, way, reader) {
-                Ok(own) => cell.tell(way, reader, own),
-                Err(_) => *right = false,
-            },
-            b'c' => {
-                if let Some(first) = note {
-                    match cell.copy_note(alloc, way, first) {
-                        Ok(copy) => cell.tell(way, reader, copy),
-                        Err(_) => *right = false,
-                    }
-                }
-            }
-            _ => {}
-        }
+        let made = cell.note_of_writer(alloc, way, writer);
+        *note = Some(made.expect(rt, "memory for a note"));
     }
 
-    /// The steps that read, and that which tells the note.
-    fn take_read(&mut self, way: &C::Way) {
+    fn note_of_reader(&mut self, rt: &impl Abort, alloc: Global, way: &C::Way) {
         let Bench {
             cell,
             reader,
-            answer,
+            note,
             ..
         } = self;
-        *answer = cell.read(way, reader);
+        let made = cell.note_of_reader(alloc, way, reader);
+        *note = Some(made.expect(rt, "memory for a note"));
+    }
+
+    /// Tells a note of the reader that is made at once.
+    fn tell_own(&mut self, rt: &impl Abort, alloc: Global, way: &C::Way) {
+        let Bench { cell, reader, .. } = self;
+        let made = cell.note_of_reader(alloc, way, reader);
+        cell.tell(way, reader, made.expect(rt, "memory for a note"));
+    }
+
+    fn tell_copy(&mut self, rt: &impl Abort, alloc: Global, way: &C::Way) {
+        let Bench {
+            cell,
+            reader,
+            note,
+            ..
+        } = self;
+        if let Some(first) = note {
+            let copy = cell.copy_note(alloc, way, first);
+            cell.tell(way, reader, copy.expect(rt, "memory for a note"));
+        }
     }
 
     fn tell_note(&mut self, way: &C::Way) {
@@ -154,16 +149,27 @@ impl<C: StateCell<9>> Bench<C> {
         }
     }
 
-    fn take_step(&mut self, alloc: Global, way: &C::Way, rows: &[[u64; 9]], step: u8) {
+    fn read(&mut self, way: &C::Way) {
+        let Bench {
+            cell,
+            reader,
+            answer,
+            ..
+        } = self;
+        *answer = cell.read(way, reader);
+    }
+
+    fn take_step(&mut self, rt: &impl Abort, alloc: Global, way: &C::Way, step: u8) {
         match step {
-            b'p' => {
-                let next = read_of(rows, self.made.saturating_add(1));
-                self.publish(way, &next.row);
-            }
-            b'r' => self.take_read(way),
-            b'l' => self.answer = read_of(rows, self.cell.last_read(&self.reader)),
+            b'p' => self.publish(way, &read_of(self.made.saturating_add(1)).row),
+            b'r' => self.read(way),
+            b'l' => self.answer = read_of(self.cell.last_read(&self.reader)),
             b't' => self.tell_note(way),
-            _ => self.take_note(alloc, way, step),
+            b'w' => self.note_of_writer(rt, alloc, way),
+            b'n' => self.note_of_reader(rt, alloc, way),
+            b'o' => self.tell_own(rt, alloc, way),
+            b'c' => self.tell_copy(rt, alloc, way),
+            _ => self.right = false,
         }
     }
 
@@ -179,9 +185,9 @@ impl<C: StateCell<9>> Bench<C> {
     }
 }
 
-/// Fails, telling the case and both, where the two are not the same.
-fn expect<T: PartialEq + Debug>(rt: &impl Abort, case: &str, found: &T, wanted: &T) {
-    assert_eq!(rt; *found, *wanted, "{case}");
+/// Fails, telling the case, where an answer isn't the row of that number.
+fn expect_read(rt: &impl Abort, case: &str, found: &Read<9>, number: u64) {
+    assert!(rt; *found == read_of(number), "{case}");
 }
 
 /// Takes the steps, and compares each answer.
@@ -190,78 +196,39 @@ fn take_steps<C: StateCell<9>>(
     alloc: Global,
     way: &C::Way,
     bench: &mut Bench<C>,
-    rows: &[[u64; 9]],
     steps: &str,
 ) {
     for step in steps.bytes() {
         if step.is_ascii_digit() {
-            let wanted = read_of(rows, u64::from(step - b'0'));
-            expect(rt, steps, &bench.answer, &wanted);
+            expect_read(rt, steps, &bench.answer, u64::from(step - b'0'));
         } else {
-            bench.take_step(alloc, way, rows, step);
+            bench.take_step(rt, alloc, way, step);
         }
     }
-    expect(rt, steps, &bench.right, &true);
+    assert!(rt; bench.right, "{steps}");
 }
 
 /// Runs a case over a cell.
-fn run_case<C: StateCell<9>>(
-    rt: &impl Abort,
-    alloc: Global,
-    way: &C::Way,
-    rows: &[[u64; 9]],
-    case: &str,
-) -> Result<(), AllocError> {
+fn run_case<C: StateCell<9>>(rt: &impl Abort, alloc: Global, way: &C::Way, case: &str) {
     let (steps, last) = case.split_once('=').unwrap_or((case, ""));
     let last = last.parse::<u64>().unwrap_or(1000);
-    let mut bench = Bench::<C>::open(alloc, way, read_of(rows, 0))?;
-    take_steps(rt, alloc, way, &mut bench, rows, steps);
-    expect(rt, case, &bench.settle(way), &read_of(rows, last));
-    Ok(())
+    let mut bench = Bench::<C>::open(rt, alloc, way);
+    take_steps(rt, alloc, way, &mut bench, steps);
+    expect_read(rt, case, &bench.settle(way), last);
 }
 
 /// Runs a case over either cell.
-fn run_both<R: Wait + Abort>(rt: &R, alloc: Global, case: &str) -> Result<(), AllocError> {
-    run_case::<Triple<9>>(rt, alloc, &(), ROWS, case)?;
-    run_case::<SeqState<R, 9>>(rt, alloc, rt, ROWS, case)
+fn run_both<R: Wait + Abort>(rt: &R, alloc: Global, case: &str) {
+    run_case::<Triple<9>>(rt, alloc, &(), case);
+    run_case::<SeqState<R, 9>>(rt, alloc, rt, case);
 }
 
 #[test]
-fn a_second_read_answers_the_same_row_until_a_row_is_made(rt: HostRuntime) -> Result<(), Fail> {
-    let (cell, mut writer, mut reader) = Triple::<1>::make(rt.alloc(), &(), &[9])?;
-    let opening = Read {
-        number: 0,
-        row: [9],
-    };
-    let second = Read {
-        number: 2,
-        row: [5],
-    };
-    expect(&rt, "first", &cell.read(&(), &mut reader), &opening);
-    expect(&rt, "again", &cell.read(&(), &mut reader), &opening);
-    expect(&rt, "a row", &cell.publish(&(), &mut writer, &[4]), &1);
-    expect(&rt, "another", &cell.publish(&(), &mut writer, &[5]), &2);
-    expect(&rt, "last read", &cell.last_read(&reader), &0);
-    expect(&rt, "second", &cell.read(&(), &mut reader), &second);
-    expect(&rt, "last read then", &cell.last_read(&reader), &2);
-    expect(&rt, "spent", &cell.is_spent(&writer), &false);
-    Ok(())
-}
-
-#[test]
-fn a_read_answers_the_opening_row_and_then_each_row_told(rt: HostRuntime) -> Result<(), Fail> {
-    let case = "l0r0pwtr1ppwcr3otl3=3";
-    run_case::<SeqState<HostRuntime, 9>>(&rt, rt.alloc(), &rt, SAME_WORDS, case)?;
-    Ok(())
-}
-
-#[test]
-fn either_cell_answers_as_the_lists_say(rt: HostRuntime) -> Result<(), Fail> {
+fn either_cell_answers_as_the_lists_say(rt: HostRuntime) {
     let mut count = 0u64;
     for case in CASES.split_whitespace() {
-        run_both(&rt, rt.alloc(), case)?;
+        run_both(&rt, rt.alloc(), case);
         count = count.saturating_add(1);
     }
-    assert_eq!(rt; count, 43);
-    Ok(())
+    assert_eq!(rt; count, 45);
 }

@@ -1,7 +1,7 @@
 //! A full queue, and more commits than 16 bits count.
 
 use super::bench::{Bench, Network};
-use super::{edit, opening_state, shown_with, start_at, state_of};
+use super::{OPENED, edit, shown_with, start_at, state_of};
 use audio_handoff::StateCell;
 use client_state::State;
 use link_shared::{AppPass, Busy, Capture, Got, Link, LinkName, QueueFull, Turned};
@@ -34,7 +34,7 @@ pub fn fill_queue<C: StateCell<11>, N: LinkName, R: Wait + Abort>(
         ..
     } = bench;
     assert_eq!(rt; (first.room(), second.room()), (65_534, 0));
-    let opening = opening_state();
+    let opening = OPENED;
     let last = state_of(257, 0, start_at(301), 301);
     expect_capture(rt, alloc, way, link, first, 0, &opening, &opening);
     expect_capture(rt, alloc, way, link, second, 0, &opening, &opening);
@@ -118,7 +118,7 @@ fn take_all<C: StateCell<11>, N: LinkName, R: Wait + Abort>(
     pass: &mut AppPass<C, N>,
     network: &mut Network<C, N>,
 ) {
-    let mut state = opening_state();
+    let mut state = OPENED;
     for taken in 1..257u16 {
         state = shown_with(&state, taken);
         state.app = u64::from(taken);

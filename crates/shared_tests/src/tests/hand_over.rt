@@ -4,11 +4,10 @@ ghost use Rattle.std.specs.Thread.{IsSync};
 ghost use Rattle.triple_buffer.specs.Views.{writer_in};
 
 use audio_handoff::{Read, SeqState, StateCell};
-use std::alloc::{AllocError, Global};
+use std::alloc::Global;
 use std::process::Abort;
 use std::sync::Wait;
 use std::sync::atomic::{AtomicU64, Ordering};
-use std::test::*;
 use std::thread;
 use std::thread::{Threads, yield_now};
 use triple_buffer::Triple;
@@ -127,13 +126,11 @@ fn read_all<C: StateCell<W>, const W: usize>(
 }
 
 /// Hands rows from one thread to another. Answers the last one, and what the other thread found.
-fn hand_over<R: Threads + Sync, const W: usize>(
-    rt: &R,
-    alloc: Global,
-) -> Result<(Read<W>, Found), AllocError>
+fn hand_over<R: Threads + Sync + Abort, const W: usize>(rt: &R, alloc: Global) -> (Read<W>, Found)
     requires { (0 < W) × (W < 16) }
 {
-    let (cell, writer, reader) = Triple::<W>::make(alloc, &(), &[0; W])?;
+    let made = Triple::<W>::make(alloc, &(), &[0; W]);
+    let (cell, writer, reader) = made.expect(rt, "memory for a cell");
     let shared = &cell;
     let told = Marks::new();
     let marks = &told;
@@ -148,17 +145,18 @@ fn hand_over<R: Threads + Sync, const W: usize>(
             ensures { result.0.seat.table_id ≡ shared.entry.now.table.shared.table_id }
         { read_all::<Triple<W>, W>(shared, &(), reader, marks) },
     );
-    Ok((cell.settle(&(), writer, reader), found))
+    (cell.settle(&(), writer, reader), found)
 }
 
 /// The same over a cell that may wait.
-fn hand_over_waiting<R: Threads + Wait + Sync, const W: usize>(
+fn hand_over_waiting<R: Threads + Wait + Sync + Abort, const W: usize>(
     rt: &R,
     alloc: Global,
-) -> Result<(Read<W>, Found), AllocError>
+) -> (Read<W>, Found)
     requires { (0 < W) × (W < 16) }
 {
-    let (cell, writer, reader) = SeqState::<R, W>::make(alloc, rt, &[0; W])?;
+    let made = SeqState::<R, W>::make(alloc, rt, &[0; W]);
+    let (cell, writer, reader) = made.expect(rt, "memory for a cell");
     let shared = &cell;
     let told = Marks::new();
     let marks = &told;
@@ -173,7 +171,7 @@ fn hand_over_waiting<R: Threads + Wait + Sync, const W: usize>(
             ensures { result.0.pass.table_id ≡ shared.entry.now.cell.table.shared.table_id }
         { read_all::<SeqState<R, W>, W>(shared, rt, reader, marks) },
     );
-    Ok((cell.settle(rt, writer, reader), found))
+    (cell.settle(rt, writer, reader), found)
 }
 
 /// The last row is the last one made, each row was whole, none older than the one before, and rows were read while rows
@@ -188,28 +186,24 @@ fn check_found<const W: usize>(rt: &impl Abort, last: Read<W>, found: Found)
     assert!(rt; numbers > 2, "{numbers} numbers of rows of {W} words");
 }
 
-fn check_threads<R: Threads + Wait + Sync + Abort, const W: usize>(
-    rt: &R,
-    alloc: Global,
-) -> Result<(), AllocError>
+fn check_threads<R: Threads + Wait + Sync + Abort, const W: usize>(rt: &R, alloc: Global)
     requires { (0 < W) × (W < 16) }
 {
-    let (last, found) = hand_over::<R, W>(rt, alloc)?;
+    let (last, found) = hand_over::<R, W>(rt, alloc);
     check_found(rt, last, found);
-    let (last, found) = hand_over_waiting::<R, W>(rt, alloc)?;
+    let (last, found) = hand_over_waiting::<R, W>(rt, alloc);
     check_found(rt, last, found);
-    Ok(())
+}
+
+fn check_widths<R: Threads + Wait + Sync + Abort>(rt: &R, alloc: Global) {
+    check_threads::<R, 1>(rt, alloc);
+    check_threads::<R, 11>(rt, alloc);
+    check_threads::<R, 15>(rt, alloc);
 }
 
 #[test]
-fn rows_that_one_thread_makes_are_read_whole_and_in_order_by_another(
-    rt: HostRuntime,
-) -> Result<(), Fail> {
+fn rows_that_one_thread_makes_are_read_whole_and_in_order_by_another(rt: HostRuntime) {
     for _ in 0..TIMES {
-        check_threads::<HostRuntime, 1>(&rt, rt.alloc())?;
-        check_threads::<HostRuntime, 9>(&rt, rt.alloc())?;
-        check_threads::<HostRuntime, 11>(&rt, rt.alloc())?;
-        check_threads::<HostRuntime, 15>(&rt, rt.alloc())?;
+        check_widths(&rt, rt.alloc());
     }
-    Ok(())
 }

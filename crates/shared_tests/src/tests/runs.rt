@@ -7,7 +7,7 @@ use super::{edit, shown_with, state_of};
 use arrayvec::ArrayVec;
 use audio_handoff::StateCell;
 use link_node::Event;
-use link_shared::{AppPass, AudioPass, Capture, Got, Link, LinkName};
+use link_shared::{AppPass, AudioPass, Capture, Ended, Got, Link, LinkName};
 use std::alloc::Global;
 use std::process::Abort;
 use std::sync::Wait;
@@ -24,64 +24,64 @@ use std::sync::Wait;
 /// applications it has taken, the number of the last audio commit taken, the commit that its quantum is of, as in a turn's
 /// answer, or O0 for the opening, and which own commit is shown over it. The third commit of a thread is of a quantum alone.
 ///
-/// z, y, x: the last turn, with both passes handed in, with none, or with the first alone; what it took, as a turn, and behind = how
-/// many states were published.
+/// z: the last turn, how many of the two passes are handed in to it, the first before the second, what it took, as a turn, and behind =
+/// how many states were published.
 pub const RUNS: &[&str] = &[
-    "9k000O0.l000O0.m000O0.zE>1=1",
-    "9a1k000O01zX1E>1=2",
-    "9a1nX1k110X1.zE>1=2",
-    "9c1m000O01zU1E>1=2",
-    "9c1nU1m101U1.zE>1=2",
-    "9c1c2m000O02nU2m102U2.zE>1=2",
-    "9a1c1nX1U1k211U1.m211U1.zE>1=3",
-    "9a1b2nX1k110X1.l110X11nY1l220Y1.zE>1=3",
-    "9a1b2k000O01nX1l110X11nY1k220Y1.zE>1=3",
-    "9tT>1tTzE>1=1",
-    "9dRdRzE>1=1",
-    "9n-n-zE>1=1",
-    "9q.nQn-zE>1=1",
-    "9a1q.nX1nQn-zE>1=2",
-    "9q.a1nQnX1zE>1=2",
-    "9a1tX1T>1zE>1=2",
-    "9c1dU1RzE>1=2",
-    "9a1c1tX1U1T>1zE>1=3",
-    "9a1a2a3nX1nX2k220X23nX3k330X3.zE>1=4",
-    "9a1b2a3b4zX1Y1X2Y2E>1=5",
-    "9c1c2c3zU3E>1=2",
-    "9c1nU1c2m101U12nU2m202U2.zE>1=3",
-    "9a1c1zU1X1E>1=3",
-    "9a1c1k000O01m000O01zU1X1E>1=3",
-    "1tT>1a1nFk000O01zF=1",
-    "1a1nX1k110X1.zF=2",
-    "1a1c1nX1FzF=2",
-    "2a1c1nX1U1zF=3",
-    "2a1b2nX1nY1zF=3",
-    "2a1b2a3nX1nY1nFk220Y12l220Y1.zF=3",
-    "3c1nU1c2nU2c3nU3c4nFm303U34zF=4",
-    "9b1l000O01nY1l110Y1.k110Y1.zE>1=2",
-    "9a1k000O01b2l000O01k000O01zX1Y1E>1=3",
-    "9q.q.nQnQn-zE>1=1",
-    "9q.zE>1=1",
-    "9a1q.b2zX1Y1E>1=3",
-    "9tT>1a1tX1TzE>1=2",
-    "9dRa1dX1Rc1dU1Rm211U1.zE>1=3",
-    "9c1nU1n-zE>1=2",
-    "9a1nX1c1nU1a2nX2k321X2.c2nU2k422U2.m422U2.zE>1=5",
-    "4a1a2c1tX1U1T>1nX2zF=4",
-    "9yE>1=1",
-    "9a1yX1E>1=2",
-    "9a1b2yX1Y1E>1=3",
-    "9a1a2nX1c1q.yU1X2E>1=4",
-    "2a1b2yX1Y1F=3",
-    "9b1xY1E>1=2",
-    "9a1b2xX1Y1E>1=3",
-    "9a1b2b3nX1nY1xY2E>1=4",
-    "9a1c1eX1U1E>1m211U1.eE>1zE>1=3",
-    "9a1b2eX1E>1eY1E>1tT>1zE>1=3",
-    "9q.eEQ>1n-zE>1=1",
-    "9a1q.c1eX1U1E>1eEQ>1zE>1=3",
-    "2a1c1q.eX1U1FeQFk211U1.zF=3",
-    "3a1b2c1q.eX1U1E>1eFnQl211U11zF=3",
+    "9k000O0.l000O0.m000O0.z2E>1=1",
+    "9a1k000O01z2X1E>1=2",
+    "9a1nX1k110X1.z2E>1=2",
+    "9c1m000O01z2U1E>1=2",
+    "9c1nU1m101U1.z2E>1=2",
+    "9c1c2m000O02nU2m102U2.z2E>1=2",
+    "9a1c1nX1U1k211U1.m211U1.z2E>1=3",
+    "9a1b2nX1k110X1.l110X11nY1l220Y1.z2E>1=3",
+    "9a1b2k000O01nX1l110X11nY1k220Y1.z2E>1=3",
+    "9tT>1tTz2E>1=1",
+    "9dRdRz2E>1=1",
+    "9n-n-z2E>1=1",
+    "9q.nQn-z2E>1=1",
+    "9a1q.nX1nQn-z2E>1=2",
+    "9q.a1nQnX1z2E>1=2",
+    "9a1tX1T>1z2E>1=2",
+    "9c1dU1Rz2E>1=2",
+    "9a1c1tX1U1T>1z2E>1=3",
+    "9a1a2a3nX1nX2k220X23nX3k330X3.z2E>1=4",
+    "9a1b2a3b4z2X1Y1X2Y2E>1=5",
+    "9c1c2c3z2U3E>1=2",
+    "9c1nU1c2m101U12nU2m202U2.z2E>1=3",
+    "9a1c1z2U1X1E>1=3",
+    "9a1c1k000O01m000O01z2U1X1E>1=3",
+    "1tT>1a1nFk000O01z2F=1",
+    "1a1nX1k110X1.z2F=2",
+    "1a1c1nX1Fz2F=2",
+    "2a1c1nX1U1z2F=3",
+    "2a1b2nX1nY1z2F=3",
+    "2a1b2a3nX1nY1nFk220Y12l220Y1.z2F=3",
+    "3c1nU1c2nU2c3nU3c4nFm303U34z2F=4",
+    "9b1l000O01nY1l110Y1.k110Y1.z2E>1=2",
+    "9a1k000O01b2l000O01k000O01z2X1Y1E>1=3",
+    "9q.q.nQnQn-z2E>1=1",
+    "9q.z2E>1=1",
+    "9a1q.b2z2X1Y1E>1=3",
+    "9tT>1a1tX1Tz2E>1=2",
+    "9dRa1dX1Rc1dU1Rm211U1.z2E>1=3",
+    "9c1nU1n-z2E>1=2",
+    "9a1nX1c1nU1a2nX2k321X2.c2nU2k422U2.m422U2.z2E>1=5",
+    "4a1a2c1tX1U1T>1nX2z2F=4",
+    "9z0E>1=1",
+    "9a1z0X1E>1=2",
+    "9a1b2z0X1Y1E>1=3",
+    "9a1a2nX1c1q.z0U1X2E>1=4",
+    "2a1b2z0X1Y1F=3",
+    "9b1z1Y1E>1=2",
+    "9a1b2z1X1Y1E>1=3",
+    "9a1b2b3nX1nY1z1Y2E>1=4",
+    "9a1c1eX1U1E>1m211U1.eE>1z2E>1=3",
+    "9a1b2eX1E>1eY1E>1tT>1z2E>1=3",
+    "9q.eEQ>1n-z2E>1=1",
+    "9a1q.c1eX1U1E>1eEQ>1z2E>1=3",
+    "2a1c1q.eX1U1FeQFk211U1.z2F=3",
+    "3a1b2c1q.eX1U1E>1eFnQl211U11z2F=3",
 ];
 
 /// An answer.
@@ -109,16 +109,18 @@ pub fn events_of(run: &str) -> u64
     }
 }
 
-/// The steps of a run before its last turn, how many passes are handed in to that, and what it answers.
-fn parts_of(run: &str) -> (&str, u8, &str) {
-    if let Some((steps, ending)) = run.split_once('z') {
-        return (steps, 2, ending);
+/// The steps of a run before its last turn, and what stands behind its sign.
+fn parts_of(run: &str) -> (&str, &str) {
+    run.split_once('z').unwrap_or((run, ""))
+}
+
+/// How many passes are handed in to the last turn.
+fn passes_in(ending: &str) -> u8 {
+    match ending.as_bytes().first() {
+        Some(b'0') => 0,
+        Some(b'1') => 1,
+        _ => 2,
     }
-    if let Some((steps, ending)) = run.split_once('x') {
-        return (steps, 1, ending);
-    }
-    let (steps, ending) = run.split_once('y').unwrap_or((run, ""));
-    (steps, 0, ending)
 }
 
 fn put(text: &mut Text, byte: u8) {
@@ -129,18 +131,26 @@ fn put_digit(text: &mut Text, n: u64) {
     put(text, if n < 10 { b'0' + n as u8 } else { b'*' });
 }
 
+fn digit(n: u64) -> Text {
+    let mut text = Text::new();
+    put_digit(&mut text, n);
+    text
+}
+
 fn put_taken(text: &mut Text, event: &Event) {
     match event {
         Event::Rx { .. } => put(text, b'R'),
         Event::Tick { .. } => put(text, b'T'),
         Event::App { commit, .. } => put_commit(text, commit.at),
-        Event::Audio { number, commit, .. } => {
-            put_commit(text, commit.at);
-            if which(commit.at) != *number {
-                put(text, b'*');
-            }
-        }
+        Event::Audio { number, commit, .. } => put_audio(text, *number, commit.at),
         Event::End { .. } => put(text, b'E'),
+    }
+}
+
+fn put_audio(text: &mut Text, number: u64, at: i64) {
+    put_commit(text, at);
+    if which(at) != number {
+        put(text, b'*');
     }
 }
 
@@ -220,9 +230,10 @@ fn commit<C: StateCell<11>, N: LinkName, R: Wait>(
     last: &mut u16,
 ) -> Text {
     *last = last.saturating_add(1);
-    let mut text = Text::new();
-    put_digit(&mut text, link.commit(rt, pass, edit(*last)).unwrap_or(10));
-    text
+    match link.commit(rt, pass, edit(*last)) {
+        Ok(number) => digit(number),
+        Err(_) => digit(10),
+    }
 }
 
 /// Where memory is wanting the answer is that of no run.
@@ -247,14 +258,10 @@ fn commit_audio<C: StateCell<11>, N: LinkName>(
     last: &mut u16,
 ) -> Text {
     *last = last.saturating_add(1);
-    let number = if link.audio_spent(pass) {
-        10
-    } else {
-        link.commit_audio(way, pass, &edit(*last))
-    };
-    let mut text = Text::new();
-    put_digit(&mut text, number);
-    text
+    if link.audio_spent(pass) {
+        return digit(10);
+    }
+    digit(link.commit_audio(way, pass, &edit(*last)))
 }
 
 fn quit<C: StateCell<11>, N: LinkName, R: Wait>(rt: &R, link: &Link<C, N>) -> Text {
@@ -329,14 +336,13 @@ pub fn play_run<C: StateCell<11>, N: LinkName, R: Wait + Abort>(
     bench: &mut Bench<C, N>,
     run: &str,
 ) {
-    let (steps, _passes, _ending) = parts_of(run);
+    let (steps, _ending) = parts_of(run);
     let mut lasts = Lasts {
         first: 100,
         second: 200,
         audio: 300,
     };
-    let mut answer = Text::new();
-    put_digit(&mut answer, events_of(run));
+    let mut answer = digit(events_of(run));
     let mut at = 0u64;
     for byte in steps.bytes() {
         if b"abcqndteklm".contains(&byte) {
@@ -365,11 +371,16 @@ pub fn end_run<C: StateCell<11>, N: LinkName, R: Wait + Abort>(
     run: &str,
 ) {
     let before = bench.network.hub.journal().len();
-    let (_steps, passes, ending) = parts_of(run);
-    let (ended, sent) = bench.end(rt, way, 0, passes);
-    let mut text = Text::new();
+    let (_steps, ending) = parts_of(run);
+    let (ended, sent) = bench.end(rt, way, 0, passes_in(ending));
+    let text = ending_text(&ended, before, sent, passes_in(ending));
+    assert_eq!(rt; text.as_slice(), ending.as_bytes(), "at the end of {run}");
+}
+
+fn ending_text(ended: &Ended, before: usize, sent: usize, passes: u8) -> Text {
+    let mut text = digit(u64::from(passes));
     put_news(&mut text, &ended.events, before, false, ended.full, sent);
     put(&mut text, b'=');
     put_digit(&mut text, ended.published.len() as u64);
-    assert_eq!(rt; text.as_slice(), ending.as_bytes(), "at the end of {run}");
+    text
 }

@@ -7,7 +7,7 @@ use audio_handoff::StateCell;
 use client_state::State;
 use link_node::Event;
 use link_shared::{AppPass, AudioPass, Capture, Ended, Got, Link, LinkName};
-use std::alloc::{AllocError, Global};
+use std::alloc::Global;
 use std::process::Abort;
 use std::sync::Wait;
 use std::thread;
@@ -53,12 +53,14 @@ struct Last {
 }
 
 impl Report {
-    fn new(alloc: Global) -> Result<Report, AllocError> {
-        Ok(Report {
-            numbers: Vec::with_capacity(alloc, ROUNDS as usize)?,
-            seen: Vec::with_capacity(alloc, ROUNDS as usize)?,
+    fn new(rt: &impl Abort, alloc: Global) -> Report {
+        let numbers = Vec::with_capacity(alloc, ROUNDS as usize);
+        let seen = Vec::with_capacity(alloc, ROUNDS as usize);
+        Report {
+            numbers: numbers.expect(rt, "memory for numbers"),
+            seen: seen.expect(rt, "memory for states"),
             right: true,
-        })
+        }
     }
 
     fn note_commit(&mut self, number: u64) {
@@ -95,12 +97,12 @@ pub struct Reports {
 }
 
 impl Reports {
-    pub fn new(alloc: Global) -> Result<Reports, AllocError> {
-        Ok(Reports {
-            audio: Report::new(alloc)?,
-            one: Report::new(alloc)?,
-            other: Report::new(alloc)?,
-        })
+    pub fn new(rt: &impl Abort, alloc: Global) -> Reports {
+        Reports {
+            audio: Report::new(rt, alloc),
+            one: Report::new(rt, alloc),
+            other: Report::new(rt, alloc),
+        }
     }
 }
 
@@ -208,7 +210,7 @@ fn turn_all<C: StateCell<11>, N: LinkName, R: Wait>(
 
 /// How long after the opening a turn is.
 fn moment_of(turn: u16) -> u32 {
-    u32::from(turn) * 100
+    u32::from(turn).wrapping_mul(100)
 }
 
 // A function that joins threads names the types of a cell's tokens.
@@ -398,14 +400,14 @@ fn check_seen(rt: &impl Abort, report: &Report, published: &[State]) {
 }
 
 /// The commits of the applications, by the times of their starts, in the order of the journal.
-fn taken_in(alloc: Global, events: &[Event]) -> Result<Vec<i64>, AllocError> {
-    let mut taken = Vec::with_capacity(alloc, events.len())?;
+fn taken_in(rt: &impl Abort, alloc: Global, events: &[Event]) -> Vec<i64> {
+    let mut taken = Vec::new(alloc);
     for event in events {
         if let Event::App { commit, .. } = event {
-            taken.push(commit.at)?;
+            taken.push(commit.at).expect(rt, "memory for times");
         }
     }
-    Ok(taken)
+    taken
 }
 
 /// The numbers of an application's commits rise, and under each the journal has that commit.
@@ -435,21 +437,15 @@ fn check_audio(rt: &impl Abort, report: &Report, events: &[Event]) {
 }
 
 /// What the threads did and saw fits the journal and the states published.
-pub fn check_outcome(
-    rt: &impl Abort,
-    alloc: Global,
-    ended: &Ended,
-    reports: &Reports,
-) -> Result<(), AllocError> {
+pub fn check_outcome(rt: &impl Abort, alloc: Global, ended: &Ended, reports: &Reports) {
     let Reports { audio, one, other } = reports;
     assert!(rt; !ended.full, "there was room");
     check_seen(rt, audio, &ended.published);
     check_seen(rt, one, &ended.published);
     check_seen(rt, other, &ended.published);
     check_audio(rt, audio, &ended.events);
-    let taken = taken_in(alloc, &ended.events)?;
+    let taken = taken_in(rt, alloc, &ended.events);
     check_taken(rt, one, other, &taken);
-    Ok(())
 }
 
 /// The journal has as many commits of applications as they made.

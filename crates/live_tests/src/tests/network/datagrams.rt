@@ -81,17 +81,13 @@ const DATAGRAMS: [(u8, &[u8], usize); 9] = [
     (b'x', b"\x00", 1),
 ];
 
-/// The datagram of a small letter, no byte where there is none. `y` is that of `a` with a byte changed, which the moment picks.
-pub fn datagram_of(letter: u8, moment: i64) -> Wire {
+/// The datagram of a small letter, no byte where there is none.
+pub fn datagram_of(letter: u8) -> Wire {
     let mut wire = Wire::new();
-    let name = if letter == b'y' { b'a' } else { letter };
     for (other, bytes, length) in &DATAGRAMS {
-        if *other == name {
+        if *other == letter {
             put(&mut wire, bytes, *length);
         }
-    }
-    if letter == b'y' {
-        change(&mut wire, (moment.unsigned_abs() % 107) as usize);
     }
     wire
 }
@@ -103,19 +99,13 @@ fn put(wire: &mut Wire, bytes: &[u8], length: usize) {
     }
 }
 
-fn change(wire: &mut Wire, place: usize) {
-    if let Some(byte) = wire.as_mut_slice().get_mut(place) {
-        *byte ^= 1;
-    }
-}
-
 /// Where the datagram of a small letter comes from: a pong from where pings go, each other from the port that is its letter.
 pub fn sender_of(letter: u8) -> Endpoint {
     endpoint(u16::from(if letter == b'o' { b'n' } else { letter }))
 }
 
 /// How long each datagram is, the port that it comes from, and its letter.
-const LETTERS: [(usize, u8, u8); 11] = [
+const LETTERS: [(usize, u8, u8); 10] = [
     (0, b'z', b'z'),
     (1, b'x', b'x'),
     (20, b'b', b'b'),
@@ -124,7 +114,6 @@ const LETTERS: [(usize, u8, u8); 11] = [
     (107, b'a', b'a'),
     (107, b'k', b'k'),
     (107, b'n', b'n'),
-    (107, b'y', b'y'),
     (512, b'j', b'j'),
     (513, b'l', b'l'),
 ];

@@ -17,6 +17,7 @@ use link_node::{Config, GateSetup};
 use lk_base::{ClientStart, Endpoint, Gate, MOMENT_MAX, Timeline};
 use lk_outside::{Arrival, Bound, ListPort, Port};
 use std::alloc::{AllocError, Global};
+use std::process::Abort;
 
 /// What a run is given.
 #[derive(Clone, Copy)]
@@ -66,11 +67,12 @@ fn limit_of(given: &Given, letter: u8, usual: u64) -> u64 {
 // ---- the port
 
 /// A port with what comes.
-pub fn port_of(alloc: Global, given: &Given) -> Result<ListPort, AllocError> {
-    let failing = Vec::from_slice(alloc, given.limits)?;
-    let arrivals = arrivals_of(alloc, given.coming, opening_of(given))?;
+pub fn port_of(rt: &impl Abort, alloc: Global, given: &Given) -> ListPort {
+    let failing = Vec::from_slice(alloc, given.limits).expect(rt, "memory for calls");
+    let arrivals = arrivals_of(alloc, given.coming, opening_of(given));
+    let arrivals = arrivals.expect(rt, "memory for what comes");
     let room = limit_of(given, b'h', 500).min(500) as usize;
-    ListPort::new(alloc, arrivals, room, failing)
+    ListPort::new(alloc, arrivals, room, failing).expect(rt, "memory for a port")
 }
 
 /// Binds a port to the gates of the config, unless none is to be bound. Answers whether they are.
@@ -123,7 +125,7 @@ fn arrival_of(letter: u8, after: i64, opening: i64) -> Arrival
     Arrival::Datagram {
         gate: Gate(u8::from(small != letter)),
         from: sender_of(small),
-        bytes: datagram_of(small, after),
+        bytes: datagram_of(small),
         now,
     }
 }

@@ -2,7 +2,6 @@
 
 use super::super::events::{kind_of, moment_of};
 use super::super::lines::{Text, put, put_count, put_number};
-use super::checks::Cases;
 use super::datagrams::letter_of;
 use super::watch::Watch;
 use link_live::NetEnd;
@@ -17,9 +16,6 @@ pub struct Told {
     pub text: Text,
     /// Until when each receive was to wait, from the opening on.
     pub untils: Text,
-    /// What is against the rules, nothing where all is right.
-    pub wrong: &'static str,
-    pub cases: Cases,
 }
 
 /// The line of a run, and until when each receive was to wait. The line has three parts.
@@ -32,7 +28,7 @@ pub struct Told {
 ///
 /// How many arrivals were given and how many are left, behind `@` the clock from the opening on, where the port failed the count of
 /// faults behind `!`, and `#` where the journal was full.
-pub fn tell(journal: &[Event], watch: &Watch, end: NetEnd, opening: i64) -> (Text, Text) {
+pub fn tell(journal: &[Event], watch: &Watch, end: NetEnd, opening: i64) -> Told {
     let mut text = Text::new();
     for event in journal {
         put_event(&mut text, event, opening);
@@ -43,7 +39,8 @@ pub fn tell(journal: &[Event], watch: &Watch, end: NetEnd, opening: i64) -> (Tex
     }
     put(&mut text, b"| ");
     put_end(&mut text, &watch.port, end, opening);
-    (text, moments(watch.untils.as_slice(), opening))
+    let untils = moments(watch.untils.as_slice(), opening);
+    Told { text, untils }
 }
 
 fn moments(moments: &[i64], opening: i64) -> Text {

@@ -1,4 +1,4 @@
-//! A link over each cell, on which a script is run.
+//! A link on which a script is run.
 
 ghost use Rattle.std.specs.Prelude.{◌≡◌, ◌≤◌, All, length};
 ghost use Rattle.link_text.specs.LiveScript.{IsCommand, app as app_command, block as block_command};
@@ -15,10 +15,11 @@ use link_shared::{AppPass, Got, Hub, Link, LinkName, Opened, Parts};
 use link_text::{LineBuf, LiveScript, write_event, write_state_line};
 use lk_base::MOMENT_MAX;
 use lk_outside::ListPace;
-use std::alloc::{AllocError, Global};
+use std::alloc::Global;
 use std::marker::Brand;
 use std::process::Abort;
 use std::sync::Wait;
+use triple_buffer::Triple;
 
 const NOTHING: Commit = Commit {
     timeline: None,
@@ -27,21 +28,16 @@ const NOTHING: Commit = Commit {
     at: 0,
 };
 
-/// The run of a row over a link with such a cell, and what is told of it. The link comes last, since nothing can fail behind it.
-pub fn told_by<C: StateCell<11>, R: Wait + Abort>(
-    rt: &R,
-    alloc: Global,
-    way: &C::Way,
-    row: &Row,
-    script: &LiveScript,
-) -> Result<Text, AllocError>
+/// The run of a row, and what is told of it.
+pub fn told_by<R: Wait + Abort>(rt: &R, alloc: Global, row: &Row, script: &LiveScript) -> Text
     requires apps { All (λ command. IsCommand (app_command command)) script.now.apps.items }
     requires commands { All (λ command. IsCommand (block_command command)) script.now.blocks.items }
     requires few { length script.now.blocks.items ≤ 99 }
 {
-    let mut room = Room::new(alloc, script, 0)?;
-    let parts = Parts::<C>::new(rt, alloc, way, &config_of(&[0]), 0, 300)?;
-    Ok(told_of::<C, Brand, R>(rt, alloc, way, parts, row, script, &mut room))
+    let mut room = Room::new(alloc, script, 0).expect(rt, "memory for a run");
+    let parts = Parts::<Triple<11>>::new(rt, alloc, &(), &config_of(&[0]), 0, 300);
+    let parts = parts.expect(rt, "memory for a link");
+    told_of::<Triple<11>, Brand, R>(rt, alloc, &(), parts, row, script, &mut room)
 }
 
 fn told_of<C: StateCell<11>, N: LinkName, R: Wait + Abort>(
