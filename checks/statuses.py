@@ -2,8 +2,9 @@
 """Runs the built program to each status that isn't 0 and can be brought about from outside: checks/statuses.py PROGRAM.
 
 Each run's exit status, standard output and whole text on standard error are compared with what is written here; of a live run that went on
-only how its output begins, since the rest hangs on the clock. Status 9, want of memory, has no run, and 11 and 12 are brought about by
-checks/control.py.
+only how its output begins, since the rest hangs on the clock, and of many lines at fault only which line is told. Of words that set up a
+run it is compared how the run is told that they set up. Status 9, want of memory, has no run, 12 is brought about by checks/control.py, and
+11 too where there is a client.
 The last line is 'N passed, N failed'.
 """
 import os
@@ -11,6 +12,7 @@ import resource
 import socket
 import subprocess
 import sys
+import threading
 
 NODE = b"node QRSTUVWX 1 500000 1 1000000\n"
 GATE = b"gate 127.0.0.1:20809\n"
@@ -87,6 +89,11 @@ UNBOUND = (
     b"jorazhil: live without the network; no blocks, room for 262144 events, bars of 4 beats\n"
 )
 IN_USE, NOT_HERE = b"Address already in use (os error 98)", b"Cannot assign requested address (os error 99)"
+# The text of status 11.
+UNSERVED = (
+    b"jorazhil: the client could not be served: its endpoint could not be opened (its address must be this machine's, and its port free), "
+    b"or the connection broke; the run ended there\n"
+)
 JOURNAL = b"jorazhil: the journal took %d of %s\n"
 NO_AT = b"jorazhil: the script had no at command, so the node left its session at once\n"
 PORT = (
@@ -104,6 +111,7 @@ TOO_LONG = b"jorazhil: the input is longer than 16777216 bytes; nothing was writ
 # Where a client would connect, which nobody comes to in these runs, and words that name no such place.
 CLIENT = "127.0.0.1:0"
 NO_ENDPOINTS = ["", "x", "localhost:1", "127.0.0.1", "127.0.0.1:", "127.0.0.1:65536", "1.2.3.256:1", "1.2.3:1", "01.2.3.4:1", "1.2.3.4:1 ", "[::1]:1"]
+NO_ENDPOINTS += [" 1.2.3.4:5", "1.2.3.4:05", "1.2.3.4:+5", "1..3.4:5", "1.2.3.4:5:6"]
 NO_COMMAND = b"no command: a script for `control` has none, as its client gives them"
 
 GATE_OR_COMMAND = b"`gate`, `to` or a command: `at` or `block`"
@@ -134,6 +142,12 @@ TO_OR_EVENT = b"`to` or an event, as the node has four gates: `rx`, `tick`, `app
 GATE_TO_OR_EVENT = b"`gate`, `to` or an event: `rx`, `tick`, `app`, `audio` or `end`"
 AUDIO_NUMBER = b"a number from 1 to 1152921504606846975"
 EVENT = b"an event: `rx`, `tick`, `app`, `audio` or `end`"
+SETUP_LINE = b"`setup` and a tempo and a sync"
+NODE_ID = b"an id of eight characters from ! to ~"
+ENDPOINT = b"an endpoint as in 127.0.0.1:20808"
+HEX = b"at most 513 bytes in hex digits, two for each, or `-` for none"
+LIMITED = b"a number from -1152921504606846976 to 1152921504606846976"
+BLOCK = b"the number of a block from 1 to 524288"
 TEXT_END = b"the end of the text"
 SAMPLE = b"a sample count from -1152921504606846976 to 1152921504606846976"
 HOST = b"a host time from -1152921504606846976 to 1152921504606846976 microseconds"
@@ -303,6 +317,57 @@ TEXTS = [
     (["replay"], HEAD + b"audio 0 0 0\n", 8, at_fault(4, 9, AUDIO_NUMBER, b'"0"')),
     (["live"], LINK + b"at 0 request x\n", 8, at_fault(4, 14, BEAT, b'"x"')),
     (["live"], LINK + b"at 0 force\n", 8, at_fault(4, 11, BEAT, LINE_END)),
+    # The first lines of a replay script.
+    (["replay"], b"link 1", 8, at_fault(1, 1, VERSION, b'"link"')),
+    (["replay"], b"replay", 8, at_fault(1, 7, VERSION, LINE_END)),
+    (["replay"], b"replay 2 1", 8, at_fault(1, 10, LINE_END, b'"1"')),
+    (["replay"], b"replay 1 \n", 8, at_fault(1, 10, LINE_END, NO_WORD)),
+    (["replay"], b"replay 1\r\n", 8, at_fault(1, 9, VERSION, CARRIAGE_RETURN)),
+    (["replay"], b"replay 1\n#\n", 8, at_fault(3, 1, NODE_LINE, TEXT_END)),
+    (["replay"], b"replay 1\nnode ABC", 8, at_fault(2, 6, NODE_ID, b'"ABC"')),
+    (["replay"], b"replay 2\nnode ABC", 8, at_fault(2, 6, NODE_ID, b'"ABC"')),
+    (["replay"], b"replay 1\nnode ABCDEFGH 7 1", 8, at_fault(2, 17, TEMPO, b'"1"')),
+    (["replay"], FRONT + b"group 1\n#\n" + GATE, 8, at_fault(5, 1, QUANTUM_LINE, b'"gate"')),
+    (["replay"], FRONT + b"group 1\nquantum 0\ntick 0", 8, at_fault(5, 1, GATE_LINE, b'"tick"')),
+    (["replay"], HEAD_2 + b"quantum 0", 8, at_fault(6, 1, GATE_TO_OR_EVENT, b'"quantum"')),
+    (["replay"], FRONT + b"group 1\nquantum -1", 8, at_fault(4, 9, QUANTUM, b'"-1"')),
+    (["replay"], HEAD + b"to 1.2.3.4", 8, at_fault(4, 4, ENDPOINT, b'"1.2.3.4"')),
+    # The words of an event, and how what stands there is shown.
+    (["replay"], HEAD + b"tick", 8, at_fault(4, 5, MOMENT, LINE_END)),
+    (["replay"], HEAD + b"tick 07", 8, at_fault(4, 6, MOMENT, b'"07"')),
+    (["replay"], HEAD + b"tick 0 x", 8, at_fault(4, 8, LINE_END, b'"x"')),
+    (["replay"], HEAD + b"tick  0", 8, at_fault(4, 6, MOMENT, NO_WORD)),
+    (["replay"], HEAD + b"rx 0 0 127.0.0.1 00", 8, at_fault(4, 8, ENDPOINT, b'"127.0.0.1"')),
+    (["replay"], HEAD + b"rx 0 0 1.2.3.4:5 0g", 8, at_fault(4, 18, HEX, b'"0g"')),
+    (["replay"], HEAD + b"app 0 0 t 500000 0", 8, at_fault(4, 19, LIMITED, LINE_END)),
+    (["replay"], HEAD + b"audio 0 1 0\naudio 0 1 0", 8, at_fault(5, 9, b"a greater number than that of the last audio commit", b'"1"')),
+    (["replay"], HEAD_2 + b"audio 0 1 0 s 1 0 0 t", 8, at_fault(6, 21, QUANTUM_PART, b'"t"')),
+    (["replay"], HEAD + b"foo\tbar", 8, at_fault(4, 1, GATE_TO_OR_EVENT, b'"foo\\tbar"')),
+    (["replay"], HEAD + b'\x1b"', 8, at_fault(4, 1, GATE_TO_OR_EVENT, b'"\\x1b\\""')),
+    (["replay"], HEAD + b"abcdefghij" * 4 + b"abcde", 8, at_fault(4, 1, GATE_TO_OR_EVENT, b'"' + b"abcdefghij" * 4 + b'"...')),
+    (["replay"], HEAD + b"tick 0\nto 1.2.3.4:5", 8, at_fault(5, 1, EVENT, b'"to"')),
+    # The head of a live script, and its commands.
+    (["live"], b"link 2", 8, at_fault(1, 6, b"`link 1`", b'"2"')),
+    (["live"], b"link 1\n#\nnode A", 8, at_fault(3, 1, SETUP_LINE, b'"node"')),
+    (["live"], b"link 1\nsetup 60059 1", 8, at_fault(2, 7, TEMPO, b'"60059"')),
+    (["live"], b"link 1\nsetup 60060", 8, at_fault(2, 12, b"1 or 0", LINE_END)),
+    (["live"], b"link 1\nsetup 60060 1\nat 0 play", 8, at_fault(3, 1, GATE_LINE, b'"at"')),
+    (["live"], LINK + b"tick 0", 8, at_fault(4, 1, GATE_OR_COMMAND, b'"tick"')),
+    (["live"], LINK + b"at 0 play\nto 1.2.3.4:5", 8, at_fault(5, 1, b"a command: `at` or `block`", b'"to"')),
+    (["live"], LINK + b"at -1 play", 8, at_fault(4, 4, MOMENT, b'"-1"')),
+    (["live"], LINK + b"at 0 force x", 8, at_fault(4, 12, BEAT, b'"x"')),
+    (["live"], LINK + b"at 0 look x", 8, at_fault(4, 11, LINE_END, b'"x"')),
+    (["live"], LINK + b"at 0 tempo 1", 8, at_fault(4, 12, TEMPO, b'"1"')),
+    (["live"], LINK + b"at 0 quantum -1", 8, at_fault(4, 14, QUANTUM, b'"-1"')),
+    (["live"], LINK + b"at 0 play\r", 8, at_fault(4, 10, ACT, CARRIAGE_RETURN)),
+    (["live"], LINK + b"block 524289 play", 8, at_fault(4, 7, BLOCK, b'"524289"')),
+    (["live"], LINK + b"block 1 quantum", 8, at_fault(4, 16, QUANTUM, LINE_END)),
+    (["live"], LINK + b"block 1 stop 2", 8, at_fault(4, 14, LINE_END, b'"2"')),
+    (["control", CLIENT], LINK + b"to 1.2.3.4:5\n#\nblock 1 play", 8, at_fault(6, 1, NO_COMMAND, b'"block"')),
+    (["control", CLIENT], LINK + b"tick 0", 8, at_fault(4, 1, b"`gate`, `to` or the end of the script", b'"tick"')),
+    (["control", CLIENT], LINK + b"to 1.2.3.4", 8, at_fault(4, 4, ENDPOINT, b'"1.2.3.4"')),
+    (["control", CLIENT], b"link 1\nsetup 500000 1\nat 0 look", 8, at_fault(3, 1, GATE_LINE, b'"at"')),
+    (["control", CLIENT], b"link 1\nsetup 500000 1\n#", 8, at_fault(4, 1, GATE_LINE, TEXT_END)),
     # The greatest words, one that begins with a plus, and no block: the whole script is read in any case.
     (["midi", "1000000", "524288"], b"", 8, at_fault(1, 1, VERSION, TEXT_END)),
     (["midi", "+5", "1"], HEAD + b"app 0 0 q 3000000\n", 8, at_fault(4, 9, NO_QUANTUM, b'"q"')),
@@ -318,6 +383,13 @@ TEXTS = [
     (["live"], LINK + b"at 0 quantum\n", 8, at_fault(4, 13, QUANTUM, LINE_END)),
     (["live"], LINK + b"at 0 quantum 0\nat 0 quantum 1099511627777\n", 8, at_fault(5, 14, QUANTUM, b'"1099511627777"')),
     (["live"], LINK + b"at 0 quantum 5 5\n", 8, at_fault(4, 16, LINE_END, b'"5"')),
+    (
+        ["live"],
+        LINK + b"at 0 quantum 0\nat 0 quantum 1099511627776\nblock 1 quantum 0\nblock 1 quantum 1099511627776\nat 0 quantum 1099511627777\n",
+        8,
+        at_fault(8, 14, QUANTUM, b'"1099511627777"'),
+    ),
+    (["live"], LINK + b"block 1 quantum 1\nblock 1 quantum\n", 8, at_fault(5, 16, QUANTUM, LINE_END)),
     (["live"], LINK + b"block 1 quantum -1\n", 8, at_fault(4, 17, QUANTUM, b'"-1"')),
     (["live"], LINK + b"block 1 quantum 5\nblock 1 request 5\n", 8, at_fault(5, 9, BLOCK_ACT, b'"request"')),
     (["live"], LINK + LOOK + b"block 1 look\n", 8, at_fault(5, 9, BLOCK_ACT, b'"look"')),
@@ -361,6 +433,90 @@ TEXTS = [
     (["filter"], b"0 0\n1 1 1\n", 8, at_fault(2, 5, LINE_END, b'"1"')),
     (["filter"], b"0 0 \r\n", 8, at_fault(1, 5, LINE_END, CARRIAGE_RETURN)),
     (["filter"], b"0 0\n" * 4_194_304 + b"x", 10, TOO_LONG),
+]
+
+
+# Behind the head of a live script, texts and the first line at fault; 0 where there is none, and then it is a line behind them.
+COMMAND_LINES = [
+    *((b"at 0 " + act, 4) for act in (b"tempo 60059", b"tempo 3000001", b"quantum 1099511627777", b"quantum -1", b"quantum -0", b"force -0")),
+    *((b"at 0 %s %d" % (act, beat), 4) for act in (b"force", b"request") for beat in (-(2**60) - 1, 2**60 + 1)),
+    *((b"at %s play" % moment, 4) for moment in (b"-1", b"36028797018963969", b"00", b"-0")),
+    *((b"block %s play" % block, 4) for block in (b"0", b"524289", b"-1")),
+    *((b"block 1 " + act, 4) for act in (b"tempo 60059", b"tempo 3000001", b"quantum 1099511627777", b"quantum -1")),
+    *((b"block 1 " + act, 4) for act in (b"look", b"force 0", b"request 0")),
+    *((b"at 0 " + act, 0) for act in (b"tempo 60060", b"tempo 3000000", b"quantum 0", b"quantum 1099511627776")),
+    *((b"at 0 %s %d" % (act, beat), 0) for act in (b"force", b"request") for beat in (-(2**60), 2**60)),
+    *((b"block 1 " + act, 0) for act in (b"tempo 60060", b"tempo 3000000", b"quantum 0", b"quantum 1099511627776", b"stop")),
+    *((line, 0) for line in (b"at 36028797018963968 play", b"at 0 stop", b"at 0 look", b"block 524288 play")),
+    # Words too few or too many, or not parted by single spaces.
+    *((line, 4) for line in (b"at", b"at 0", b"at 0 ", b"at 0 tempo", b"at 0 force", b"at 0 request ", b"at play", b"at 0 quantum", b"at 0 quantum 1 2")),
+    *((line, 4) for line in (b"block", b"block 1", b"block 1 ", b"block 1 tempo", b"block 1 quantum ", b"block play")),
+    *((line, 4) for line in (b"at 0  play", b"at  0 play", b" at 0 play", b"at 0 play ", b"at 0 play 1", b"at 0 tempo 500000 1", b"at 0 force 1 1")),
+    *((line, 4) for line in (b"at 0 play\r\n", b"At 0 play", b"at 0 Play", b"tick 0", b" ", b"link 1", b"setup 500000 1")),
+    # Lines in another order, and how many there may be.
+    (b"", 0),
+    (b"\n#\n\nat 0 play\n\n#", 0),
+    (b"to 1.2.3.4:5\nat 0 play", 0),
+    (b"gate 1.2.3.4:5\n" * 3 + b"at 0 play", 0),
+    (TO * 32 + b"at 0 play", 0),
+    (b"at 0 play\n\n#\nat 0\nat", 7),
+    (b"at 0 play\nto 1.2.3.4:5", 5),
+    (b"at 0 play\ngate 1.2.3.4:5", 5),
+    (b"to 1.2.3.4", 4),
+    (b"gate 1.2.3.4:65536", 4),
+    (b"gate 1.2.3.4:5\n" * 4, 7),
+    (LOOK * 4096, 0),
+    (b"#at 0 \n" * 4097, 0),
+]
+# The same of a head without commands, for `control`.
+HEAD_LINES = [
+    (b"", 0),
+    (b"\n#\n\n# at 0 look\n", 0),
+    (b"to 1.2.3.4:5", 0),
+    (TO * 32, 0),
+    (b"gate 1.2.3.4:5\n" * 3, 0),
+    (b"#at 0 \n" * 4097, 0),
+    (b"at 0 look", 4),
+    (b"block 1 play\n", 4),
+    (b"\n#\nat 0 look\n", 6),
+    (b"to 1.2.3.4:5\nat 0 look\nat 0", 5),
+    (b"at 0 look\nto 1.2.3.4:5", 4),
+    (b"to 1.2.3.4\nat 0 look", 4),
+    (b"gate 1.2.3.4:65536\nat 0 look", 4),
+    (b"at", 4),
+    (b"link 1", 4),
+    (b" ", 4),
+    (LOOK * 4096, 4),
+]
+# Whole texts of either command, and the first line at fault; 0 where there are too many commands.
+HEAD_FAULTS = [
+    (b"", 1),
+    (b"\n", 2),
+    (b"#", 2),
+    (b"\n#", 3),
+    (b"link 1", 2),
+    (b"link 1\n", 2),
+    (b"\n#a\nlink 1\n\n", 5),
+    (b"link 2\n", 1),
+    (b"link 1 \n", 1),
+    (b"link 01\n", 1),
+    (b"link 1\r\nsetup 500000 1\r\n", 1),
+    (b"replay 1\n", 1),
+    (b"at 0 look\nlink 1", 1),
+    *((b"link 1\n" + line, 2) for line in (b"setup 60059 1", b"setup 3000001 0", b"setup 500000 2", b"setup 500000", b"setup 500000 1 0", b"setup")),
+    *((b"link 1\n" + line, 2) for line in (b"node ABCDEFGH 7 500000 1 0", b"gate 1.2.3.4:5", b"at 0 play")),
+    *((b"link 1\n" + line, 3) for line in (b"setup 60060 1", b"setup 3000000 0", b"#\nsetup 60059 1\nat 0 look")),
+    *((b"link 1\nsetup 500000 1\n" + line, 3) for line in (b"", b"to 1.2.3.4:5", b"at 0 play")),
+    (b"link 1\nsetup 500000 1\n#\nat 0 look", 4),
+    (b"link 1\nsetup 500000 1\n\n#\ngate", 5),
+    # What begins as a command counts as one, whatever else is at fault.
+    (b"at \n" * 4096, 1),
+    (b"at \n" * 4097, 0),
+    (b"block \n" * 4097, 0),
+    (b"block\n" * 4097, 1),
+    (b"at\n" * 4097, 1),
+    (b"link 2\n" + LOOK * 4096, 1),
+    (b"link 2\n" + LOOK * 4097, 0),
 ]
 
 
@@ -420,6 +576,70 @@ NO_LIVE_RUN = [
 ]
 
 
+# Words that set up a live run, and what is told of it: its blocks, events, quantum and group.
+HOURS = b"at most 262144 blocks of 20 milliseconds (1 hour 27 minutes)"
+ROOM, BARS = b"room for 262144 events", b"bars of 4 beats"
+LIVE_RUNS = [
+    (["live"], HOURS, ROOM, BARS),
+    (["live", "--"], HOURS, ROOM, BARS),
+    (["live", "--events", "1"], HOURS, b"room for 1 event", BARS),
+    (["live", "--events", "524288"], HOURS, b"room for 524288 events", BARS),
+    (["live", "--events", "262144"], HOURS, ROOM, BARS),
+    (["live", "--events=7"], HOURS, b"room for 7 events", BARS),
+    (["live", "--events", "+5"], HOURS, b"room for 5 events", BARS),
+    (["live", "--events=007"], HOURS, b"room for 7 events", BARS),
+    (["live", "--blocks", "0"], b"no blocks", ROOM, BARS),
+    (["live", "--blocks", "1"], b"at most 1 block of 20 milliseconds (0.02 seconds)", ROOM, BARS),
+    (["live", "--blocks", "50"], b"at most 50 blocks of 20 milliseconds (1 second)", ROOM, BARS),
+    (["live", "--blocks", "150"], b"at most 150 blocks of 20 milliseconds (3 seconds)", ROOM, BARS),
+    (["live", "--blocks", "5999"], b"at most 5999 blocks of 20 milliseconds (119.98 seconds)", ROOM, BARS),
+    (["live", "--blocks", "6000"], b"at most 6000 blocks of 20 milliseconds (2 minutes)", ROOM, BARS),
+    (["live", "--blocks", "179999"], b"at most 179999 blocks of 20 milliseconds (59 minutes)", ROOM, BARS),
+    (["live", "--blocks", "180000"], b"at most 180000 blocks of 20 milliseconds (1 hour)", ROOM, BARS),
+    (["live", "--blocks", "363000"], b"at most 363000 blocks of 20 milliseconds (2 hours 1 minute)", ROOM, BARS),
+    (["live", "--blocks=524288"], b"at most 524288 blocks of 20 milliseconds (2 hours 54 minutes)", ROOM, BARS),
+    (["live", "--quantum", "0"], HOURS, ROOM, b"no bars"),
+    (["live", "--quantum=+0"], HOURS, ROOM, b"no bars"),
+    (["live", "--quantum=1"], HOURS, ROOM, b"bars of 0.000001 beats, so every click is an accent"),
+    (["live", "--quantum", "4"], HOURS, ROOM, b"bars of 0.000004 beats, so every click is an accent"),
+    (["live", "--quantum", "999999"], HOURS, ROOM, b"bars of 0.999999 beats, so every click is an accent"),
+    (["live", "--quantum", "1000000"], HOURS, ROOM, b"bars of 1 beat"),
+    (["live", "--quantum", "1500000"], HOURS, ROOM, b"bars of 1.5 beats"),
+    (["live", "--quantum", "3000001"], HOURS, ROOM, b"bars of 3.000001 beats"),
+    (["live", "--quantum", "4010000"], HOURS, ROOM, b"bars of 4.01 beats"),
+    (["live", "--quantum", "10000000"], HOURS, ROOM, b"bars of 10 beats"),
+    (["live", "--quantum", "1099511627776"], HOURS, ROOM, b"bars of 1099511.627776 beats"),
+    (["live", "--group", "0"], HOURS, ROOM, BARS),
+    (["live", "--group=1"], HOURS, ROOM, BARS + b", group 1"),
+    (["live", "--group", "65535"], HOURS, ROOM, BARS + b", group 65535"),
+    (["live", "--group=+007"], HOURS, ROOM, BARS + b", group 7"),
+    (["live", "--record", "--"], HOURS, ROOM, BARS),
+    (["live", "--record", "--events", "9"], HOURS, b"room for 9 events", BARS),
+    (["live", "--events=9", "--record"], HOURS, b"room for 9 events", BARS),
+    (
+        ["live", "--group", "5", "--quantum", "2000000", "--blocks=3", "--record", "--events", "4"],
+        b"at most 3 blocks of 20 milliseconds (0.06 seconds)",
+        b"room for 4 events",
+        b"bars of 2 beats, group 5",
+    ),
+]
+
+# Words that set up a run under control, at addresses that are no machine's own, the endpoint, and what is told of the run.
+CONTROL_RUNS = [
+    (["192.0.2.1:5"], b"192.0.2.1:5", ROOM, BARS),
+    (["--", "198.51.100.2:65535"], b"198.51.100.2:65535", ROOM, BARS),
+    (["192.0.2.1:5", "--events", "1"], b"192.0.2.1:5", b"room for 1 event", BARS),
+    (["--events=524288", "203.0.113.254:20900"], b"203.0.113.254:20900", b"room for 524288 events", BARS),
+    (["--quantum", "0", "192.0.2.1:5", "--group", "65535"], b"192.0.2.1:5", ROOM, b"no bars, group 65535"),
+    (
+        ["--group=7", "--events", "9", "--quantum=1099511627776", "192.0.2.1:5"],
+        b"192.0.2.1:5",
+        b"room for 9 events",
+        b"bars of 1099511.627776 beats, group 7",
+    ),
+]
+
+
 def run(program, words, **streams):
     done = subprocess.run([program, *words], stderr=subprocess.PIPE, timeout=60, check=False, **streams)
     return done.returncode, done.stdout, done.stderr
@@ -435,6 +655,63 @@ def no_live_runs(program):
     for words in NO_LIVE_RUN:
         status, output, error = run(program, words, input=LINK + LOOK, stdout=subprocess.PIPE)
         yield f"{words}", (status, output, error[:10], b"\n\nUsage: jorazhil " in error), (2, b"", b"jorazhil: ", True)
+
+
+def live_runs(program):
+    """What is told first of the run that words set up, which is ended then; and whether a short one writes a record, with which quantum."""
+    for words, *told in LIVE_RUNS:
+        child = subprocess.Popen([program, *words], stdin=subprocess.PIPE, stdout=subprocess.DEVNULL, stderr=subprocess.PIPE)
+        with child.stdin, child.stderr:
+            child.stdin.write(LINK + b"at 36028797018963968 look\n")
+            child.stdin.close()
+            # One that tells nothing would be waited for for ever.
+            late = threading.Timer(60, child.kill)
+            late.start()
+            line = child.stderr.readline()
+            late.cancel()
+            child.kill()
+            child.wait()
+        yield f"{words}", line, b"jorazhil: live at 127.0.0.1:0; %s\n" % b", ".join(told)
+    recorded = ((["--record"], 4_000_000), (["--record", "--"], 4_000_000), (["--events", "9", "--record"], 4_000_000))
+    for words, quantum in (([], None), *recorded, (["--record", "--quantum=2"], 2), (["--quantum", "0", "--record"], 0)):
+        status, output, _ = run(program, ["live", "--blocks", "0", *words], input=LINK + LOOK, stdout=subprocess.PIPE)
+        found = b"\nreplay 2\n" in output, [line for line in output.splitlines() if line.startswith(b"quantum ")]
+        wanted = (False, []) if quantum is None else (True, [b"quantum %d" % quantum])
+        yield f"the record of live {words}", (status, *found), (0, *wanted)
+
+
+def control_runs(program):
+    """What is told of a run under control that can't listen where it is told to, and so ends. Its number of events hangs on the clock."""
+    for words, at, *told in CONTROL_RUNS:
+        status, _, error = run(program, ["control", *words], input=LINK, stdout=subprocess.PIPE)
+        journal = b"the journal took "
+        found = [line if not line.startswith(b"jorazhil: " + journal) else journal for line in error.splitlines(True)]
+        yield (
+            f"control {words}",
+            (status, found),
+            (11, [
+                b"jorazhil: control at 127.0.0.1:0; %s\n" % b", ".join(told),
+                b"jorazhil: listening for a client at %s failed: %s\n" % (at, NOT_HERE),
+                journal,
+                b"jorazhil: the run took 0 of at most 4096 lines of its client\n",
+                UNSERVED,
+            ]),
+        )
+
+
+def lines_at_fault(program):
+    """Scripts of live runs and of runs under control whose first line at fault is known, and a text that has none with one more line."""
+    runs = [(["live"], LINK, rows) for rows in (COMMAND_LINES,)] + [(["control", CLIENT], LINK, HEAD_LINES)]
+    texts = [(words, head + (text if line else text + b"\nwait"), line) for words, head, rows in runs for text, line in rows]
+    texts += [(words, text, line) for words in (["live"], ["control", CLIENT]) for text, line in HEAD_FAULTS]
+    for words, text, line in texts:
+        line = line or 1 + text.count(b"\n")
+        status, output, error = run(program, words, input=text, stdout=subprocess.PIPE)
+        if text.count(b"at ") + text.count(b"block ") > 4096 and b"#" not in text:
+            yield f"{words} on {text[-40:]!r}", (status, output, error), (10, b"", TOO_MANY)
+        else:
+            named = b"jorazhil: line %d, column " % line
+            yield f"{words} on {text[-40:]!r}", (status, output, error[: len(named)]), (8, b"", named)
 
 
 def read_failures(program):
@@ -582,6 +859,9 @@ def main(program):
         found = run(program, words, input=text, stdout=subprocess.PIPE)
         results.append((f"{words} on {text[-40:]!r}", found, (status, b"", error)))
     results += no_live_runs(program)
+    results += live_runs(program)
+    results += control_runs(program)
+    results += lines_at_fault(program)
     results += read_failures(program)
     results += write_failures(program)
     results += live_failures(program)
