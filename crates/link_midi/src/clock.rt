@@ -39,7 +39,7 @@ impl MidiClock {
     }
 
     /// The events of a block that a state is played in, each at its microsecond, and in order: at most 400 clocks and 3 others. The block's
-    /// length is from 1 to 1,000,000 microseconds. Blocks that adjoin give each pulse once.
+    /// length is from 1 to 1,000,000 microseconds. Blocks of one state that adjoin give each of its pulses once.
     ///
     /// Waits: never. Memory: none. It clears room for 404 events each time: where that is too much, `block_into` keeps it.
     pub fn block(&mut self, state: &State, block: Block) -> MidiEvents

@@ -2,7 +2,8 @@
 
 use client_state::{Commit, State};
 
-/// A published state, and what the pass that captured it is shown.
+/// A state that a cell held, and what the pass that captured it is shown. That each of them was published is said where the link ends
+/// (`Hub::last_turn`).
 #[derive(Clone, Copy, Debug, PartialEq, Eq)]
 pub struct Capture {
     /// How many states were published before it: the opening state has the number 0.

@@ -24,8 +24,8 @@ pub struct Triple<const W: usize> {
     ghost wide: { IsThreeRows W table.shared.table_id table.shared.key },
 }
 
-/// A triple buffer tells its steps: a publish of W words takes W + 1 steps of the writer, so 10 where W is 9, and a read
-/// W + 1 or W + 2 steps of the reader.
+/// A triple buffer tells its steps, of which each call promises how many it takes: a publish of W words W + 1 of the writer, and a read
+/// W + 1 or W + 2 of the reader.
 pub fn triple_tells_its_steps<const W: usize>()
     ensures { ⟦<Triple<W> as StateCell<W>>⟧.tells_steps ≡ true }
 {}

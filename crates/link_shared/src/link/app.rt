@@ -94,8 +94,8 @@ impl<C: StateCell<11>, N: LinkName> Link<C, N> {
         })
     }
 
-    /// A state that was published, and what this pass is shown. It is no older than any that this pass has captured.
-    /// Without memory the pass stays as it was.
+    /// A state that was read for the applications, and what this pass is shown. It is no older than any that this pass has captured;
+    /// that it was published is said at the end, by `Hub::last_turn`. Without memory the pass stays as it was.
     /// Waits: for the desk, and by the way. Memory: two notes.
     pub fn capture<R: Wait>(
         &self,
@@ -151,8 +151,8 @@ impl<C: StateCell<11>, N: LinkName> Link<C, N> {
         Ok(number)
     }
 
-    /// Asks the network thread to end, after all commits that were pushed before. `QueueFull` where the queue is full. That it
-    /// was so at a step of this very call is tested and not proved, as in `commit`.
+    /// Asks the network thread to end, after all commits that were pushed before. `QueueFull` where the queue is full. Both are tested
+    /// and not proved, as in `commit`: that the quit is pushed, and that the queue was full at a step of this very call.
     /// Waits: for the desk, and for a place's last user in the queue. Memory: none.
     pub fn quit<R: Wait>(&self, rt: &R) -> Result<(), QueueFull> {
         self.desk.lock(rt).quit(rt, &self.queue)

@@ -47,8 +47,8 @@ impl<C: StateCell<11>, N: LinkName> Model for AudioPass<C, N> {
 }
 
 impl<C: StateCell<11>, N: LinkName> Link<C, N> {
-    /// A state that was published, and what the audio thread is shown: its last commit over the state, until that is taken.
-    /// It is no older than any that it was answered before.
+    /// The state that the audio thread reads, and what it is shown: its last commit over it, until that is taken. It is no older than
+    /// any that it was answered before; that it was published is said at the end, by `Hub::last_turn`.
     /// Waits: only by the way, so never where that is `()`. Memory: none.
     pub fn capture_audio(&self, way: &C::Way, pass: &mut AudioPass<C, N>) -> Capture
         ensures read { HasReadAudio pass.old pass.new result.number result.state result.shown }
