@@ -1,24 +1,28 @@
 #!/usr/bin/env python3
-"""What a run of the gate costs: bench/gate.py [PROCESSORS] [--kept [CRATE ..]] runs it on so many processors (2 if not given).
+"""What a run of the gate costs: bench/gate.py [PROCESSORS] [--checks] [--kept [CRATE ..]] runs it on so many processors (2 if not given).
 
 From nothing it is `rt ci --anew` where `rt help` speaks of --anew, and else `rt ci`, which proves all from nothing then; with --kept it is
-`rt ci`, which proves only what no run on this machine has passed, or `rt ci CRATE ..`, which does so for these and those below. With four
-processors and more there is one prover a processor, as in `.ci/run`. It watches the provers that rt starts, and puts the figures into
-docs/GATE.md, between its two marks: how long the run took, and for each crate the seconds of one processor that its proof, the proof of its
-tests and its must-fail edits took, with the check that the edits begin with. They are divided by how slow the machine was: the seconds that
-the crates of a table of that page, the yardstick, took in the run, over those that it has for them. None of these crates may have changed
-since the commit that the table names. Where a run proves none of them whole, those stand for them that it proved and the page has figures
-of the same sources of, and where there is none of these, the yardstick's first is proved after it. Where the page has figures of a commit
-since which neither the sources of the crate nor of one below it changed, nor of edits the crate's, the least of the two counts, since what
-else is at work on a machine only adds to it, and a crate that wasn't proved anew keeps its own. Beside each stands its budget, from the
-table that people keep between two other marks. A table of runs from nothing, between two marks too, gets a row for so many processors in
-place of the one that it had, as the clock told it; rows of other numbers stay. Nothing is written where the run fails. The commit has to be
-clean, so that the figures are those of a commit.
+`rt ci`, which proves only what no run on this machine has passed, or `rt ci CRATE ..`, which does so for these and those below. With
+--checks it is `.ci/run`, where that proves all from nothing too: so one run is the whole gate and has its figures, of which the checks
+beside `rt ci` have no part. With four processors and more there is one prover a processor, as in `.ci/run`. It watches the provers that rt
+starts, and puts the figures into docs/GATE.md, between its two marks: how long the run took, and for each crate the seconds of one
+processor that its proof, the proof of its tests and its must-fail edits took, with the check that the edits begin with.
+
+They are divided by how slow the machine was. In a run from nothing that is what all took that is as it was when the page's figures of it
+were taken, over these figures, where it is a third of them at least. Else it is what the crates of a table of that page, the yardstick,
+took in the run, over the seconds that the table has for them; none of these crates may have changed since the commit that it names. Where a
+run proves none of them whole, what is as it was stands for them, however little that is, and where there is none of it, the yardstick's
+first is proved after the run. Where the page has figures of a commit since which neither the sources of the crate nor of one below it
+changed, nor of edits the crate's, the least of the two counts, since what else is at work on a machine only adds to it, and a crate that
+wasn't proved anew keeps its own.
+
+Beside each stands its budget, from the table that people keep between two other marks. A table of runs from nothing, between two marks too,
+gets a row for so many processors in place of the one that it had, as the clock told it; rows of other numbers stay. Nothing is written
+where something isn't proved or a test fails. The commit has to be clean, so that the figures are those of a commit.
 """
 import os
 import platform
 import re
-import resource
 import subprocess
 import sys
 import textwrap
@@ -37,6 +41,8 @@ SOURCES = ("src", "specs", "proofs")
 ALL = "all"
 # What stands for a figure that no run has given.
 UNKNOWN = "?"
+# The last line of `rt ci`.
+TOLD = re.compile(r"(rt: )?\d+ passed, (\d+) failed")
 
 
 class Failed(Exception):
@@ -177,15 +183,17 @@ def slowness(sums, yardstick):
     return taken / sum(yardstick[name] for name in known) if known else None
 
 
-def slowness_by_page(sums, old):
-    """The same by the crates that are as they were when the page's figures were taken, which are in the yardstick's seconds."""
+def slowness_by_page(sums, old, kinds, part):
+    """The same by what is of these kinds and as it was when the page's figures were taken, which are in the yardstick's seconds. None where
+    it is less than that part of all figures of the page."""
     pairs = [
-        (seconds, old[name][0][kind])
+        (row[kind], old[name][0][kind])
         for name, row in sums.items()
-        for kind, seconds in row.items()
-        if kind != "edits" and name in old and old[name][0].get(kind) and is_same(old[name][1], name, kind)
+        for kind in kinds
+        if row[kind] and name in old and old[name][0].get(kind) and is_same(old[name][1], name, kind)
     ]
-    return sum(one for one, _ in pairs) / sum(other for _, other in pairs) if pairs else None
+    known, whole = sum(other for _, other in pairs), sum(sum(row.values()) for row, _ in old.values())
+    return sum(one for one, _ in pairs) / known if known and known >= part * whole else None
 
 
 def below(name):
@@ -301,9 +309,16 @@ def keeps_proofs():
     return "--anew" in subprocess.run(["rt", "help"], cwd=HERE, stdout=subprocess.PIPE, stderr=subprocess.STDOUT, text=True).stdout
 
 
+def worked_by(pid):
+    """The seconds of a processor that a process and those that it has waited for have worked."""
+    with open(f"/proc/{pid}/stat", encoding="utf-8", errors="replace") as file:
+        return sum(map(int, file.read().rsplit(")", 1)[1].split()[11:15])) / TICK
+
+
 def watched(processors, words):
-    """Runs rt on so many processors, and returns what watched it, how long it took, what it worked, and the last line that it wrote."""
-    began, before = time.monotonic(), resource.getrusage(resource.RUSAGE_CHILDREN)
+    """Runs rt, or what runs it, on so many processors, and returns what watched it, how long rt took, what it worked, the last line that it
+    wrote, and the status of all."""
+    began, took, worked, last = time.monotonic(), 0.0, 0.0, ""
     run = subprocess.Popen(
         ["taskset", "-c", f"0-{processors - 1}", *words],
         cwd=HERE,
@@ -314,26 +329,30 @@ def watched(processors, words):
     )
     watch = Watch(run.pid)
     watch.start()
-    last = ""
     for line in run.stdout:
         sys.stdout.write(line)
-        last = line.strip() or last
+        sys.stdout.flush()
+        if TOLD.fullmatch(line.strip()):
+            took, last = time.monotonic() - began, line.strip()
+            # Till then it has ended, and been waited for by what runs it.
+            time.sleep(1)
+            worked = worked_by(run.pid)
     status = run.wait()
     watch.over.set()
     watch.join()
-    took, after = time.monotonic() - began, resource.getrusage(resource.RUSAGE_CHILDREN)
-    if status:
-        raise Failed(f"{' '.join(words)} ended with status {status}: {last}")
-    return watch, took, after.ru_utime + after.ru_stime - before.ru_utime - before.ru_stime, last
+    if not last or TOLD.fullmatch(last)[2] != "0" or status and words[0] == "rt":
+        raise Failed(f"{' '.join(words)} ended with status {status}: {last or 'it did not come to its end'}")
+    return watch, took, worked, last, status
 
 
-def measured(processors, is_anew, some, old, budgets, whole, yardstick):
-    """Runs the gate, or of it these crates, and returns the lines of its figures, its row among the runs, and how many figures are over
-    their budgets. `old` has the figures of the page."""
-    words = ["rt", "ci", *["--anew"] * (is_anew and keeps_proofs()), *some]
-    watch, took, worked, last = watched(processors, words)
+def measured(processors, words, is_anew, old, budgets, whole, yardstick):
+    """Runs the gate by these words, and returns the lines of its figures, its row among the runs, how many figures are over their budgets,
+    and the run's status. `old` has the figures of the page."""
+    watch, took, worked, last, status = watched(processors, words)
     sums, commit = watch.sums(), told(["git", "rev-parse", "--short", "HEAD"])
-    slow = slowness(sums, yardstick) or slowness_by_page(sums, old)
+    slow = slowness_by_page(sums, old, KINDS, 1 / 3) if is_anew else None
+    # A run that keeps what was proved tries some of a crate's edits alone.
+    slow = slow or slowness(sums, yardstick) or slowness_by_page(sums, old, ("proof", "tests"), 0)
     if slow is None and yardstick:
         slow = slowness(watched(processors, ["rt", "ci", "--anew", next(iter(yardstick))])[0].sums(), yardstick)
     slow = slow or 1.0
@@ -352,18 +371,22 @@ def measured(processors, is_anew, some, old, budgets, whole, yardstick):
         "Seconds of one processor, divided by how many times slower the machine was than the yardstick's, and of how many by the budget: the "
         "least of the runs since its sources or those below last changed, or its edits, and the commit of the last such run."
     )
-    return [*prose(head), "", *prose(say), "", *lines], row, over
+    return [*prose(head), "", *prose(say), "", *lines], row, over, status
 
 
 def main():
-    is_anew = "--kept" not in sys.argv[1:]
+    is_anew, has_checks = "--kept" not in sys.argv[1:], "--checks" in sys.argv[1:]
     some = [word for word in sys.argv[1:] if word in crates()]
-    numbers = [word for word in sys.argv[1:] if word != "--kept" and word not in some]
-    if len(numbers) > 1 or not all(word.isdigit() and int(word) > 0 for word in numbers) or some and is_anew:
-        print("usage: bench/gate.py [PROCESSORS] [--kept [CRATE ..]], where PROCESSORS is a number from 1 on", file=sys.stderr)
+    numbers = [word for word in sys.argv[1:] if word not in ("--kept", "--checks", *some)]
+    if len(numbers) > 1 or not all(word.isdigit() and int(word) > 0 for word in numbers) or some and is_anew or has_checks and not is_anew:
+        usage = "usage: bench/gate.py [PROCESSORS] [--checks | --kept [CRATE ..]], where PROCESSORS is a number from 1 on"
+        print(usage, file=sys.stderr)
         return 2
     processors = int(numbers[0]) if numbers else 2
     try:
+        if has_checks and keeps_proofs():
+            raise Failed("this rt keeps what it has proved, so .ci/run does not prove all from nothing: leave --checks out")
+        words = [".ci/run"] if has_checks else ["rt", "ci", *["--anew"] * (is_anew and keeps_proofs()), *some]
         if told(["git", "status", "--porcelain"]):
             raise Failed("the checkout has changes that are in no commit: commit them first")
         with open(PAGE, encoding="utf-8") as file:
@@ -373,7 +396,8 @@ def main():
         start, stop = between(page, YARDSTICK, YARDSTICK_END)
         between(page, RUNS, RUNS_END)
         yardstick = yardstick_of(page[start:stop])
-        lines, row, over = measured(processors, is_anew, some, figures_of(page[begin:end]), *budgets_of(page[first:last]), yardstick)
+        old, budgets = figures_of(page[begin:end]), budgets_of(page[first:last])
+        lines, row, over, status = measured(processors, words, is_anew, old, *budgets, yardstick)
     except Failed as error:
         print(f"gate: {error}", file=sys.stderr)
         return 1
@@ -384,7 +408,9 @@ def main():
     with open(PAGE, "w", encoding="utf-8") as file:
         file.write(page)
     print(f"gate: docs/GATE.md has the figures; over their budgets: {over}")
-    return 0
+    if status:
+        print(f"gate: but {words[0]} ended with status {status}", file=sys.stderr)
+    return 1 if status else 0
 
 
 if __name__ == "__main__":
