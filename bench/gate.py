@@ -332,7 +332,8 @@ def watched(processors, words):
     for line in run.stdout:
         sys.stdout.write(line)
         sys.stdout.flush()
-        if TOLD.fullmatch(line.strip()):
+        # The checks behind rt ci end with such a line too.
+        if not last and TOLD.fullmatch(line.strip()):
             took, last = time.monotonic() - began, line.strip()
             # Till then it has ended, and been waited for by what runs it.
             time.sleep(1)
