@@ -7,7 +7,7 @@ use Rattle.std.specs.declared.alloc.Global.{Global}
 use Rattle.std.specs.declared.string.String.{String}
 use Rattle.lk_base.specs.Endpoint.{IsEndpoint}
 use Rattle.lk_base.specs.declared.endpoint.Endpoint.{Endpoint}
-use Rattle.link_text.specs.Words.{endpoint_text_of}
+use Rattle.link_lines.specs.Words.{endpoint_text_of}
 use Rattle.drum_machine.specs.Words.{AsksForNone}
 
 -- ---- endpoints

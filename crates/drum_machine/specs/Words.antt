@@ -3,7 +3,7 @@ use Rattle.std.specs.Prelude.{◌≡◌, ◌≤◌, ℕ, List, ◌∷◌, length
 use Rattle.std.specs.Str.Parse.{IsNumeral, digits_value, without_leading_plus}
 use Rattle.lk_base.specs.Endpoint.{IsEndpoint}
 use Rattle.lk_base.specs.declared.endpoint.Endpoint.{Endpoint}
-use Rattle.link_text.specs.Words.{endpoint_text_of}
+use Rattle.link_lines.specs.Words.{endpoint_text_of}
 
 -- decimal digits of a number, before which a plus may stand
 pub record SaysNumber (bytes : List ℕ) (n : ℕ) : Type 0 where

@@ -8,8 +8,8 @@ ghost use Rattle.lk_outside.specs.Faults.{Rose};
 ghost use Rattle.client_state.specs.State.{IsTidyState};
 
 use crate::callback::{Drums, FRAMES};
+use link_lines::{LineBuf, put, put_decimal, put_signed};
 use link_shared::Capture;
-use link_text::{LineBuf, put, put_decimal, put_signed};
 use lk_outside::{Sink, write_whole};
 use step_sequencer::{Strokes, steps_begun};
 

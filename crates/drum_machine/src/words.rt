@@ -4,12 +4,12 @@ ghost use Rattle.std.specs.Prelude.{◌≡◌, ◌≢◌, ◌≤◌, ◌≤ℤ�
 ghost use Rattle.std.specs.String.{string_bytes};
 ghost use Rattle.lk_base.specs.Endpoint.{IsEndpoint};
 ghost use Rattle.lk_base.specs.declared.endpoint.Endpoint.{Endpoint as AnyEndpoint};
-ghost use Rattle.link_text.specs.Words.{endpoint_text_of};
+ghost use Rattle.link_lines.specs.Words.{endpoint_text_of};
 ghost use Rattle.drum_machine.specs.Words.{AsksForSession, AsksForNone, SaysNumber};
 
 use arrayvec::ArrayVec;
+use link_lines::endpoint_of;
 use link_node::GateSetup;
-use link_text::endpoint_of;
 use lk_base::Endpoint;
 
 /// The most blocks of 20 milliseconds that a session plays: 2 hours and 55 minutes.

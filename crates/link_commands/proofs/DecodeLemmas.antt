@@ -8,7 +8,7 @@ use Rattle.hex.proofs.HexLemmas.{decode_of-ok, decode_of-same}
 use Rattle.asdp_messages.specs.declared.fault.WireFault.{WireFault}
 use Rattle.asdp_messages.specs.Datagram.{AreAllRead, MessageValue, IsReadAs}
 use Rattle.link_text.specs.ReadingLine.{reading_line_of}
-use Rattle.link_text.specs.Lines.{lines_of}
+use Rattle.link_lines.specs.Lines.{lines_of}
 use Rattle.link_commands.specs.HexLines.{IsHexLine, IsDecodable, HasLinesWithin}
 use Rattle.link_commands.specs.DecodeText.{IsDecodedLine, AreDecodedLines, IsDecodeText, HasOneOutput}
 use Rattle.link_commands.specs.Outlet.{HandsOver, HandsPart}

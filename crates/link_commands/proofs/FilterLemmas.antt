@@ -12,7 +12,7 @@ use Rattle.link_hostfilter.specs.Fit.{IsFiltered}
 use Rattle.link_hostfilter.specs.Kept.{AreKept, AreNear, AreWithin, fault_of, last, with_new}
 use Rattle.link_hostfilter.specs.declared.fault.FilterFault.{FilterFault}
 use Rattle.link_hostfilter.specs.declared.pair.Pair.{Pair}
-use Rattle.link_text.specs.Lines.{lines_of}
+use Rattle.link_lines.specs.Lines.{lines_of}
 use Rattle.link_text.specs.PairLine.{IsPairLine}
 use Rattle.link_commands.specs.FilterText.{host_line_of, refusal_line_of, totals_line_of, IsAccepted, IsRefused, AreAnswers, IsFilterText, HasOneFilterText}
 use Rattle.link_commands.specs.Outlet.{HandsOver, HandsPart}

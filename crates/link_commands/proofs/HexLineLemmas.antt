@@ -7,7 +7,7 @@ use Rattle.std.proofs.lemmas.List.Elements.{All-more, All-push, All-weaker, All-
 use Rattle.std.proofs.Math.Nat.{le-max_left, le-max_right, max-le, eq-or-lt_of_le}
 use Rattle.hex.specs.Hex.{decode_of, is_hex_digit}
 use Rattle.hex.proofs.HexLemmas.{decode_of-ok, decode_of-digits}
-use Rattle.link_text.specs.Lines.{lines_of}
+use Rattle.link_lines.specs.Lines.{lines_of}
 use Rattle.link_commands.specs.HexLines.{IsHexLine, IsDecodable, IsBadLine, IsFirstBadLine, HasLineAmong, IsLongestLine}
 use Rattle.link_commands.specs.DecodeText.{AreDecodedLines, IsDecodeText}
 use Rattle.link_commands.proofs.LineLemmas.{lines_end}

@@ -1,7 +1,7 @@
 -- The lines of a text.
 use Rattle.std.proofs.Common.{◌≡◌, refl, ◌∙◌, ap, ℕ, ◌≤◌, List, [], length, drop}
 use Rattle.std.proofs.lemmas.List.{drop_all}
-use Rattle.link_text.specs.Lines.{lines_of}
+use Rattle.link_lines.specs.Lines.{lines_of}
 
 lines_none : lines_of [] ≡ []
 unfolding lines_of

@@ -4,7 +4,7 @@ use Rattle.std.specs.List.{All}
 use Rattle.std.specs.Option.{is_some}
 use Rattle.std.proofs.lemmas.List.{append_assoc, append-nil, length_push}
 use Rattle.std.proofs.lemmas.List.Elements.{All-push, All-same}
-use Rattle.link_text.specs.Lines.{lines_of}
+use Rattle.link_lines.specs.Lines.{lines_of}
 use Rattle.link_text.specs.PairLine.{IsPairLine}
 use Rattle.link_commands.specs.PairLines.{IsSomePair, IsPairText}
 use Rattle.link_commands.proofs.LineLemmas.{lines_end}

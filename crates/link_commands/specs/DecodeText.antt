@@ -5,7 +5,7 @@ use Rattle.hex.specs.Hex.{decode_of}
 use Rattle.asdp_messages.specs.declared.fault.WireFault.{WireFault}
 use Rattle.asdp_messages.specs.Datagram.{MessageValue, IsReadAs}
 use Rattle.link_text.specs.ReadingLine.{reading_line_of}
-use Rattle.link_text.specs.Lines.{lines_of}
+use Rattle.link_lines.specs.Lines.{lines_of}
 
 -- the line's digits, of either case, say the bytes of a datagram, and `reading_line` says how that is read
 pub record IsDecodedLine (line reading_line : List ℕ) : Type 0 where

@@ -8,8 +8,8 @@ use Rattle.link_hostfilter.specs.Kept.{fault_of, last}
 use Rattle.link_hostfilter.specs.declared.fault.FilterFault.{FilterFault}
 use Rattle.link_hostfilter.specs.declared.fault.FilterFault.TheVariants.{NotLater, TooFar}
 use Rattle.link_hostfilter.specs.declared.pair.Pair.{Pair}
-use Rattle.link_text.specs.Line.{line_of}
-use Rattle.link_text.specs.Lines.{lines_of}
+use Rattle.link_lines.specs.Line.{line_of}
+use Rattle.link_lines.specs.Lines.{lines_of}
 use Rattle.link_commands.specs.PairLines.{SayPairs}
 
 -- the line of a filtered host time

@@ -1,7 +1,7 @@
 -- The grammar of datagrams in hex, one a line: an even number of hex digits of either case, and nothing else.
 use Rattle.std.specs.Prelude.{◌≡◌, ◌<◌, ◌≤◌, ◌*◌, ◌%◌, ℕ, false, List, [], length, slice_index, All, Contains, Ok, ◌⊎◌}
 use Rattle.hex.specs.Hex.{decode_of, is_hex_digit}
-use Rattle.link_text.specs.Lines.{lines_of}
+use Rattle.link_lines.specs.Lines.{lines_of}
 use Rattle.link_commands.specs.BadLines.{IsFirstBad}
 
 -- the line says some bytes

@@ -10,7 +10,7 @@ use Rattle.link_midi.specs.declared.message.MidiEvent.{MidiEvent}
 use Rattle.link_node.specs.Config.{ConfigValue}
 use Rattle.link_node.specs.Event.{EventValue, moment_of}
 use Rattle.link_node.specs.Runs.{replayed}
-use Rattle.link_text.specs.Line.{line_of}
+use Rattle.link_lines.specs.Line.{line_of}
 
 -- ---- the blocks
 

@@ -1,7 +1,7 @@
 -- The grammar of pairs of a sample count and a host time, one a line, and nothing else.
 use Rattle.std.specs.Prelude.{ℕ, List, [], ◌∷◌, All}
 use Rattle.link_hostfilter.specs.declared.pair.Pair.{Pair}
-use Rattle.link_text.specs.Lines.{lines_of}
+use Rattle.link_lines.specs.Lines.{lines_of}
 use Rattle.link_text.specs.PairLine.{IsPairLine}
 use Rattle.link_commands.specs.BadLines.{IsFirstBad}
 

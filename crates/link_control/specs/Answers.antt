@@ -3,8 +3,8 @@ use Rattle.std.specs.Prelude.{ℕ, List, [], ◌∷◌, ◌++◌, codes, Option,
 use Rattle.std.specs.Fmt.{decimal, signed_decimal}
 use Rattle.client_state.specs.declared.state.State.{State}
 use Rattle.timeline_math.specs.Beats.{beat_at, time_at}
-use Rattle.link_text.specs.Line.{line_of}
-use Rattle.link_text.specs.Words.{truth_text_of}
+use Rattle.link_lines.specs.Line.{line_of}
+use Rattle.link_lines.specs.Words.{truth_text_of}
 use Rattle.link_text.specs.declared.control_line.ControlLine.{ControlLine}
 use Rattle.link_text.specs.declared.control_line.ControlLine.TheVariants.{Status, Tempo, Play, Stop, Beat, Time}
 use Rattle.link_control.specs.Log.{Answered}

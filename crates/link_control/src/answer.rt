@@ -8,8 +8,8 @@ ghost use Rattle.client_state.specs.State.{IsTidyState};
 ghost use Rattle.lk_outside.specs.Faults.{Rose};
 ghost use Rattle.lk_outside.specs.Sink.{Appends};
 ghost use Rattle.link_text.specs.ControlLine.{IsControlLine};
-ghost use Rattle.link_text.specs.Line.{line_of};
-ghost use Rattle.link_text.specs.Words.{truth_text_of};
+ghost use Rattle.link_lines.specs.Line.{line_of};
+ghost use Rattle.link_lines.specs.Words.{truth_text_of};
 ghost use Rattle.link_control.specs.Answers.{answer_of, ok_text_of, status_text_of};
 ghost use Rattle.link_control.specs.ServingNow.{IsWrittenInPart};
 

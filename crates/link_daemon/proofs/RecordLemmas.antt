@@ -14,12 +14,12 @@ use Rattle.link_node.specs.Config.{ConfigValue, IsConfig}
 use Rattle.link_node.specs.Event.{EventValue, FitsKind, event_value, app_after, audio_after}
 use Rattle.link_node.specs.Runs.{AreFitting}
 use Rattle.link_node.specs.declared.event.Event.{Event}
-use Rattle.link_text.specs.Line.{line_of}
-use Rattle.link_text.specs.Lines.{lines_of, counting_in}
+use Rattle.link_lines.specs.Line.{line_of}
+use Rattle.link_lines.specs.Lines.{lines_of, counting_in}
 use Rattle.link_text.specs.LiveScript.{IsLiveHead}
 use Rattle.link_text.specs.ReplayScript.{AreSayable, IsEventKind, IsGate, IsHead, IsScriptOf, written_script_of}
 use Rattle.link_text.specs.ReplayText.{state_line_of}
-use Rattle.link_text.specs.Words.{joined, truth_text_of}
+use Rattle.link_lines.specs.Words.{joined, truth_text_of}
 use Rattle.link_live.specs.Report.{ReportValue}
 use Rattle.link_daemon.specs.ReportText.{last_state_text_of, live_line_of, live_text_of}
 

@@ -4,7 +4,7 @@ use Rattle.std.specs.declared.alloc.Global.{Global}
 use Rattle.std.specs.declared.string.String.{String}
 use Rattle.lk_outside.specs.Faults.{Rose}
 use Rattle.link_live.specs.Journal.{has_ended}
-use Rattle.link_text.specs.Lines.{lines_of}
+use Rattle.link_lines.specs.Lines.{lines_of}
 use Rattle.link_text.specs.LiveHead.{IsSomeHead}
 use Rattle.link_text.specs.LiveScript.{IsSomeLiveScript, commands_told}
 use Rattle.link_text.specs.ReplayScript.{IsSomeScript}

@@ -8,9 +8,9 @@ use Rattle.std.proofs.lemmas.Fmt.{length_signed_le}
 use Rattle.std.proofs.lemmas.List.{length-append}
 use Rattle.lk_base.specs.Ranges.{IsWithinLimit}
 use Rattle.link_text.specs.ControlLine.{Asks, IsAsked, IsControlLine, control_words}
-use Rattle.link_text.specs.LineWords.{words_of}
+use Rattle.link_lines.specs.LineWords.{words_of}
 use Rattle.link_text.specs.LiveScript.{IsTempo}
-use Rattle.link_text.specs.Words.{joined}
+use Rattle.link_lines.specs.Words.{joined}
 use Rattle.link_text.specs.declared.control_line.ControlLine.{ControlLine}
 use Rattle.link_text.specs.declared.control_line.ControlLine.TheVariants.{Status, Tempo, Play, Stop, Beat, Time}
 use Rattle.link_text.proofs.EventLemmas.{Lacks, joined_words, lacks_by_test, signed_lacks, tempo_within, words_joined}

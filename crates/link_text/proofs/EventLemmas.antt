@@ -21,14 +21,14 @@ use Rattle.lk_base.specs.declared.timeline.Timeline.{Timeline}
 use Rattle.client_state.specs.Commit.{IsTidyCommit, IsTidyStart}
 use Rattle.client_state.specs.declared.commit.Commit.{Commit}
 use Rattle.link_node.specs.Event.{EventValue, Rx, Tick, App, Audio, End, moment_of}
-use Rattle.link_text.specs.Words.{joined, dotted, truth_text_of, endpoint_text_of}
+use Rattle.link_lines.specs.Words.{joined, dotted, truth_text_of, endpoint_text_of}
 use Rattle.link_text.specs.EventDetails.{kind_of, details_of, SaysDetails}
-use Rattle.link_text.specs.LineWords.{words_of}
+use Rattle.link_lines.specs.LineWords.{words_of}
 use Rattle.link_text.specs.ReplayScript.{event_words, commit_words, timeline_words, start_words, quantum_words, IsHexOf, IsHexIn, IsEventKind, IsEventLine}
 use Rattle.link_text.specs.SaidEvent.{said_value}
 use Rattle.link_text.specs.declared.said_event.SaidEvent.{SaidEvent}
-use Rattle.link_text.proofs.NumberLemmas.{decimal_lacks, stored}
-use Rattle.link_text.proofs.LineWordLemmas.{words_cut, words_last, words_some}
+use Rattle.link_lines.proofs.NumberLemmas.{decimal_lacks, stored}
+use Rattle.link_lines.proofs.LineWordLemmas.{words_cut, words_last, words_some}
 
 -- ---- words without a space
 

@@ -15,7 +15,7 @@ use Rattle.lk_base.specs.declared.timeline.Timeline.{Timeline}
 use Rattle.client_state.specs.Commit.{IsTidyCommit, IsTidyStart}
 use Rattle.client_state.specs.declared.commit.Commit.{Commit}
 use Rattle.link_node.specs.Event.{EventValue, Rx, Tick, App, Audio, End, moment_of, audio_after}
-use Rattle.link_text.specs.Words.{truth_text_of, endpoint_text_of}
+use Rattle.link_lines.specs.Words.{truth_text_of, endpoint_text_of}
 use Rattle.link_text.specs.EventDetails.{kind_of, details_of}
 use Rattle.link_text.specs.Places.{audio_of, AreOfVersion, IsOfVersion}
 use Rattle.link_text.specs.ReplayScript.{commit_words, timeline_words, start_words, quantum_words, IsHexOf, IsHexIn, IsEventKind, IsEventLine, AreEventLines, IsWithoutQuantum}

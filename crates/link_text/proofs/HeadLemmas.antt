@@ -14,14 +14,14 @@ use Rattle.lk_base.specs.declared.endpoint.Endpoint.{Endpoint}
 use Rattle.lk_base.specs.declared.ids.NodeId.{NodeId}
 use Rattle.link_node.specs.Config.{ConfigValue, GateValue}
 use Rattle.link_node.specs.Event.{EventValue, Rx, Tick, App, Audio, End, moment_of}
-use Rattle.link_text.specs.Words.{joined, dotted, truth_text_of, endpoint_text_of}
-use Rattle.link_text.specs.LineWords.{words_of}
+use Rattle.link_lines.specs.Words.{joined, dotted, truth_text_of, endpoint_text_of}
+use Rattle.link_lines.specs.LineWords.{words_of}
 use Rattle.link_text.specs.EventDetails.{kind_of, details_of}
 use Rattle.link_text.specs.ReplayScript.{IsVisibleId, IsGate, IsEventLine, AreEventLines, gate_line, gate_lines, group_line, node_line, quantum_line, to_line, version_line}
 use Rattle.link_text.specs.declared.head_read.Node.{Node}
 use Rattle.link_text.specs.HeadParts.{plain_of, IsKnownVersion, IsNodeLine, IsNode, LacksTo, LacksGate, AreFull, HasDestinations, HasGates}
-use Rattle.link_text.proofs.WordLemmas.{cut_one}
-use Rattle.link_text.proofs.NumberLemmas.{decimal_lacks}
+use Rattle.link_lines.proofs.WordLemmas.{cut_one}
+use Rattle.link_lines.proofs.NumberLemmas.{decimal_lacks}
 use Rattle.link_text.proofs.EventLemmas.{Lacks, lacks_by_test, number_lacks, signed_lacks, truth_lacks, moment_within, quantum_within, tempo_within, words_joined, joined_words, words_are}
 
 -- ---- endpoints

@@ -9,11 +9,11 @@ use Rattle.hex.specs.Hex.{decode_of, hex_digit_value, is_hex_digit, pair_value}
 use Rattle.hex.proofs.HexLemmas.{decode_of-ok, decode_of-digits}
 use Rattle.link_payload.specs.Entries.{AreBytes}
 use Rattle.link_text.specs.HexWord.{IsHexWord, hex_bytes}
-use Rattle.link_text.specs.LineWords.{words_left, words_of}
+use Rattle.link_lines.specs.LineWords.{words_left, words_of}
 use Rattle.link_text.specs.ReplayScript.{IsHexOf}
-use Rattle.link_text.specs.Words.{joined}
+use Rattle.link_lines.specs.Words.{joined}
 use Rattle.link_text.proofs.EventLemmas.{hex_lacks, joined_words}
-use Rattle.link_text.proofs.LineWordLemmas.{words_last}
+use Rattle.link_lines.proofs.LineWordLemmas.{words_last}
 
 -- ---- digits
 

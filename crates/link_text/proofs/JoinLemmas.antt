@@ -3,10 +3,10 @@ use Rattle.std.proofs.Common.{◌≡◌, ◌++◌, ◌∷◌, [], List, ℕ, Boo
 use Rattle.std.specs.Fmt.{signed_decimal}
 use Rattle.hex.specs.Hex.{encode_lower}
 use Rattle.client_state.specs.declared.state.State.{State}
-use Rattle.link_text.specs.Line.{line_of}
+use Rattle.link_lines.specs.Line.{line_of}
 use Rattle.link_text.specs.ReplayText.{profile_words}
 use Rattle.link_text.specs.Spaced.{spaced}
-use Rattle.link_text.specs.Words.{joined}
+use Rattle.link_lines.specs.Words.{joined}
 
 -- three words, and what follows them
 three_and : (a b c rest : List ℕ) → (a ++ 32 ∷ (b ++ 32 ∷ c)) ++ rest ≡ a ++ 32 ∷ (b ++ 32 ∷ (c ++ rest))

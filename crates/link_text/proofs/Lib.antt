@@ -1,9 +1,4 @@
 mod JoinLemmas
-mod LineLemmas
-mod WordLemmas
-mod NumberLemmas
-mod EndpointLemmas
-mod LineWordLemmas
 mod PlaceLemmas
 mod FirstFaultLemmas
 mod CommitLemmas

@@ -4,7 +4,7 @@ use Rattle.std.proofs.lemmas.Int.{ints}
 use Rattle.std.proofs.lemmas.List.{append-nil}
 use Rattle.std.proofs.lemmas.List.Elements.{All-nil, All-push}
 use Rattle.link_node.specs.Config.{GateValue}
-use Rattle.link_text.specs.Lines.{lines_of, counting_in}
+use Rattle.link_lines.specs.Lines.{lines_of, counting_in}
 use Rattle.link_text.specs.declared.place.Place.{Place}
 use Rattle.link_text.specs.HeadParts.{AreFull, LacksGate}
 use Rattle.link_text.specs.Places.{IsAhead, counting_from}

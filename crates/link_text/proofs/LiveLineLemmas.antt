@@ -2,8 +2,8 @@
 use Rattle.std.proofs.Common.{◌≡◌, ◌≢◌, refl, sym, ◌∙◌, ap, arith, ℤ, ℕ, Bool, List, [], ◌∷◌, codes, get_or, Option, Some, None, IfSome, IfNone}
 use Rattle.std.specs.Fmt.{decimal, signed_decimal}
 use Rattle.std.proofs.lemmas.Fmt.{decimal_injective}
-use Rattle.link_text.specs.LineWords.{words_of}
-use Rattle.link_text.specs.Words.{joined, truth_text_of}
+use Rattle.link_lines.specs.LineWords.{words_of}
+use Rattle.link_lines.specs.Words.{joined, truth_text_of}
 use Rattle.link_text.specs.LiveScript.{Command, app, block, IsTempo, IsAct, IsCommand, act_words, command_words, command_line, setup_line}
 use Rattle.link_text.specs.declared.live_script.Act.{Act}
 use Rattle.link_text.specs.declared.live_script.Act.TheVariants.{Tempo, Force, Request, Quantum, Play, Stop, Look}

@@ -1,7 +1,7 @@
 -- The next event of a text.
 use Rattle.std.proofs.Common.{◌≡◌, refl, ◌∙◌, ap, subst, arith, ℕ, ◌≤◌, List, [], ◌∷◌, ◌++◌, length, drop}
 use Rattle.link_node.specs.Event.{EventValue, Rx, Tick, App, Audio, End, audio_after}
-use Rattle.link_text.specs.Lines.{lines_of, counting_in}
+use Rattle.link_lines.specs.Lines.{lines_of, counting_in}
 use Rattle.link_text.specs.declared.place.Place.{Place}
 use Rattle.link_text.specs.Places.{HasPassed, counting_from}
 use Rattle.link_text.specs.ReplayScript.{IsEventKind, IsEventLine, AreEventLines, IsBehindLine, IsNextEvent, SaysFrom, SaysSome}

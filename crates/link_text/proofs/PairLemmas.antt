@@ -2,8 +2,8 @@
 use Rattle.std.proofs.Common.{◌≡◌, sym, ◌∙◌, ap, ℤ, ℕ, List, [], ◌∷◌, Option, Some, None, IfSome, IfNone}
 use Rattle.std.specs.Fmt.{signed_decimal}
 use Rattle.lk_base.specs.Ranges.{IsWithinLimit}
-use Rattle.link_text.specs.LineWords.{words_of}
-use Rattle.link_text.specs.Words.{joined}
+use Rattle.link_lines.specs.LineWords.{words_of}
+use Rattle.link_lines.specs.Words.{joined}
 use Rattle.link_text.specs.PairLine.{IsPairLine}
 use Rattle.link_text.proofs.EventLemmas.{signed_lacks, words_joined, joined_words}
 use Rattle.link_text.proofs.EventUniqueLemmas.{signed_one}

@@ -3,10 +3,10 @@ use Rattle.std.proofs.Common.{◌≡◌, ◌⊎◌, inl, inr, refl, sym, ◌∙�
 use Rattle.std.proofs.lemmas.List.{append_assoc, length_push, length-append, length-drop, drop_more}
 use Rattle.std.proofs.lemmas.Bool.Decides.{nat_tests}
 use Rattle.std.proofs.lemmas.List.Elements.{filter-append}
-use Rattle.link_text.specs.Lines.{lines_of, is_passed, counting_in}
+use Rattle.link_lines.specs.Lines.{lines_of, is_passed, counting_in}
 use Rattle.link_text.specs.Places.{HasWalked, HasPassed, IsAhead, HasLine, StopsAt, counting_from}
 use Rattle.link_text.specs.declared.place.Place.{Place}
-use Rattle.link_text.proofs.LineLemmas.{line_begins, line_empty, lines_end, lines_some}
+use Rattle.link_lines.proofs.LineLemmas.{line_begins, line_empty, lines_end, lines_some}
 
 counts : List ℕ → Bool
 counts line = not (is_passed line)

@@ -10,7 +10,7 @@ use Rattle.lk_base.specs.Ranges.{IsQuantum}
 use Rattle.lk_base.specs.declared.endpoint.Endpoint.{Endpoint}
 use Rattle.link_node.specs.Config.{ConfigValue, GateValue}
 use Rattle.link_node.specs.Event.{EventValue, audio_after}
-use Rattle.link_text.specs.Lines.{lines_of, counting_in}
+use Rattle.link_lines.specs.Lines.{lines_of, counting_in}
 use Rattle.link_text.specs.declared.head_read.Node.{Node}
 use Rattle.link_text.specs.declared.place.Place.{Place}
 use Rattle.link_text.specs.HeadParts.{config_of, plain_of, IsFront, IsKnownVersion, IsNode, IsOpening, LacksTo, LacksGate, AreFull}

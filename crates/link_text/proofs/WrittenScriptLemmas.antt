@@ -11,8 +11,8 @@ use Rattle.std.proofs.lemmas.Grind.{flat_map-append}
 use Rattle.std.proofs.lemmas.List.Folds.{flat_map-map}
 use Rattle.hex.specs.Hex.{encode_lower, encode_with, lower_digits}
 use Rattle.lk_base.specs.declared.endpoint.Endpoint.{Endpoint}
-use Rattle.link_text.specs.Lines.{lines_of, is_passed, counting_in}
-use Rattle.link_text.specs.Words.{joined, truth_text_of, endpoint_text_of, dotted}
+use Rattle.link_lines.specs.Lines.{lines_of, is_passed, counting_in}
+use Rattle.link_lines.specs.Words.{joined, truth_text_of, endpoint_text_of, dotted}
 use Rattle.hex.proofs.HexLemmas.{decode_of-encode_lower}
 use Rattle.link_payload.specs.Entries.{AreBytes}
 use Rattle.lk_base.specs.declared.start.ClientStart.{ClientStart}

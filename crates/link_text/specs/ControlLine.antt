@@ -3,7 +3,7 @@ use Rattle.std.specs.Prelude.{◌≡◌, ◌≤◌, ℕ, List, [], ◌∷◌, le
 use Rattle.std.specs.Fmt.{signed_decimal}
 use Rattle.lk_base.specs.Ranges.{IsWithinLimit}
 use Rattle.link_text.specs.LiveScript.{IsTempo}
-use Rattle.link_text.specs.Words.{joined}
+use Rattle.link_lines.specs.Words.{joined}
 use Rattle.link_text.specs.declared.control_line.ControlLine.{ControlLine}
 use Rattle.link_text.specs.declared.control_line.ControlLine.TheVariants.{Status, Tempo, Play, Stop, Beat, Time}
 

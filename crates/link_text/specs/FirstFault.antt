@@ -1,6 +1,6 @@
 -- The first line at fault of a text of any kind, where `IsText` says which lines make a text of that kind.
 use Rattle.std.specs.Prelude.{◌≡◌, ◌<◌, ◌^◌, ◌⊎◌, ◌+◌, ℕ, List, [], ◌∷◌, ◌++◌, length}
-use Rattle.link_text.specs.Lines.{lines_of}
+use Rattle.link_lines.specs.Lines.{lines_of}
 
 -- some text begins with these lines
 pub record Begins (IsText : List (List ℕ) → Type 0) (lines : List (List ℕ)) : Type 0 where

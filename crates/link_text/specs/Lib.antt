@@ -1,8 +1,4 @@
-pub mod Lines
-pub mod Words
-pub mod LineWords
 pub mod PairLine
-pub mod Line
 pub mod Spaced
 pub mod ReadingLine
 pub mod FirstFault

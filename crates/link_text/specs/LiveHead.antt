@@ -2,7 +2,7 @@
 use Rattle.std.specs.Prelude.{ℕ, ℤ, Bool, List, []}
 use Rattle.link_node.specs.Config.{GateValue}
 use Rattle.link_text.specs.FirstFault as faults
-use Rattle.link_text.specs.Lines.{lines_of}
+use Rattle.link_lines.specs.Lines.{lines_of}
 use Rattle.link_text.specs.LiveScript.{IsLiveScript}
 
 -- the lines that count are those of a live script without commands

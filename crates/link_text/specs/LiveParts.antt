@@ -1,7 +1,7 @@
 -- Only for proofs: how far a live script is read.
 use Rattle.std.specs.Prelude.{◌≡◌, ℕ, ℤ, Bool, List, [], ◌∷◌, ◌++◌, length, map, filter, All}
 use Rattle.link_node.specs.Config.{GateValue}
-use Rattle.link_text.specs.Lines.{lines_of, counting_in}
+use Rattle.link_lines.specs.Lines.{lines_of, counting_in}
 use Rattle.link_text.specs.HeadParts.{AreFull, LacksGate}
 use Rattle.link_text.specs.Places.{IsAhead, HasLine, counting_from}
 use Rattle.link_text.specs.LiveHead.{IsHeadLineFault}

@@ -18,7 +18,7 @@ use Rattle.link_node.specs.Event.{EventValue, Rx, Tick, App}
 use Rattle.link_node.specs.Machine.{Machine, still}
 use Rattle.link_node.specs.Opening.{opened}
 use Rattle.link_node.specs.Runs.{replayed, published_by, sent_by}
-use Rattle.link_text.specs.Line.{line_of}
+use Rattle.link_lines.specs.Line.{line_of}
 use Rattle.link_text.specs.ReplayText.{state_line_of}
 
 -- ---- the words of the generator

@@ -2,7 +2,7 @@
 use Rattle.std.specs.Prelude.{◌≡◌, ℕ, ℤ, List, [], ◌∷◌}
 use Rattle.std.specs.Fmt.{signed_decimal}
 use Rattle.lk_base.specs.Ranges.{IsWithinLimit}
-use Rattle.link_text.specs.Words.{joined}
+use Rattle.link_lines.specs.Words.{joined}
 
 -- the line says these two numbers, each within the limit, and nothing else
 pub record IsPairLine (line : List ℕ) (first second : ℤ) : Type 0 where

@@ -11,8 +11,8 @@ use Rattle.asdp_messages.specs.declared.message.StateMsg.{StateMsg}
 use Rattle.asdp_messages.specs.declared.fault.WireFault.{WireFault}
 use Rattle.asdp_messages.specs.declared.fault.WireFault.TheVariants as wire
 use Rattle.asdp_messages.specs.Datagram.{MessageValue, Alive, Response, Bye, Ping, Pong, OtherDiscovery, OtherLink}
-use Rattle.link_text.specs.Words.{truth_text_of, endpoint_text_of}
-use Rattle.link_text.specs.Line.{line_of}
+use Rattle.link_lines.specs.Words.{truth_text_of, endpoint_text_of}
+use Rattle.link_lines.specs.Line.{line_of}
 
 -- an id of eight bytes, in sixteen hex digits
 unfoldable pub id_text_of : NodeId → List ℕ

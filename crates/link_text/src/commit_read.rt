@@ -10,13 +10,13 @@ ghost use Rattle.lk_base.specs.declared.timeline.Timeline.{Timeline};
 ghost use Rattle.client_state.specs.Commit.{IsTidyCommit, IsTidyStart};
 ghost use Rattle.client_state.specs.declared.commit.Commit.{Commit};
 ghost use Rattle.link_text.specs.CommitWords.{LeavesQuantum, LeavesStart};
-ghost use Rattle.link_text.specs.LineWords.{words_left};
+ghost use Rattle.link_lines.specs.LineWords.{words_left};
 ghost use Rattle.link_text.specs.ReplayScript.{commit_words, quantum_words, start_words, timeline_words};
-ghost use Rattle.link_text.specs.Words.{truth_text_of};
+ghost use Rattle.link_lines.specs.Words.{truth_text_of};
 
 use crate::values::{quantum_in, signed_in, tempo_in, truth_in};
-use crate::words::{is_end, is_word, next_word};
 use client_state::Commit;
+use link_lines::{is_end, is_word, next_word};
 use lk_base::{ClientStart, Timeline};
 
 /// The commit that all that is left of a line says: when it was made, and a timeline, a start and a quantum, each where it is there.

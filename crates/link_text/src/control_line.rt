@@ -4,11 +4,11 @@ ghost use Rattle.std.specs.Prelude.{◌≡◌, ◌∷◌, [], ℤ, codes, IfSome
 ghost use Rattle.std.specs.Fmt.{signed_decimal};
 ghost use Rattle.lk_base.specs.Ranges.{IsWithinLimit};
 ghost use Rattle.link_text.specs.ControlLine.{IsAsked, IsControlLine, control_words};
-ghost use Rattle.link_text.specs.LineWords.{words_left, words_of};
+ghost use Rattle.link_lines.specs.LineWords.{words_left, words_of};
 ghost use Rattle.link_text.specs.LiveScript.{IsTempo};
 
 use crate::live_read::{signed_left, tempo_left};
-use crate::words::{first_word, is_end, is_word};
+use link_lines::{first_word, is_end, is_word};
 
 /// How many bytes a line has at most that asks for something.
 const LONGEST: usize = 25;

@@ -6,12 +6,12 @@ ghost use Rattle.arrayvec.specs.ArrayVec.{array_vec_len};
 ghost use Rattle.link_node.specs.Event.{Audio, Rx, event_value};
 ghost use Rattle.link_text.specs.ReplayScript.{commit_words, event_line, ended, hex_word, quantum_words, start_words, timeline_words};
 ghost use Rattle.link_text.specs.Spaced.{spaced};
-ghost use Rattle.link_text.specs.Words.{joined};
+ghost use Rattle.link_lines.specs.Words.{joined};
 
-use crate::line::{
+use client_state::Commit;
+use link_lines::{
     LineBuf, put, put_client_start, put_decimal, put_endpoint, put_hex, put_signed, put_timeline,
 };
-use client_state::Commit;
 use link_node::Event;
 use lk_base::{ClientStart, Endpoint, Gate, Timeline};
 

@@ -3,7 +3,7 @@
 ghost use Rattle.std.specs.Prelude.{◌≤◌, ◌<◌, ℕ, codes, IfSome, IfNone};
 ghost use Rattle.link_node.specs.Event.{EventValue};
 ghost use Rattle.link_text.specs.EventDetails.{SaysDetails};
-ghost use Rattle.link_text.specs.LineWords.{words_left};
+ghost use Rattle.link_lines.specs.LineWords.{words_left};
 ghost use Rattle.link_text.specs.ReplayScript.{IsEventLine};
 ghost use Rattle.link_text.specs.SaidEvent.{HasHex, said_value};
 
@@ -11,7 +11,7 @@ use crate::commit_read::commit_of;
 use crate::hex_word::hex_left;
 use crate::said_event::SaidEvent;
 use crate::values::{endpoint_in, moment_in, number_in};
-use crate::words::{first_word, is_end, is_word};
+use link_lines::{first_word, is_end, is_word};
 use lk_base::Gate;
 
 /// The greatest number of an audio commit: 2^60 - 1.

@@ -4,11 +4,11 @@ ghost use Rattle.std.specs.Prelude.{◌≡◌, ◌≤◌, ◌<◌, ◌+◌, ◌+
 ghost use Rattle.std.specs.Fmt.{decimal, signed_decimal};
 ghost use Rattle.std.specs.List.{flat_map};
 ghost use Rattle.arrayvec.specs.ArrayVec.{array_vec_len};
-ghost use Rattle.link_text.specs.Words.{truth_text_of};
+ghost use Rattle.link_lines.specs.Words.{truth_text_of};
 ghost use Rattle.link_node.specs.Config.{config_value, gate_value};
 ghost use Rattle.link_text.specs.ReplayScript.{ended, gate_line, gate_lines, group_line, head_lines, node_line, quantum_line, to_line, version_line};
 
-use crate::line::{LineBuf, put, put_decimal, put_endpoint, put_signed, put_truth};
+use link_lines::{LineBuf, put, put_decimal, put_endpoint, put_signed, put_truth};
 use link_node::{Config, GateSetup};
 use lk_base::{Endpoint, NodeId};
 

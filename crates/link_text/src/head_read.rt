@@ -7,15 +7,15 @@ ghost use Rattle.lk_base.specs.Ranges.{IsQuantum};
 ghost use Rattle.lk_base.specs.declared.endpoint.Endpoint.{Endpoint};
 ghost use Rattle.link_node.specs.Config.{ConfigValue, gate_value};
 ghost use Rattle.link_text.specs.HeadParts.{HasDestinations, HasGates, IsKnownVersion, IsNode, IsNodeLine, LacksGate, LacksTo, plain_of};
-ghost use Rattle.link_text.specs.LineWords.{words_of};
+ghost use Rattle.link_lines.specs.LineWords.{words_of};
 ghost use Rattle.link_text.specs.Places.{IsAhead, counting_from};
 ghost use Rattle.link_text.specs.ReplayScript.{gate_line, group_line, node_line, quantum_line, to_line, version_line};
-ghost use Rattle.link_text.specs.Words.{endpoint_text_of, truth_text_of};
+ghost use Rattle.link_lines.specs.Words.{endpoint_text_of, truth_text_of};
 
 use crate::place::{Place, line_from};
 use crate::values::{endpoint_in, id_in, moment_in, number_in, quantum_in, tempo_in, truth_in};
-use crate::words::{first_word, is_end, is_word};
 use arrayvec::ArrayVec;
+use link_lines::{first_word, is_end, is_word};
 use link_node::GateSetup;
 use lk_base::{Endpoint, NodeId};
 

@@ -5,11 +5,11 @@ ghost use Rattle.std.specs.Bool.{OnTrue, OnFalse};
 ghost use Rattle.std.specs.List.{AllPass};
 ghost use Rattle.hex.specs.Hex.{decode_of, hex_digit_value, is_hex_digit};
 ghost use Rattle.link_text.specs.HexWord.{IsHexWord, hex_bytes};
-ghost use Rattle.link_text.specs.LineWords.{words_left};
+ghost use Rattle.link_lines.specs.LineWords.{words_left};
 ghost use Rattle.link_text.specs.ReplayScript.{IsHexOf};
 
-use crate::words::is_word;
 use arrayvec::ArrayVec;
+use link_lines::is_word;
 use lk_base::Wire;
 
 /// The word for the bytes of a datagram, if it is all that is left of a line: at most 1,026 hex digits, and a hyphen for none.

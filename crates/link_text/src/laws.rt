@@ -5,7 +5,7 @@ ghost use Rattle.link_node.specs.Config.{ConfigValue, GateValue};
 ghost use Rattle.link_node.specs.Event.{EventValue};
 ghost use Rattle.link_node.specs.Runs.{AreFitting};
 ghost use Rattle.link_text.specs.ControlLine.{AreControlLines};
-ghost use Rattle.link_text.specs.Lines.{lines_of};
+ghost use Rattle.link_lines.specs.Lines.{lines_of};
 ghost use Rattle.link_text.specs.LiveHead.{IsFirstHeadFault, IsHeadText};
 ghost use Rattle.link_text.specs.LiveScript.{Command, IsFirstLiveFault, IsLiveScript, IsLiveText, SaysOneSetup};
 ghost use Rattle.link_text.specs.Load.{HasOneLoadText};

@@ -1,15 +1,14 @@
 //! The texts that the program reads and writes.
 //!
-//! In reading order: `line` (a line that is put together), `text_line` (the lines of a text), `word`, `number`, `truth`, `node_id`,
-//! `endpoint` (what a word says), `words`, `values` (a line word by word), `hex_word` (the last word of an arrival), `pair` (a line of two
-//! numbers), `place` (the lines that count), `said_event`, `commit_read`, `event_read`, `head_read` (a line of each kind), `fault`, `head`,
-//! `replay_script`, `live_read` (the lines of a live script), `live_script`, `live_head`, `control_line` (the lines of a client), `reason`,
-//! `head_line`, `event_line`, `sending_line`, `state_line`, `reading_line`, `load` (the events of a generated run); last `laws`.
+//! Lines and their words are cut, read and put together by `link_lines`; what callers need of it beside this crate is handed on. In reading
+//! order: `node_id`, `values` (what the next word says), `hex_word` (the last word of an arrival), `pair` (a line of two numbers), `place`
+//! (the lines that count), `said_event`, `commit_read`, `event_read`, `head_read` (a line of each kind), `fault`, `head`, `replay_script`,
+//! `live_read` (the lines of a live script), `live_script`, `live_head`, `control_line` (the lines of a client), `reason`, `head_line`,
+//! `event_line`, `sending_line`, `state_line`, `reading_line`, `load` (the events of a generated run); last `laws`.
 #![tactic(auto)]
 
 mod commit_read;
 mod control_line;
-mod endpoint;
 mod event_line;
 mod event_read;
 mod fault;
@@ -18,13 +17,11 @@ mod head_line;
 mod head_read;
 mod hex_word;
 mod laws;
-mod line;
 mod live_head;
 mod live_read;
 mod live_script;
 mod load;
 mod node_id;
-mod number;
 mod pair;
 mod place;
 mod reading_line;
@@ -33,14 +30,9 @@ mod replay_script;
 mod said_event;
 mod sending_line;
 mod state_line;
-mod text_line;
-mod truth;
 mod values;
-mod word;
-mod words;
 
 pub use control_line::{ControlLine, control_line_of};
-pub use endpoint::endpoint_of;
 pub use event_line::write_event;
 pub use fault::BadLine;
 pub use head::Head;
@@ -49,7 +41,10 @@ pub use laws::{
     control_lines, one_live_head, one_live_script, one_load_text, one_pair, one_script,
     scripts_fit_nodes, written_scripts_are_read,
 };
-pub use line::{LineBuf, put, put_decimal, put_endpoint, put_short_hex, put_signed, put_truth};
+pub use link_lines::{
+    LineBuf, endpoint_of, line_at, put, put_decimal, put_endpoint, put_short_hex, put_signed,
+    put_truth,
+};
 pub use live_head::{HeadFault, LiveHead, read_live_head};
 pub use live_script::{Act, AppCommand, BlockCommand, LiveFault, LiveScript, read_live};
 pub use load::LoadEvents;
@@ -61,4 +56,3 @@ pub use reason::{
 pub use replay_script::{check_replay, next_event};
 pub use sending_line::write_sending;
 pub use state_line::{write_done_line, write_load_line, write_state_line};
-pub use text_line::line_at;

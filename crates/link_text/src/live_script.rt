@@ -12,8 +12,8 @@ use crate::live_read::{
     app_command_of, begins_command, block_command_of, is_live_version_line, setup_of,
 };
 use crate::place::{Place, first_place, line_from};
-use crate::text_line::line_at;
 use arrayvec::ArrayVec;
+use link_lines::line_at;
 use link_node::GateSetup;
 use std::alloc::{AllocError, Global};
 

@@ -3,12 +3,11 @@
 ghost use Rattle.std.specs.Prelude.{◌≡◌, ℤ, [], ◌∷◌, IfSome, IfNone};
 ghost use Rattle.std.specs.Fmt.{signed_decimal};
 ghost use Rattle.lk_base.specs.Ranges.{IsWithinLimit};
-ghost use Rattle.link_text.specs.LineWords.{words_of};
+ghost use Rattle.link_lines.specs.LineWords.{words_of};
 ghost use Rattle.link_text.specs.PairLine.{IsPairLine};
 
-use crate::number::signed_of;
 use crate::values::signed_in;
-use crate::words::{first_word, is_end};
+use link_lines::{first_word, is_end, signed_of};
 
 /// The two numbers that a line says, each within 2^60 of 0, with a space between them and nothing else. Memory: none.
 pub fn pair_of(line: &[u8]) -> Option<(i64, i64)>

@@ -1,10 +1,10 @@
 //! The lines of a text that count, one after the other.
 
 ghost use Rattle.std.specs.Prelude.{◌≡◌, ◌≤◌, ◌<◌, ◌+◌, ◌↔◌, ◌⊎◌, length, IsTrue};
-ghost use Rattle.link_text.specs.Lines.{counting_in, lines_of};
+ghost use Rattle.link_lines.specs.Lines.{counting_in, lines_of};
 ghost use Rattle.link_text.specs.Places.{HasLine, HasPassed, IsAhead, counting_from};
 
-use crate::text_line::line_at;
+use link_lines::line_at;
 
 /// Where a line of a text begins, or its end.
 #[derive(Clone, Copy)]

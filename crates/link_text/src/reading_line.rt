@@ -4,15 +4,15 @@ ghost use Rattle.std.specs.Prelude.{◌≡◌, ◌≤◌, ◌+◌, ◌*◌, ◌+
 ghost use Rattle.std.specs.Fmt.{decimal, signed_decimal};
 ghost use Rattle.arrayvec.specs.ArrayVec.{array_vec_len};
 ghost use Rattle.asdp_messages.specs.Datagram.{HasShortPing, IsShortMessage, answer_value, message_value};
-ghost use Rattle.link_text.specs.Words.{truth_text_of};
-ghost use Rattle.link_text.specs.Line.{line_of};
+ghost use Rattle.link_lines.specs.Words.{truth_text_of};
+ghost use Rattle.link_lines.specs.Line.{line_of};
 ghost use Rattle.link_text.specs.ReadingLine.{fault_words_of, id_text_of, key_text_of, maybe_endpoint_text_of, message_words_of, payload_fault_words_of, payload_text_of, reading_line_of, state_words_of};
 
-use crate::line::{
+use asdp_messages::{Message, StateMsg, WireFault};
+use link_lines::{
     LineBuf, put, put_decimal, put_endpoint, put_hex, put_short_hex, put_signed, put_timeline,
     put_truth,
 };
-use asdp_messages::{Message, StateMsg, WireFault};
 use link_payload::{PayloadFault, PongFields};
 use lk_base::{Endpoint, NodeId, SessionStart};
 

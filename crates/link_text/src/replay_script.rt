@@ -15,7 +15,7 @@ use crate::head::Head;
 use crate::head_read::{Node, gates_from, group_of, next_line, node_of, quantum_of, version_of};
 use crate::place::{Place, first_place, line_from, pass};
 use crate::said_event::{SaidEvent, event_of};
-use crate::text_line::line_at;
+use link_lines::line_at;
 use link_node::{Config, Event};
 
 /// How many gates a node may have.

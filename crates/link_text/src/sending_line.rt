@@ -5,7 +5,7 @@ ghost use Rattle.link_node.specs.Event.{sending_value};
 ghost use Rattle.link_text.specs.ReplayText.{sending_line_of};
 
 use crate::event_line::put_bytes;
-use crate::line::{LineBuf, put, put_decimal, put_endpoint, put_signed};
+use link_lines::{LineBuf, put, put_decimal, put_endpoint, put_signed};
 use link_node::Sending;
 
 /// Puts the line of a datagram that follows from an event at the moment `now` in place of what the buffer held. Memory: none.

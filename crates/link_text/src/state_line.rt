@@ -4,16 +4,16 @@ ghost use Rattle.std.specs.Prelude.{◌≡◌, ◌≤◌, ◌+◌, ◌++◌, ◌
 ghost use Rattle.std.specs.Fmt.{decimal, signed_decimal};
 ghost use Rattle.arrayvec.specs.ArrayVec.{array_vec_len};
 ghost use Rattle.hex.specs.Hex.{encode_lower};
-ghost use Rattle.link_text.specs.Line.{line_of};
+ghost use Rattle.link_lines.specs.Line.{line_of};
 ghost use Rattle.link_text.specs.Load.{load_line_of};
 ghost use Rattle.link_text.specs.ReplayText.{state_line_of, done_line_of, profile_words};
 ghost use Rattle.link_text.specs.Spaced.{spaced};
-ghost use Rattle.link_text.specs.Words.{truth_text_of};
+ghost use Rattle.link_lines.specs.Words.{truth_text_of};
 
-use crate::line::{
+use client_state::State;
+use link_lines::{
     LineBuf, put, put_client_start, put_decimal, put_short_hex, put_signed, put_timeline, put_truth,
 };
-use client_state::State;
 use lk_base::NodeId;
 
 /// Puts the line of a state by its number in place of what the buffer held: in version 1 without its session and quantum.

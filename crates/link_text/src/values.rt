@@ -4,17 +4,14 @@ ghost use Rattle.std.specs.Prelude.{◌≤◌};
 ghost use Rattle.std.specs.Fmt.{decimal, signed_decimal};
 ghost use Rattle.lk_base.specs.Endpoint.{IsEndpoint};
 ghost use Rattle.lk_base.specs.Ranges.{IsMoment, IsQuantum, IsWithinLimit};
-ghost use Rattle.link_text.specs.LineWords.{ReadsWord, words_left};
+ghost use Rattle.link_lines.specs.LineWords.{ReadsWord, words_left};
 ghost use Rattle.link_text.specs.LiveScript.{IsTempo};
 ghost use Rattle.link_text.specs.ReplayScript.{IsVisibleId};
-ghost use Rattle.link_text.specs.Words.{endpoint_text_of, truth_text_of};
+ghost use Rattle.link_lines.specs.Words.{endpoint_text_of, truth_text_of};
 
-use crate::endpoint::endpoint_of;
 use crate::node_id::id_of;
-use crate::number::{amount_of, number_of, signed_of};
-use crate::truth::truth_of;
-use crate::words::next_word;
 use client_state::QUANTUM_MAX;
+use link_lines::{amount_of, endpoint_of, next_word, number_of, signed_of, truth_of};
 use lk_base::{Endpoint, MOMENT_MAX, NodeId};
 
 /// A number up to `limit`, and what is left behind it.

@@ -4,7 +4,7 @@ use Rattle.std.specs.Net.Grammar.{Parses}
 use Rattle.clap.specs.Matches.{ReadsOne}
 use Rattle.lk_base.specs.Endpoint.{IsEndpoint}
 use Rattle.lk_base.specs.declared.endpoint.Endpoint.{Endpoint}
-use Rattle.link_text.specs.Words.{endpoint_text_of}
+use Rattle.link_lines.specs.Words.{endpoint_text_of}
 use Rattle.link_words.specs.EndpointWords.{Spells}
 use Rattle.link_words.specs.declared.endpoint_words.EndpointWord.{EndpointWord}
 use Rattle.link_words.specs.declared.endpoint_words.NoEndpoint.{NoEndpoint}

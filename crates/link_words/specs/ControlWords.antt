@@ -7,7 +7,7 @@ use Rattle.clap.specs.Words.{App, Rule, fault_of, matches_of, new_rule, one_of, 
 use Rattle.clap.specs.declared.builder.action.ArgAction.TheVariants.{Set}
 use Rattle.lk_base.specs.Endpoint.{IsEndpoint}
 use Rattle.lk_base.specs.declared.endpoint.Endpoint.{Endpoint}
-use Rattle.link_text.specs.Words.{endpoint_text_of}
+use Rattle.link_lines.specs.Words.{endpoint_text_of}
 use Rattle.link_words.specs.CommandNames.{BeginsBy}
 use Rattle.link_words.specs.CommandWords.{Says, bare_app}
 use Rattle.link_words.specs.OptionWords.{option_rule}

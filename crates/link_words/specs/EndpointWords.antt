@@ -1,7 +1,7 @@
 -- Words that are endpoints.
 use Rattle.std.specs.Prelude.{◌≡◌, ℕ, List}
 use Rattle.lk_base.specs.Endpoint.{IsEndpoint}
-use Rattle.link_text.specs.Words.{endpoint_text_of}
+use Rattle.link_lines.specs.Words.{endpoint_text_of}
 use Rattle.link_words.specs.declared.endpoint_words.EndpointWord.{EndpointWord}
 
 -- the text is that of the word's endpoint

@@ -4,10 +4,10 @@ ghost use Rattle.std.specs.Prelude.{◌≡◌, Some, IfSome, IfNone};
 ghost use Rattle.clap.specs.Words.{found_of, one_text};
 ghost use Rattle.lk_base.specs.Endpoint.{IsEndpoint};
 ghost use Rattle.lk_base.specs.declared.endpoint.Endpoint.{Endpoint};
-ghost use Rattle.link_text.specs.Words.{endpoint_text_of};
+ghost use Rattle.link_lines.specs.Words.{endpoint_text_of};
 
 use clap::ArgMatches;
-use link_text::endpoint_of;
+use link_lines::endpoint_of;
 use lk_base::Endpoint;
 use std::str::FromStr;
 

@@ -4,12 +4,11 @@ use crate::event_read::AUDIO_MAX;
 use crate::head_read::GROUP_MAX;
 use crate::hex_word::is_hex_word;
 use crate::live_read::BLOCK_MAX;
-use crate::number::signed_of;
 use crate::reason::{Before, Excerpt, Expected, Found, Kind, Reason, Stage, expected_at};
 use crate::values::{
     endpoint_in, id_in, moment_in, number_in, quantum_in, signed_in, tempo_in, truth_in,
 };
-use crate::words::{first_word, is_word, next_word};
+use link_lines::{first_word, is_word, next_word, signed_of};
 
 /// Why a line is at fault at a stage of a script.
 pub(crate) fn explained(kind: Kind, line: &[u8], stage: Stage) -> Reason {

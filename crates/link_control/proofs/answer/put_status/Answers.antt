@@ -1,6 +1,6 @@
 use Rattle.std.proofs.Common.{codes}
 use Rattle.std.specs.Fmt.{decimal, signed_decimal}
-use Rattle.link_text.specs.Words.{truth_text_of}
+use Rattle.link_lines.specs.Words.{truth_text_of}
 use Rattle.link_control.specs.Answers.{status_text_of}
 use Rattle.link_control.proofs.TextLemmas.{status_pieces}
 use Rattle.link_control.proofs.answer.put_status.Goals as goal

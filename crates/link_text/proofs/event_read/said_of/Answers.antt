@@ -1,7 +1,7 @@
 use Rattle.std.proofs.Common.{arith, codes, ℕ}
 use Rattle.link_node.specs.Event.{EventValue}
 use Rattle.link_text.specs.EventDetails.{SaysDetails}
-use Rattle.link_text.specs.LineWords.{words_left}
+use Rattle.link_lines.specs.LineWords.{words_left}
 use Rattle.link_text.specs.SaidEvent.{said_value}
 use Rattle.link_text.specs.declared.said_event.SaidEvent.{SaidEvent}
 use Rattle.link_text.proofs.EventLemmas.{no_moment, some_line, none_line, of_line, to_line, no_more_words, no_kind, only_tick, only_end, moment_stored, some_at, none_at}

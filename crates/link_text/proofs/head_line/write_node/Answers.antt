@@ -1,7 +1,7 @@
 use Rattle.std.proofs.Common.{rules, codes, FitsSigned, w64}
 use Rattle.std.specs.Fmt.{decimal, signed_decimal}
 use Rattle.std.proofs.lemmas.Int.{to_z-of_z}
-use Rattle.link_text.specs.Words.{truth_text_of}
+use Rattle.link_lines.specs.Words.{truth_text_of}
 use Rattle.link_text.proofs.JoinLemmas.{node_pieces}
 use Rattle.link_text.proofs.head_line.write_node.Goals as goal
 

@@ -1,6 +1,6 @@
 use Rattle.std.proofs.Common.{codes, refl}
 use Rattle.lk_base.specs.Endpoint.{IsEndpoint}
-use Rattle.link_text.specs.Words.{endpoint_text_of}
+use Rattle.link_lines.specs.Words.{endpoint_text_of}
 use Rattle.link_text.proofs.EventLemmas.{endpoint_lacks, lacks_by_test}
 use Rattle.link_text.proofs.HeadLemmas.{some_said, none_said}
 use Rattle.link_text.proofs.head_read.destination_of.Goals as goal

@@ -1,5 +1,5 @@
 use Rattle.std.specs.Prelude.{[]}
-use Rattle.link_text.specs.Lines.{lines_of}
+use Rattle.link_lines.specs.Lines.{lines_of}
 use Rattle.link_text.specs.LiveHead.{IsSomeHead}
 use Rattle.link_text.proofs.FirstFaultLemmas.{no_text, one_fault}
 use Rattle.link_text.proofs.LiveLemmas.{one_script}

@@ -1,4 +1,4 @@
-use Rattle.link_text.specs.Lines.{lines_of}
+use Rattle.link_lines.specs.Lines.{lines_of}
 use Rattle.link_text.specs.LiveScript.{IsSomeLiveScript}
 use Rattle.link_text.proofs.FirstFaultLemmas.{no_text, one_fault}
 use Rattle.link_text.proofs.LiveLemmas.{one_script, one_text}

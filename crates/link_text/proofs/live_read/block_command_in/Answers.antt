@@ -1,4 +1,4 @@
-use Rattle.link_text.specs.LineWords.{words_of, words_left}
+use Rattle.link_lines.specs.LineWords.{words_of, words_left}
 use Rattle.link_text.proofs.LiveLineLemmas.{no_nought}
 use Rattle.link_text.proofs.live_read.block_command_in.Goals as goal
 

@@ -1,6 +1,6 @@
 use Rattle.std.proofs.Common.{arith, ap}
 use Rattle.link_text.specs.LiveParts.{lines_told}
-use Rattle.link_text.proofs.LineLemmas.{lines_end}
+use Rattle.link_lines.proofs.LineLemmas.{lines_end}
 use Rattle.link_text.proofs.live_script.commands_in.Goals as goal
 
 pub returns : goal.returns

@@ -1,5 +1,5 @@
 use Rattle.std.specs.Fmt.{decimal, signed_decimal}
-use Rattle.link_text.specs.Words.{truth_text_of}
+use Rattle.link_lines.specs.Words.{truth_text_of}
 use Rattle.link_text.specs.ReadingLine.{id_text_of, maybe_endpoint_text_of}
 use Rattle.link_text.proofs.JoinLemmas.{state_line}
 use Rattle.link_text.proofs.reading_line.put_state.Goals as goal

@@ -1,7 +1,7 @@
 use Rattle.std.proofs.Common.{codes}
 use Rattle.std.specs.Fmt.{decimal, signed_decimal}
 use Rattle.link_text.specs.ReplayText.{profile_words, state_line_of}
-use Rattle.link_text.specs.Words.{truth_text_of}
+use Rattle.link_lines.specs.Words.{truth_text_of}
 use Rattle.link_text.proofs.JoinLemmas.{state_pieces}
 use Rattle.link_text.proofs.state_line.write_state_line.Goals as goal
 
