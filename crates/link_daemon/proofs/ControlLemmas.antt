@@ -18,10 +18,11 @@ use Rattle.link_commands.specs.Statuses.{Stream, WritesPart, WritesSome, WritesW
 use Rattle.link_commands.specs.declared.status.Status.{Status}
 use Rattle.link_commands.specs.declared.status.Status.TheVariants as status
 use Rattle.link_daemon.specs.ControlEnds.{ControlSeen, EndsControl, EndsControlled, HasEndedControl, IsControlSetUp, RunsControl}
-use Rattle.link_daemon.specs.ControlSetup.{IsHeadRead, control_setup_from, control_status_from, controlled_config_from}
-use Rattle.link_daemon.specs.Outside.{PortSeen}
-use Rattle.link_daemon.specs.ReportText.{live_text_of}
-use Rattle.link_daemon.proofs.RunLemmas.{wrote_some}
+use Rattle.link_live_command.specs.HeadRead.{IsHeadRead}
+use Rattle.link_daemon.specs.ControlSetup.{control_setup_from, control_status_from, controlled_config_from}
+use Rattle.link_live_command.specs.Outside.{PortSeen}
+use Rattle.link_live_command.specs.ReportText.{live_text_of}
+use Rattle.link_live_command.proofs.RunLemmas.{wrote_some}
 
 -- how a run ends whose summary was written, or in part
 pub run_ended : (setup : ControlSetup) (before after : ControlSeen) (ended : ControlEnd) (wrote : Bool)

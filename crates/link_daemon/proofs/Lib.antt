@@ -1,4 +1,3 @@
-mod ReportLemmas
 mod StatusLemmas
 mod FaultLineLemmas
 mod CauseLemmas
@@ -10,8 +9,4 @@ mod ControlStatusLemmas
 mod OneStatusLemmas
 mod ValidRunLemmas
 mod ValidInputLemmas
-mod RunLemmas
-mod InputLemmas
-mod LiveLemmas
 mod ControlLemmas
-mod RecordLemmas

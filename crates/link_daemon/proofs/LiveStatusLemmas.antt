@@ -6,10 +6,11 @@ use Rattle.lk_outside.specs.Faults.{Rose}
 use Rattle.link_text.specs.LiveScript.{IsLiveLineFault}
 use Rattle.link_live.specs.Headline.{LiveSetup}
 use Rattle.link_live.specs.Journal.{has_ended}
-use Rattle.link_daemon.specs.LiveEnds.{EndsLive, EndsRun, Runs}
+use Rattle.link_live_command.specs.LiveEnds.{EndsLive, EndsRun, Runs}
 use Rattle.link_words.specs.LiveWords.{IsLive}
-use Rattle.link_daemon.specs.Outside.{AllSeen, Outside}
-use Rattle.link_daemon.specs.ScriptRead.{EndsRead}
+use Rattle.link_daemon.specs.AllSeen.{AllSeen}
+use Rattle.link_live_command.specs.Outside.{Outside}
+use Rattle.link_live_command.specs.ScriptRead.{EndsRead}
 use Rattle.link_commands.specs.declared.status.Grammar.TheVariants as grammar
 use Rattle.link_commands.specs.declared.status.Status.{Status}
 use Rattle.link_commands.specs.declared.status.Status.TheVariants as status

@@ -14,7 +14,7 @@ use Rattle.link_control.specs.ControlRun.{EndsTell}
 use Rattle.link_daemon.specs.Ends.{EndsNamed}
 use Rattle.link_words.specs.LoadWords.{IsLoad}
 use Rattle.link_words.specs.MidiWords.{IsMidi, NamesMidi, midi_app}
-use Rattle.link_daemon.specs.Outside.{AllSeen}
+use Rattle.link_daemon.specs.AllSeen.{AllSeen}
 use Rattle.link_commands.specs.declared.status.Grammar.{Grammar}
 use Rattle.link_commands.specs.declared.status.Status.{Status}
 use Rattle.link_commands.specs.declared.status.Status.TheVariants as status

@@ -8,7 +8,7 @@ use Rattle.link_commands.specs.declared.status.Status.{Status}
 use Rattle.link_commands.specs.declared.status.Status.TheVariants as status
 use Rattle.link_commands.specs.Statuses.{Stream, WasRead}
 use Rattle.link_daemon.specs.OneStatus.{End, end_of, IsTold}
-use Rattle.link_daemon.specs.ScriptRead.{EndsReadOf, ReadsScriptFault, ReadsTooMany}
+use Rattle.link_live_command.specs.ScriptRead.{EndsReadOf, ReadsScriptFault, ReadsTooMany}
 use Rattle.link_daemon.proofs.CauseLemmas.{First, here, later, IsOne, first_is_one, rose_and_quiet, one_read, more_and_whole}
 
 -- one line of a text outside a grammar is the first at fault, where these are

@@ -8,7 +8,7 @@ use Rattle.link_commands.specs.Statuses.{Stream, IfNothingWritten}
 use Rattle.link_commands.specs.declared.status.Status.{Status}
 use Rattle.link_commands.specs.declared.status.Status.TheVariants as status
 use Rattle.link_daemon.specs.Ends.{Ends, EndsNamed}
-use Rattle.link_daemon.specs.Outside.{AllSeen}
+use Rattle.link_daemon.specs.AllSeen.{AllSeen}
 
 -- as the command whose word is the first
 pub as_named : (words : List (String Global)) (named : CommandName) (seed : ℕ) (input input' : Stream) (before after : AllSeen) (end : Status)

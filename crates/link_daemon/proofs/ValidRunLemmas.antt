@@ -20,9 +20,9 @@ use Rattle.link_commands.specs.declared.status.Status.TheVariants as status
 use Rattle.link_commands.specs.Statuses.{Stream}
 use Rattle.link_daemon.specs.ControlEnds.{EndsControl}
 use Rattle.link_daemon.specs.Ends.{control_seen}
-use Rattle.link_daemon.specs.LiveEnds.{EndsLive}
-use Rattle.link_daemon.specs.Outside.{AllSeen}
-use Rattle.link_daemon.specs.ScriptRead.{EndsHeadRead, EndsRead, EndsReadOf, ReadsScriptFault, ReadsTooMany}
+use Rattle.link_live_command.specs.LiveEnds.{EndsLive}
+use Rattle.link_daemon.specs.AllSeen.{AllSeen}
+use Rattle.link_live_command.specs.ScriptRead.{EndsHeadRead, EndsRead, EndsReadOf, ReadsScriptFault, ReadsTooMany}
 use Rattle.link_daemon.specs.ValidInput.{IsValidHead, IsValidLive, IsValidTalk, CompletesControl, CompletesLive}
 use Rattle.link_daemon.proofs.CauseLemmas.{told_is_read, within_and_over}
 use Rattle.link_daemon.proofs.ControlCourseLemmas as control

@@ -23,9 +23,9 @@ use Rattle.link_words.specs.declared.control_words.ControlOptions.{ControlOption
 use Rattle.link_commands.specs.Statuses.{Stream, WasRead, WritesPart, WritesSome, WritesWhole, seen}
 use Rattle.link_commands.specs.declared.status.Status.{Status}
 use Rattle.link_commands.specs.declared.status.Status.TheVariants as status
-use Rattle.link_daemon.specs.Outside.{PortSeen, seen_port}
-use Rattle.link_daemon.specs.ReportText.{live_text_of}
-use Rattle.link_daemon.specs.ScriptRead.{EndsHeadRead}
+use Rattle.link_live_command.specs.Outside.{PortSeen, seen_port}
+use Rattle.link_live_command.specs.ReportText.{live_text_of}
+use Rattle.link_live_command.specs.ScriptRead.{EndsHeadRead}
 
 -- what is seen of the objects that `control` is given, beside its input: the port, the talk, how late the pace answers where it tells that,
 -- the output, and what is told of the last run, with its log

@@ -1,17 +1,14 @@
 -- How a run under control is set up by a seed, its options and the head of a live script, and how it is answered.
-use Rattle.std.specs.Prelude.{◌≤◌, ℕ, Bool, true, false, List, map}
+use Rattle.std.specs.Prelude.{ℕ, Bool, true, false, map}
 use Rattle.rand_pcg.specs.Lcg.{started, increment_of}
 use Rattle.rand_pcg.specs.Pcg.{multiplier_64}
 use Rattle.lk_base.specs.Ids.{drawn_id}
 use Rattle.link_node.specs.Config.{ConfigValue, gate_value}
-use Rattle.link_text.specs.LiveHead.{IsHeadText}
-use Rattle.link_text.specs.LiveScript.{commands_told}
 use Rattle.link_text.specs.declared.live_head.LiveHead.{LiveHead}
 use Rattle.link_control.specs.ControlRun.{ControlSetup}
 use Rattle.link_control.specs.declared.run.ControlEnd.{ControlEnd}
 use Rattle.link_control.specs.declared.run.ControlEnd.TheVariants as end
 use Rattle.link_words.specs.declared.control_words.ControlOptions.{ControlOptions}
-use Rattle.link_commands.specs.Statuses.{Stream, WasRead}
 use Rattle.link_commands.specs.declared.status.Status.{Status}
 use Rattle.link_commands.specs.declared.status.Status.TheVariants as status
 
@@ -33,13 +30,6 @@ control_setup_from seed options head = record {
   events = options.events;
   at = options.at;
 }
-
--- the text of a head that was read to its end, and said this one
-pub record IsHeadRead (input input' : Stream) (head : LiveHead) : Type 0 where
-  pub bytes : List ℕ
-  pub read : WasRead 16_777_216 input input' bytes
-  pub few : commands_told bytes ≤ 4_096
-  pub text : IsHeadText bytes head.mpb head.sync (map gate_value head.gates.items)
 
 -- the status of a run that ended so, and whose summary was written or not
 abbrev pub control_status_from : ControlEnd → Bool → Status

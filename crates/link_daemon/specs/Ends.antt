@@ -9,8 +9,8 @@ use Rattle.link_commands.specs.Statuses.{Stream, EndsDecode, EndsFilter, EndsLoa
 use Rattle.link_commands.specs.declared.status.Status.{Status}
 use Rattle.link_commands.specs.declared.status.Status.TheVariants as status
 use Rattle.link_daemon.specs.ControlEnds.{ControlSeen, EndsControl}
-use Rattle.link_daemon.specs.LiveEnds.{EndsLive}
-use Rattle.link_daemon.specs.Outside.{AllSeen}
+use Rattle.link_live_command.specs.LiveEnds.{EndsLive}
+use Rattle.link_daemon.specs.AllSeen.{AllSeen}
 
 -- the words name no command, and no object was called
 pub record EndsUnnamed (input input' : Stream) (before after : AllSeen) (end : Status) : Type 0 where

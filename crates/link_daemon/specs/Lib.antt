@@ -1,9 +1,5 @@
-pub mod ReportText
-pub mod LiveSetup
 pub mod ControlSetup
-pub mod ScriptRead
-pub mod Outside
-pub mod LiveEnds
+pub mod AllSeen
 pub mod ControlEnds
 pub mod Ends
 pub mod OneStatus

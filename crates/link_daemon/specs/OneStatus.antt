@@ -9,7 +9,7 @@ use Rattle.link_commands.specs.declared.status.Grammar.{Grammar}
 use Rattle.link_commands.specs.declared.status.Status.{Status}
 use Rattle.link_commands.specs.declared.status.Status.TheVariants as status
 use Rattle.link_daemon.specs.Ends.{Ends}
-use Rattle.link_daemon.specs.Outside.{AllSeen}
+use Rattle.link_daemon.specs.AllSeen.{AllSeen}
 use Rattle.link_commands.specs.Statuses.{Command, Stream, status_number_of, replay_command, decode_command, filter_command}
 
 -- a stream that tells what it holds, and whose count of failures can still rise

@@ -19,7 +19,7 @@ use Rattle.link_commands.specs.declared.status.Status.{Status}
 use Rattle.link_commands.specs.declared.status.Status.TheVariants as status
 use Rattle.link_daemon.specs.Ends.{Ends}
 use Rattle.link_words.specs.LiveWords.{IsLive}
-use Rattle.link_daemon.specs.Outside.{AllSeen}
+use Rattle.link_daemon.specs.AllSeen.{AllSeen}
 use Rattle.link_commands.specs.Statuses.{Command, Stream, replay_command, decode_command, filter_command}
 use Rattle.link_words.specs.CommandNames.{Names}
 use Rattle.link_words.specs.declared.command_name.CommandName.{CommandName}

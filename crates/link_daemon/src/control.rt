@@ -9,13 +9,12 @@ ghost use Rattle.link_control.specs.ControlRun.{IsReady, told_of};
 ghost use Rattle.link_commands.specs.Statuses.{seen};
 ghost use Rattle.link_daemon.specs.ControlEnds.{EndsControl, EndsControlled, control_seen_of};
 ghost use Rattle.link_daemon.specs.ControlSetup.{control_setup_from, control_status_from, controlled_config_from};
-ghost use Rattle.link_daemon.specs.LiveEnds.{IfNotBegun};
+ghost use Rattle.link_live_command.specs.LiveEnds.{IfNotBegun};
 
-use crate::input::read_head;
-use crate::summary::write_report;
 use link_commands::{Outlet, Status};
 use link_control::{ControlEnd, ControlRoom, ControlRun, SessionLog, control_run};
 use link_live::Report;
+use link_live_command::{read_head, write_report};
 use link_node::Config;
 use link_shared::Parts;
 use link_text::LiveHead;

@@ -1,18 +1,12 @@
-//! The top call, and the commands `live` and `control`. What the crates below have for a program it hands on: the other commands, the
-//! statuses, and the real things that a program reads from and writes to.
+//! The top call, and the command `control`. What the crates below have for a program it hands on: the other commands, the statuses, and
+//! the real things that a program reads from and writes to.
 //!
-//! In reading order: `top` (the top call), `input` (how a script is read); `live` (the command `live`, over the run of `link_live`),
-//! `control` (the command `control`, over that of `link_control`); `summary`, `report_text`, `sayable` (what they tell); `usage_text`
-//! (what is told of words that are no command); last `laws`.
+//! In reading order: `top` (the top call), `control` (the command `control`, over the run of `link_control`), `usage_text` (what is told
+//! of words that are no command); last `laws`.
 #![tactic(auto)]
 
 mod control;
-mod input;
 mod laws;
-mod live;
-mod report_text;
-mod sayable;
-mod summary;
 mod top;
 mod usage_text;
 
@@ -27,6 +21,6 @@ pub use link_commands::{
 };
 pub use link_control::{LineLog, Served, SessionLog, serve};
 pub use link_live::{AudioReport, NetEnd, Report, audio_loop, network_loop};
-pub use live::live_main;
+pub use link_live_command::live_main;
 pub use top::link_main;
 pub use usage_text::{unreadable_usage, usage};

@@ -2,20 +2,21 @@
 
 ghost use Rattle.std.specs.Prelude.{◌≡◌, []};
 ghost use Rattle.link_daemon.specs.Ends.{Ends};
-ghost use Rattle.link_daemon.specs.LiveEnds.{IfNotBegun};
+ghost use Rattle.link_live_command.specs.LiveEnds.{IfNotBegun};
 ghost use Rattle.link_control.specs.Serving.{seen_talk};
 ghost use Rattle.link_words.specs.ControlWords.{BeginsControl};
 ghost use Rattle.link_words.specs.LiveWords.{BeginsLive};
 ghost use Rattle.link_words.specs.LoadWords.{BeginsLoad};
-ghost use Rattle.link_daemon.specs.Outside.{all_seen_of, outside_of};
+ghost use Rattle.link_daemon.specs.AllSeen.{all_seen_of};
+ghost use Rattle.link_live_command.specs.Outside.{outside_of};
 ghost use Rattle.link_live.specs.Report.{report_value};
 ghost use Rattle.link_commands.specs.Statuses.{IfNothingWritten, seen};
 
 use crate::control::control_main;
-use crate::live::live_main;
 use link_commands::{Status, decode_main, filter_main, load_main, midi_main, replay_main};
 use link_control::SessionLog;
 use link_live::Report;
+use link_live_command::live_main;
 use link_words::{CommandName, command_named};
 use lk_outside::{Audio, Pace, Port, Sink, Source, Talk};
 use std::alloc::Global;

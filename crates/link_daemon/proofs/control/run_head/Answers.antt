@@ -5,7 +5,7 @@ use Rattle.link_node.specs.Config.{config_value}
 use Rattle.link_live.specs.Report.{ReportValue}
 use Rattle.link_control.specs.ControlRun.{told_of}
 use Rattle.link_daemon.proofs.ControlLemmas.{run_of_head}
-use Rattle.link_daemon.proofs.RunLemmas.{has_published, moment_fits, wrote_part, wrote_whole}
+use Rattle.link_live_command.proofs.RunLemmas.{has_published, moment_fits, wrote_part, wrote_whole}
 use Rattle.link_daemon.proofs.control.run_head.Goals as goal
 
 -- there was no audio thread

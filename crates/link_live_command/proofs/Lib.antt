@@ -1,0 +1,5 @@
+mod ReportLemmas
+pub mod RunLemmas
+mod InputLemmas
+mod RecordLemmas
+mod LiveLemmas

@@ -1,0 +1,11 @@
+-- The events so far are handed over.
+use Rattle.std.proofs.Common.{◌≡◌}
+use Rattle.link_node.specs.Event.{event_value}
+use Rattle.link_text.specs.ReplayScript.{ended, event_line}
+use Rattle.link_commands.proofs.ReplayLemmas.{HasHandedEach}
+use Rattle.link_live_command.proofs.report_text.hand_events.Given as goal
+
+abbrev pub invariant-loop-event : goal.invariant-loop-event
+invariant-loop-event g l =
+    HasHandedEach (λ e. ended (event_line (event_value e))) l.events l.event-index (g.K.Sink.written l.fn.out) l.fn.outlet.kept.items (g.K.Sink.written l.out) l.outlet.kept.items
+    × (g.K.Sink.faults l.out ≡ g.K.Sink.faults l.fn.out)

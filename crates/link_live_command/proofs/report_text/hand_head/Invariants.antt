@@ -1,0 +1,11 @@
+-- The lines so far are handed over.
+use Rattle.std.proofs.Common.{◌≡◌}
+use Rattle.link_node.specs.Config.{config_value}
+use Rattle.link_text.specs.ReplayScript.{ended, head_lines}
+use Rattle.link_commands.proofs.ReplayLemmas.{HasHandedEach}
+use Rattle.link_live_command.proofs.report_text.hand_head.Given as goal
+
+abbrev pub invariant-loop-k : goal.invariant-loop-k
+invariant-loop-k g l =
+    HasHandedEach ended (head_lines 2 (config_value l.config) l.now) l.k (g.K.Sink.written l.fn.out) l.fn.outlet.kept.items (g.K.Sink.written l.out) l.outlet.kept.items
+    × (g.K.Sink.faults l.out ≡ g.K.Sink.faults l.fn.out)
