@@ -17,9 +17,12 @@ changed, nor of edits the crate's, the least of the two counts, since what else 
 wasn't proved anew keeps its own.
 
 Beside each stands its budget, from the table that people keep between two other marks. A table of runs from nothing, between two marks too,
-gets a row for so many processors in place of the one that it had, as the clock told it; rows of other numbers stay. Nothing is written
-where something isn't proved or a test fails. The commit has to be clean, so that the figures are those of a commit.
+gets a row for so many processors in place of the one that it had, as the clock told it and at the yardstick's pace; rows of other numbers
+stay. From the figures it is reckoned how long a run takes on two and on four processors at that pace, as rt hands out its checks; so it is
+for the run itself, where it was from nothing, so that one sees how far such a figure holds. Nothing is written where something isn't proved
+or a test fails. The commit has to be clean, so that the figures are those of a commit.
 """
+import heapq
 import os
 import platform
 import re
@@ -39,6 +42,7 @@ RUNS, RUNS_END = "<!-- runs: written by bench/gate.py -->", "<!-- end of the run
 KINDS = ("proof", "tests", "edits")
 SOURCES = ("src", "specs", "proofs")
 ALL = "all"
+PROGRAM = "jorazhil"
 # What stands for a figure that no run has given.
 UNKNOWN = "?"
 # The last line of `rt ci`.
@@ -267,13 +271,58 @@ def beside(taken, budget):
     return f"{taken:.0f}{of}{' **over**' if is_over else ''}", is_over
 
 
+def tasks_of(seconds, kinds=KINDS):
+    """The checks of a run as rt hands them out, those of these kinds: for each the ones that it waits for, and its seconds. A crate is proved,
+    and its tests are, once those below it are. So is what several edits begin with, which takes as long as the crate's proof; what is left
+    of the edits' seconds goes to each of them alike, and to the check that ends them. An only edit is a check of all of the crate."""
+    tasks = {}
+    for name, taken in seconds.items():
+        waits, number = [(low, "proof") for low in below(name)[1:] if low in seconds], edits_of(name)
+        tasks[name, "proof"] = waits, taken["proof"]
+        if taken["tests"] and "tests" in kinds:
+            tasks[name, "tests"] = waits, taken["tests"]
+        if not taken["edits"] or "edits" not in kinds:
+            continue
+        both = [one for one in [(name, "proof"), (name, "tests")] if one in tasks]
+        if number > 1:
+            begun = min(taken["proof"], taken["edits"])
+            tasks[name, "seed"] = waits, begun
+            both, each = [*both, (name, "seed")], (taken["edits"] - begun) / (number + 1)
+            tasks[name, "sound"] = [(name, "edits", one) for one in range(number)], each
+        else:
+            each = taken["edits"]
+        for one in range(number):
+            tasks[name, "edits", one] = both, each
+    return tasks
+
+
+def reckoned(tasks, processors):
+    """How many seconds these checks take on so many processors, one each, where of those that can begin the one with the longest chain of
+    others behind it does, and edits only where nothing else can."""
+    behind = {}
+
+    def chain(key):
+        if key not in behind:
+            behind[key] = tasks[key][1] + max((chain(other) for other, (waits, _) in tasks.items() if key in waits), default=0)
+        return behind[key]
+
+    left, running, ended, now = sorted(tasks, key=lambda key: (key[1] in ("seed", "edits"), -chain(key))), [], set(), 0.0
+    while left or running:
+        for key in [key for key in left if all(one in ended for one in tasks[key][0])][: processors - len(running)]:
+            left.remove(key)
+            heapq.heappush(running, (now + tasks[key][1], key))
+        now, key = heapq.heappop(running)
+        ended.add(key)
+    return now
+
+
 def prose(text):
     """The text in lines that aren't too long for the page."""
     return textwrap.wrap(text, 140, break_long_words=False, break_on_hyphens=False)
 
 
-def table(figures, budgets, whole, slow):
-    """The lines of the figures, and how many of them are over. The machine of the last run was so slow."""
+def table(figures, budgets, whole, slow, of_run):
+    """The lines of the figures, and how many of them are over. The machine of the last run was so slow, of which `of_run` tells more."""
     lines, over = ["| Crate | Its proof | Its tests' proof | Must-fail edits | Their proofs | Commit |", "|---|---|---|---|---|---|"], 0
     for name, (taken, commit) in figures.items():
         row = {}
@@ -287,20 +336,34 @@ def table(figures, budgets, whole, slow):
     over += more
     unknown = [name for name, (taken, _) in figures.items() if None in taken.values()]
     lacking, gone = [name for name in figures if name not in budgets], [name for name in budgets if name not in figures]
-    say = [f"The machine of this run was {slow:.2f} times as slow as the yardstick's, by which the seconds of the run are divided."]
+    say = [f"The machine of this run was {slow:.2f} times as slow as the yardstick's, by which the seconds of the run are divided.", *of_run]
     say += [f"Seconds of all provers together: {together}."]
     say += [f"**Over their budgets: {over}.**" if over else "None is over its budget." if lacking or unknown else "All are within their budgets."]
     say += [f"Not all known: {', '.join(f'`{name}`' for name in unknown)}."] * bool(unknown)
     say += [f"Without a budget: {', '.join(f'`{name}`' for name in lacking)}."] * bool(lacking)
     say += [f"In the budget, and no crate: {', '.join(f'`{name}`' for name in gone)}."] * bool(gone)
-    return [*lines, "", *prose(" ".join(say))], over
+    lines += ["", *prose(" ".join(say))]
+    if not unknown:
+        seconds = {name: taken for name, (taken, _) in figures.items()}
+        two, four = (reckoned(tasks_of(seconds), processors) for processors in (2, 4))
+        proofs = tasks_of({name: seconds[name] for name in below(PROGRAM) if name in seconds}, ("proof",))
+        say = [
+            f"Reckoned from these figures, at the yardstick's pace: such a run takes **{two / 60:.0f} minutes on two processors** and "
+            f"**{four / 60:.0f} on four**, and the proofs of the program alone, by which the first command builds it, take "
+            f"**{reckoned(proofs, 4) / 60:.0f} on four**, with one job each."
+        ]
+        lines += ["", *prose(" ".join(say))]
+    return lines, over
 
 
 def runs_with(text, processors, row):
     """The lines of the table of runs with this row for so many processors."""
     rows = {int(line.split("|")[1]): line.strip() for line in text.splitlines() if re.match(r"\| *\d+ *\|", line)}
     rows[processors] = row
-    head = ["| Processors | Minutes | Minutes that they worked | Seconds of all provers | Memory at most | Commit | Kit |", "|---|---|---|---|---|---|---|"]
+    head = [
+        "| Processors | Minutes | At the yardstick's pace | Minutes that they worked | Seconds of all provers | Memory at most | Commit | Kit |",
+        "|---|---|---|---|---|---|---|---|",
+    ]
     return [*head, *(rows[number] for number in sorted(rows))]
 
 
@@ -351,22 +414,35 @@ def measured(processors, words, is_anew, old, budgets, whole, yardstick):
     and the run's status. `old` has the figures of the page."""
     watch, took, worked, last, status = watched(processors, words)
     sums, commit = watch.sums(), told(["git", "rev-parse", "--short", "HEAD"])
+    # As the clock told them, for whoever wants to divide them otherwise.
+    for name, taken in sums.items():
+        print(f"gate: {name} took {', '.join(f'{seconds:.1f} s for {kind}' for kind, seconds in taken.items() if seconds)}")
     slow = slowness_by_page(sums, old, KINDS, 1 / 3) if is_anew else None
     # A run that keeps what was proved tries some of a crate's edits alone.
     slow = slow or slowness(sums, yardstick) or slowness_by_page(sums, old, ("proof", "tests"), 0)
     if slow is None and yardstick:
         slow = slowness(watched(processors, ["rt", "ci", "--anew", next(iter(yardstick))])[0].sums(), yardstick)
     slow = slow or 1.0
-    lines, over = table(joined(crates(), sums, slow, old, commit), budgets, whole, slow)
+    together = sum(sum(taken.values()) for taken in sums.values())
+    of_run = []
+    if is_anew:
+        alone = {name: {kind: seconds / slow for kind, seconds in sums.get(name, dict.fromkeys(KINDS, 0.0)).items()} for name in crates()}
+        by_table = slowness(sums, yardstick)
+        of_run += [f"By the table of the yardstick alone it would be {by_table:.2f}."] * (by_table is not None)
+        of_run += [
+            f"This run by itself, so divided, took {together / slow:.0f} seconds of all provers and {took / slow / 60:.0f} minutes; reckoned as "
+            f"below it is {reckoned(tasks_of(alone), processors) / 60:.0f} minutes."
+        ]
+    lines, over = table(joined(crates(), sums, slow, old, commit), budgets, whole, slow, of_run)
     head = (
         f"`bench/gate.py` ran `{' '.join(words)}` of `{told(['rt', 'version'])}` at commit {commit} on {processors} processors "
         f"({processor()}): **{took / 60:.0f} minutes**, in which they worked {worked / 60:.0f} minutes together; all provers at once held "
         f"{watch.most / 2**30:.1f} GB at most. It said: {last.removeprefix('rt: ')}"
     )
-    together = sum(sum(taken.values()) for taken in sums.values())
     kit = told(["rt", "version"]).split()[0]
     row = (
-        f"| {processors} | {took / 60:.0f} | {worked / 60:.0f} | {together:.0f} | {watch.most / 2**30:.1f} GB | {commit} | `{kit}` |"
+        f"| {processors} | {took / 60:.0f} | {took / slow / 60:.0f} | {worked / 60:.0f} | {together:.0f} | {watch.most / 2**30:.1f} GB | "
+        f"{commit} | `{kit}` |"
     )
     say = (
         "Seconds of one processor, divided by how many times slower the machine was than the yardstick's, and of how many by the budget: the "
