@@ -2,7 +2,9 @@
 """Runs the script `jorazhil` in a copy that isn't built, and looks that it answers help and words at fault by itself: checks/script.py.
 
 Beside it a stand-in for `rt` is on the PATH, which notes each of its calls and fails. Each run's exit status is compared with what is
-written here, and both of its texts. Where PROGRAM is given, the forms that the script tells are compared with the program's own.
+written here, and both of its texts. Then another stand-in keeps proofs, as `rt help` says, and lets `rt ci` pass or fail, so that it is
+seen what a first build is made of and what becomes of it. Where PROGRAM is given, the forms that the script tells are compared with the
+program's own.
 The last line is 'N passed, N failed'.
 """
 import os
@@ -78,23 +80,53 @@ def differs(words, status, out, error, run):
     return None
 
 
+# Stand-ins for `rt`, by what they do once a call is noted.
+FAILING = "exit 1\n"
+# `rt ci` has a program built that tells its words, and notes what lies in the folder where it works.
+PASSING = """case $1 in
+  help) echo 'usage: rt ci [--anew]' ;;
+  version) echo a-kit ;;
+  ci)
+    ls . crates crates/jorazhil >"$NOTES"
+    mkdir crates/jorazhil/out
+    printf '#!/bin/sh\\necho ran "$@"\\n' >crates/jorazhil/out/jorazhil
+    chmod +x crates/jorazhil/out/jorazhil
+    echo 'rt: lk_base is kept: an earlier run on this machine proved the same files over the same libraries'
+    echo '1 passed, 0 failed'
+    ;;
+  *) exit 1 ;;
+esac
+"""
+REFUSING = """case $1 in
+  help) echo 'usage: rt ci [--anew]' ;;
+  ci)
+    echo 'src/main.rt:7:1: error: it is not proved'
+    echo 'rt: jorazhil NOT PROVED'
+    exec sleep 20
+    ;;
+  *) exit 1 ;;
+esac
+"""
+
+
 class Copy:
     """A copy of what the script needs, without a program, and a PATH on which `rt` is a stand-in."""
 
-    def __init__(self, folder):
-        self.calls = os.path.join(folder, "calls")
+    def __init__(self, folder, does=FAILING):
+        self.calls, self.notes = os.path.join(folder, "calls"), os.path.join(folder, "notes")
         self.script = os.path.join(folder, "copy", "jorazhil")
         # The program's folder, in which the script would have it built.
-        os.makedirs(os.path.join(folder, "copy", "crates", "jorazhil"))
+        for name in ("jorazhil/src", "jorazhil/must-fail", "daemon_tests/src"):
+            os.makedirs(os.path.join(folder, "copy", "crates", name))
         shutil.copy(os.path.join(HERE, "jorazhil"), self.script)
-        for name in (".ci", "crates.txt", "docs", "examples"):
+        for name in (".ci", "crates.txt", "HANDLES", "docs", "examples"):
             place = os.path.join(HERE, name)
             (shutil.copytree if os.path.isdir(place) else shutil.copy)(place, os.path.join(folder, "copy", name))
         tools = os.path.join(folder, "tools")
         os.makedirs(tools)
         rt = os.path.join(tools, "rt")
         with open(rt, "w", encoding="utf-8") as file:
-            file.write(f'#!/bin/sh\necho "$@" >>"{self.calls}"\nexit 1\n')
+            file.write(f'#!/bin/sh\nNOTES={self.notes}\necho "$@" >>"{self.calls}"\n{does}')
         os.chmod(rt, os.stat(rt).st_mode | stat.S_IXUSR)
         self.environment = {**os.environ, "PATH": f"{tools}:{os.environ['PATH']}"}
 
@@ -120,13 +152,35 @@ class Copy:
         return run.stderr
 
     def was_asked(self):
-        """Whether `rt` was called since the last question, and with which words."""
+        """With which words `rt` was called since the last question, call by call; nothing where it wasn't."""
         if not os.path.exists(self.calls):
             return None
         with open(self.calls, encoding="utf-8") as file:
-            calls = file.read().split("\n")[0]
+            calls = file.read().splitlines()
         os.remove(self.calls)
         return calls
+
+
+def first_builds(folder):
+    """What isn't as wanted of first builds by a kit that keeps proofs, by what each shows; nothing where all is."""
+    folders = [os.path.join(folder, name) for name in ("passing", "refusing")]
+    for name in folders:
+        os.mkdir(name)
+    copy = Copy(folders[0], PASSING)
+    with open(os.path.join(HERE, "crates.txt"), encoding="utf-8") as file:
+        tests = [line.split(":")[0] for line in file if "_tests:" in line]
+    for number, words in enumerate((["replay"], ["decode", "more"])):
+        run = copy.run(words)
+        why = differs(words, 0, [f"ran {' '.join(words)}\n"], ["it is proved first"] if number == 0 else [], run)
+        asked = copy.was_asked() or []
+        yield f"jorazhil {' '.join(words)}, where rt ci passes", why or (None if ("ci" in asked) == (number == 0) else f"rt was called, with {asked!r}")
+    with open(copy.notes, encoding="utf-8") as file:
+        seen = file.read().split()
+    wrong = [name for name in ("must-fail", "drum_machine", *tests) if name in seen]
+    lacking = [name for name in ("HANDLES", "crates.txt", "lk_base", "src") if name not in seen]
+    yield "the copy that is proved", f"it has {wrong} and lacks {lacking}" if wrong or lacking else None
+    copy = Copy(folders[1], REFUSING)
+    yield "jorazhil replay, where rt ci fails", differs(["replay"], 125, [], ["it could not be built", "src/main.rt:7:1: error"], copy.run(["replay"]))
 
 
 def main():
@@ -149,7 +203,7 @@ def main():
             run = copy.run(words)
             asked = copy.was_asked()
             why = differs(words, status, out, error, run)
-            note(f"jorazhil {' '.join(words)}", why or (asked and f"rt was called, with {asked!r}"))
+            note(f"jorazhil {' '.join(words)}", why or (asked and f"rt was called, with {asked[0]!r}"))
         for words in (["--version"], ["-V"]):
             run = copy.run(words)
             copy.was_asked()
@@ -169,6 +223,8 @@ def main():
                 break
             note(f"jorazhil {' '.join(words)} at a terminal", None if f"{words[0]} reads its input from this terminal" in error else repr(error))
         copy.was_asked()
+        for what, why in first_builds(folder):
+            note(what, why)
         if len(sys.argv) == 2:
             told = [program_told(words) for words in (copy.script, sys.argv[1])]
             note("the forms of the script and of the program", None if told[0] == told[1] else f"{told[0]!r} in place of {told[1]!r}")
