@@ -8,13 +8,12 @@ beside `rt ci` have no part. With four processors and more there is one prover a
 starts, and puts the figures into docs/GATE.md, between its two marks: how long the run took, and for each crate the seconds of one
 processor that its proof, the proof of its tests and its must-fail edits took, with the check that the edits begin with.
 
-They are divided by how slow the machine was. In a run from nothing that is what all took that is as it was when the page's figures of it
-were taken, over these figures, where it is a third of them at least. Else it is what the crates of a table of that page, the yardstick,
-took in the run, over the seconds that the table has for them; none of these crates may have changed since the commit that it names. Where a
-run proves none of them whole, what is as it was stands for them, however little that is, and where there is none of it, the yardstick's
-first is proved after the run. Where the page has figures of a commit since which neither the sources of the crate nor of one below it
-changed, nor of edits the crate's, the least of the two counts, since what else is at work on a machine only adds to it, and a crate that
-wasn't proved anew keeps its own.
+They are divided by how slow the machine was: by what the crates of a table of that page, the yardstick, took in the run, over the seconds
+that the table has for them; none of these crates may have changed since the commit that it names. Where a run proves none of them whole,
+what is as it was when the page's figures of it were taken stands for them, over these figures, and where there is none of it, the
+yardstick's first is proved after the run. Where the page has figures of a commit since which neither the sources of the crate nor of one
+below it changed, nor of edits the crate's, the least of the two counts, since what else is at work on a machine only adds to it, and a
+crate that wasn't proved anew keeps its own.
 
 Beside each stands its budget, from the table that people keep between two other marks. A table of runs from nothing, between two marks too,
 gets a row for so many processors in place of the one that it had, as the clock told it and at the yardstick's pace; rows of other numbers
@@ -187,17 +186,17 @@ def slowness(sums, yardstick):
     return taken / sum(yardstick[name] for name in known) if known else None
 
 
-def slowness_by_page(sums, old, kinds, part):
+def slowness_by_page(sums, old, kinds):
     """The same by what is of these kinds and as it was when the page's figures were taken, which are in the yardstick's seconds. None where
-    it is less than that part of all figures of the page."""
+    nothing is."""
     pairs = [
         (row[kind], old[name][0][kind])
         for name, row in sums.items()
         for kind in kinds
         if row[kind] and name in old and old[name][0].get(kind) and is_same(old[name][1], name, kind)
     ]
-    known, whole = sum(other for _, other in pairs), sum(sum(row.values()) for row, _ in old.values())
-    return sum(one for one, _ in pairs) / known if known and known >= part * whole else None
+    known = sum(other for _, other in pairs)
+    return sum(one for one, _ in pairs) / known if known else None
 
 
 def below(name):
@@ -417,9 +416,9 @@ def measured(processors, words, is_anew, old, budgets, whole, yardstick):
     # As the clock told them, for whoever wants to divide them otherwise.
     for name, taken in sums.items():
         print(f"gate: {name} took {', '.join(f'{seconds:.1f} s for {kind}' for kind, seconds in taken.items() if seconds)}")
-    slow = slowness_by_page(sums, old, KINDS, 1 / 3) if is_anew else None
     # A run that keeps what was proved tries some of a crate's edits alone.
-    slow = slow or slowness(sums, yardstick) or slowness_by_page(sums, old, ("proof", "tests"), 0)
+    by_page = slowness_by_page(sums, old, KINDS if is_anew else ("proof", "tests"))
+    slow = slowness(sums, yardstick) or by_page
     if slow is None and yardstick:
         slow = slowness(watched(processors, ["rt", "ci", "--anew", next(iter(yardstick))])[0].sums(), yardstick)
     slow = slow or 1.0
@@ -427,8 +426,7 @@ def measured(processors, words, is_anew, old, budgets, whole, yardstick):
     of_run = []
     if is_anew:
         alone = {name: {kind: seconds / slow for kind, seconds in sums.get(name, dict.fromkeys(KINDS, 0.0)).items()} for name in crates()}
-        by_table = slowness(sums, yardstick)
-        of_run += [f"By the table of the yardstick alone it would be {by_table:.2f}."] * (by_table is not None)
+        of_run += [f"By the figures that this page had of all that hasn't changed it would be {by_page:.2f}."] * (by_page is not None)
         of_run += [
             f"This run by itself, so divided, took {together / slow:.0f} seconds of all provers and {took / slow / 60:.0f} minutes; reckoned as "
             f"below it is {reckoned(tasks_of(alone), processors) / 60:.0f} minutes."
