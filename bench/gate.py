@@ -271,9 +271,9 @@ def beside(taken, budget):
 
 
 def tasks_of(seconds, kinds=KINDS):
-    """The checks of a run as rt hands them out, those of these kinds: for each the ones that it waits for, and its seconds. A crate is proved,
-    and its tests are, once those below it are. So is what several edits begin with, which takes as long as the crate's proof; what is left
-    of the edits' seconds goes to each of them alike, and to the check that ends them. An only edit is a check of all of the crate."""
+    """The checks of a run as rt hands them out, those of these kinds: for each the ones that it waits for, and its seconds. A crate is
+    proved, and its tests are, once those below it are. So is what several edits begin with, which takes as long as the crate's proof; the
+    other seconds of the edits go to each of them alike, and to the check that ends them. An only edit is a check of all of the crate."""
     tasks = {}
     for name, taken in seconds.items():
         waits, number = [(low, "proof") for low in below(name)[1:] if low in seconds], edits_of(name)
