@@ -44,8 +44,8 @@ ALL = "all"
 PROGRAM = "jorazhil"
 # What stands for a figure that no run has given.
 UNKNOWN = "?"
-# The last line of `rt ci`.
-TOLD = re.compile(r"(rt: )?\d+ passed, (\d+) failed")
+# The last line of `rt ci`, behind which some more stands where it was given names.
+TOLD = re.compile(r"(rt: )?\d+ passed, (\d+) failed( \(.*\))?")
 
 
 class Failed(Exception):
