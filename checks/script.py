@@ -85,6 +85,7 @@ FAILING = "exit 1\n"
 # `rt ci` has a program built that tells its words, and notes what lies in the folder where it works.
 PASSING = """case $1 in
   help) echo 'usage: rt ci [--anew]' ;;
+  doc) echo "$KIT/START-HERE.md" ;;
   version) echo a-kit ;;
   ci)
     ls . crates crates/jorazhil >"$NOTES"
@@ -99,6 +100,7 @@ esac
 """
 REFUSING = """case $1 in
   help) echo 'usage: rt ci [--anew]' ;;
+  doc) echo "$KIT/START-HERE.md" ;;
   ci)
     echo 'src/main.rt:7:1: error: it is not proved'
     echo 'rt: jorazhil NOT PROVED'
@@ -126,7 +128,7 @@ class Copy:
         os.makedirs(tools)
         rt = os.path.join(tools, "rt")
         with open(rt, "w", encoding="utf-8") as file:
-            file.write(f'#!/bin/sh\nNOTES={self.notes}\necho "$@" >>"{self.calls}"\n{does}')
+            file.write(f'#!/bin/sh\nKIT={tools} NOTES={self.notes}\necho "$@" >>"{self.calls}"\n{does}')
         os.chmod(rt, os.stat(rt).st_mode | stat.S_IXUSR)
         self.environment = {**os.environ, "PATH": f"{tools}:{os.environ['PATH']}"}
 
@@ -163,7 +165,7 @@ class Copy:
 
 def first_builds(folder):
     """What isn't as wanted of first builds by a kit that keeps proofs, by what each shows; nothing where all is."""
-    folders = [os.path.join(folder, name) for name in ("passing", "refusing")]
+    folders = [os.path.join(folder, name) for name in ("passing", "refusing", "closed")]
     for name in folders:
         os.mkdir(name)
     copy = Copy(folders[0], PASSING)
@@ -181,6 +183,12 @@ def first_builds(folder):
     yield "the copy that is proved", f"it has {wrong} and lacks {lacking}" if wrong or lacking else None
     copy = Copy(folders[1], REFUSING)
     yield "jorazhil replay, where rt ci fails", differs(["replay"], 125, [], ["it could not be built", "src/main.rt:7:1: error"], copy.run(["replay"]))
+    # What is proved can't be kept beside a kit that lies nowhere.
+    copy = Copy(folders[2], PASSING.replace("$KIT", "/nowhere/kit"))
+    copy.run(["replay"])
+    asked = copy.was_asked() or []
+    as_before = "ci" not in asked and any(call.startswith("run ") for call in asked)
+    yield "jorazhil replay, where nothing can be kept", None if as_before else f"rt was called, with {asked!r}"
 
 
 def main():
