@@ -1,12 +1,15 @@
 #!/usr/bin/env python3
-"""What a run of the gate costs: bench/gate.py [PROCESSORS] [--checks] [--kept [CRATE ..]] runs it on so many processors (2 if not given).
+"""What a run of the gate costs: bench/gate.py [PROCESSORS] [--first | --checks | --kept [CRATE ..]] runs it on so many processors (2 if not
+given).
 
 From nothing it is `rt ci --anew` where `rt help` speaks of --anew, and else `rt ci`, which proves all from nothing then; with --kept it is
 `rt ci`, which proves only what no run on this machine has passed, or `rt ci CRATE ..`, which does so for these and those below. With
---checks it is `.ci/run`, where that proves all from nothing too: so one run is the whole gate and has its figures, of which the checks
-beside `rt ci` have no part. With four processors and more there is one prover a processor, as in `.ci/run`. It watches the provers that rt
-starts, and puts the figures into docs/GATE.md, between its two marks: how long the run took, and for each crate the seconds of one
-processor that its proof, the proof of its tests and its must-fail edits took, with the check that the edits begin with.
+--first, where nothing is kept yet, it is from nothing too: the first command of README.md, which proves the program as for a new user, and
+then `rt ci`, which keeps these proofs; so one run has the figures of both. With --checks it is `.ci/run`, where that proves all from
+nothing: so one run is the whole gate and has its figures, of which the checks beside `rt ci` have no part. There is one prover a processor,
+as in `.ci/run`. It watches the provers that rt starts, and puts the figures into docs/GATE.md, between its two marks: how long the run
+took, and for each crate the seconds of one processor that its proof, the proof of its tests and its must-fail edits took, with the check
+that the edits begin with.
 
 They are divided by how slow the machine was: by what the crates of a table of that page, the yardstick, took in the run, over the seconds
 that the table has for them; none of these crates may have changed since the commit that it names. Where a run proves none of them whole,
@@ -46,6 +49,9 @@ PROGRAM = "jorazhil"
 UNKNOWN = "?"
 # The last line of `rt ci`, behind which some more stands where it was given names.
 TOLD = re.compile(r"(rt: )?\d+ passed, (\d+) failed( \(.*\))?")
+# The first command, without the jobs that the gate asks for, a line that tells of its end, and the gate.
+FIRST_TOLD = "gate: the program is built"
+FIRST = f"env -u RT_JOBS ./jorazhil replay < examples/one-alive.script && echo '{FIRST_TOLD}' && rt ci"
 
 
 class Failed(Exception):
@@ -360,8 +366,9 @@ def runs_with(text, processors, row):
     rows = {int(line.split("|")[1]): line.strip() for line in text.splitlines() if re.match(r"\| *\d+ *\|", line)}
     rows[processors] = row
     head = [
-        "| Processors | Minutes | At the yardstick's pace | Minutes that they worked | Seconds of all provers | Memory at most | Commit | Kit |",
-        "|---|---|---|---|---|---|---|---|",
+        "| Processors | Minutes | At the yardstick's pace | The first command | Minutes that they worked | Seconds of all provers | "
+        "Memory at most | Commit | Kit |",
+        "|---|---|---|---|---|---|---|---|---|",
     ]
     return [*head, *(rows[number] for number in sorted(rows))]
 
@@ -378,13 +385,13 @@ def worked_by(pid):
 
 
 def watched(processors, words):
-    """Runs rt, or what runs it, on so many processors, and returns what watched it, how long rt took, what it worked, the last line that it
-    wrote, and the status of all."""
-    began, took, worked, last = time.monotonic(), 0.0, 0.0, ""
+    """Runs rt, or what runs it, on so many processors, and returns what watched it, how long rt took, and of that the first command, what
+    it worked, the last line that it wrote, and the status of all."""
+    began, took, first, worked, last = time.monotonic(), 0.0, 0.0, 0.0, ""
     run = subprocess.Popen(
         ["taskset", "-c", f"0-{processors - 1}", *words],
         cwd=HERE,
-        env=os.environ if processors < 4 else {**os.environ, "RT_JOBS": str(processors)},
+        env={**os.environ, "RT_JOBS": str(processors)},
         stdout=subprocess.PIPE,
         stderr=subprocess.STDOUT,
         text=True,
@@ -394,6 +401,8 @@ def watched(processors, words):
     for line in run.stdout:
         sys.stdout.write(line)
         sys.stdout.flush()
+        if line.strip() == FIRST_TOLD:
+            first = time.monotonic() - began
         # The checks behind rt ci end with such a line too.
         if not last and TOLD.fullmatch(line.strip()):
             took, last = time.monotonic() - began, line.strip()
@@ -403,16 +412,19 @@ def watched(processors, words):
     status = run.wait()
     watch.over.set()
     watch.join()
-    if not last or TOLD.fullmatch(last)[2] != "0" or status and words[0] == "rt":
+    if not last or TOLD.fullmatch(last)[2] != "0" or status and words[0] != ".ci/run":
         raise Failed(f"{' '.join(words)} ended with status {status}: {last or 'it did not come to its end'}")
-    return watch, took, worked, last, status
+    return watch, took, first, worked, last, status
 
 
 def measured(processors, words, is_anew, old, budgets, whole, yardstick):
     """Runs the gate by these words, and returns the lines of its figures, its row among the runs, how many figures are over their budgets,
     and the run's status. `old` has the figures of the page."""
-    watch, took, worked, last, status = watched(processors, words)
+    watch, took, first, worked, last, status = watched(processors, words)
     sums, commit = watch.sums(), told(["git", "rev-parse", "--short", "HEAD"])
+    kept = [name for name in crates() for kind in KINDS if first and has_kind(name, kind) and not sums.get(name, {}).get(kind)]
+    if kept:
+        raise Failed(f"this wasn't from nothing, since what a run on this machine had passed was kept: {', '.join(dict.fromkeys(kept))}")
     # As the clock told them, for whoever wants to divide them otherwise.
     for name, taken in sums.items():
         print(f"gate: {name} took {', '.join(f'{seconds:.1f} s for {kind}' for kind, seconds in taken.items() if seconds)}")
@@ -432,15 +444,19 @@ def measured(processors, words, is_anew, old, budgets, whole, yardstick):
             f"below it is {reckoned(tasks_of(alone), processors) / 60:.0f} minutes."
         ]
     lines, over = table(joined(crates(), sums, slow, old, commit), budgets, whole, slow, of_run)
+    ran = f"the first command and then `{words[-1].split(' && ')[-1]}`" if first else f"`{' '.join(words)}`"
     head = (
-        f"`bench/gate.py` ran `{' '.join(words)}` of `{told(['rt', 'version'])}` at commit {commit} on {processors} processors "
+        f"`bench/gate.py` ran {ran} of `{told(['rt', 'version'])}` at commit {commit} on {processors} processors "
         f"({processor()}): **{took / 60:.0f} minutes**, in which they worked {worked / 60:.0f} minutes together; all provers at once held "
         f"{watch.most / 2**30:.1f} GB at most. It said: {last.removeprefix('rt: ')}"
     )
+    if first:
+        of_run += [f"The first command took **{first / 60:.0f} of these minutes**, at the yardstick's pace {first / slow / 60:.0f}."]
     kit = told(["rt", "version"]).split()[0]
+    of_first = f"{first / 60:.0f}, at that pace {first / slow / 60:.0f}" if first else ""
     row = (
-        f"| {processors} | {took / 60:.0f} | {took / slow / 60:.0f} | {worked / 60:.0f} | {together:.0f} | {watch.most / 2**30:.1f} GB | "
-        f"{commit} | `{kit}` |"
+        f"| {processors} | {took / 60:.0f} | {took / slow / 60:.0f} | {of_first} | {worked / 60:.0f} | {together:.0f} | "
+        f"{watch.most / 2**30:.1f} GB | {commit} | `{kit}` |"
     )
     say = (
         "Seconds of one processor, divided by how many times slower the machine was than the yardstick's, and of how many by the budget: the "
@@ -450,18 +466,23 @@ def measured(processors, words, is_anew, old, budgets, whole, yardstick):
 
 
 def main():
-    is_anew, has_checks = "--kept" not in sys.argv[1:], "--checks" in sys.argv[1:]
+    kinds = [word for word in sys.argv[1:] if word in ("--first", "--checks", "--kept")]
+    is_anew, has_checks, is_first = "--kept" not in kinds, "--checks" in kinds, "--first" in kinds
     some = [word for word in sys.argv[1:] if word in crates()]
-    numbers = [word for word in sys.argv[1:] if word not in ("--kept", "--checks", *some)]
-    if len(numbers) > 1 or not all(word.isdigit() and int(word) > 0 for word in numbers) or some and is_anew or has_checks and not is_anew:
-        usage = "usage: bench/gate.py [PROCESSORS] [--checks | --kept [CRATE ..]], where PROCESSORS is a number from 1 on"
+    numbers = [word for word in sys.argv[1:] if word not in (*kinds, *some)]
+    if len(numbers) > 1 or not all(word.isdigit() and int(word) > 0 for word in numbers) or some and is_anew or len(kinds) > 1:
+        usage = "usage: bench/gate.py [PROCESSORS] [--first | --checks | --kept [CRATE ..]], where PROCESSORS is a number from 1 on"
         print(usage, file=sys.stderr)
         return 2
     processors = int(numbers[0]) if numbers else 2
     try:
         if has_checks and keeps_proofs():
             raise Failed("this rt keeps what it has proved, so .ci/run does not prove all from nothing: leave --checks out")
-        words = [".ci/run"] if has_checks else ["rt", "ci", *["--anew"] * (is_anew and keeps_proofs()), *some]
+        if is_first and not keeps_proofs():
+            raise Failed("this rt keeps nothing, so rt ci would prove anew what the first command has proved: leave --first out")
+        words = ["rt", "ci", *["--anew"] * (is_anew and keeps_proofs()), *some]
+        if has_checks or is_first:
+            words = [".ci/run"] if has_checks else ["bash", "-c", FIRST]
         if told(["git", "status", "--porcelain"]):
             raise Failed("the checkout has changes that are in no commit: commit them first")
         with open(PAGE, encoding="utf-8") as file:

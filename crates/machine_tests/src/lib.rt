@@ -1,4 +1,5 @@
-//! The tests of `link_node`, `link_world` and `link_text`, over their public calls.
+//! The tests of the machine, `link_node`, of a world of machines, of their texts, and of the crates that these stand on, over their public
+//! calls.
 #![tactic(auto)]
 
 #[cfg(test)]

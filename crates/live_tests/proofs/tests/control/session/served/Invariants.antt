@@ -1,0 +1,13 @@
+use Rattle.live_tests.proofs.tests.control.session.served.Given as goal
+
+abbrev pub ghosts-served_over-N-LinkName : goal.ghosts-served_over-N-LinkName
+ghosts-served_over-N-LinkName g a = record {
+  app_states = a.parts.app_states;
+  audio_states = a.parts.audio_states;
+  audio_commits = a.parts.audio_commits;
+  queue = a.parts.queue;
+  whole = a.parts.shares;
+}
+
+abbrev pub ghosts-served_over-N-Ledger : goal.ghosts-served_over-N-Ledger
+ghosts-served_over-N-Ledger g a = record { name = a.parts.ledger; parts = a.parts.shares }
