@@ -111,13 +111,13 @@ fn run_head<P: Port + Send, L: Talk + Send, T: Pace + Send, K: Sink, R: Threads 
 {
     let now = pace.until(0);
     let config = config_of(seed, *options, head);
-    let Ok(parts) = Parts::<Triple<11>>::new(rt, alloc, &(), &config, now, options.events) else {
+    let Ok(mut outlet) = Outlet::new(alloc) else {
         return Status::Memory;
     };
     let Ok(room) = make_room(alloc, log) else {
         return Status::Memory;
     };
-    let Ok(mut outlet) = Outlet::new(alloc) else {
+    let Ok(parts) = Parts::<Triple<11>>::new(rt, alloc, &(), &config, now, options.events) else {
         return Status::Memory;
     };
     let run = control_run::<Brand, P, L, T, R>(
@@ -150,9 +150,8 @@ fn make_room(alloc: Global, log: &mut SessionLog) -> Result<ControlRoom, AllocEr
     ensures ready { IfOk result (λ room. IsReady room log.new) }
     ensures stays { log.new.lines.items ≡ log.old.lines.items }
 {
-    let room = ControlRoom::new(alloc)?;
     log.reserve()?;
-    Ok(room)
+    ControlRoom::new(alloc)
 }
 
 // Tells of this run of a node that was opened so, in place of what was told before: there was no audio thread. Memory: none.

@@ -120,14 +120,24 @@ fn no_endpoint<'a>(matches: &Result<ArgMatches<'a>, Error>) -> Option<&'a str> {
     Some(word)
 }
 
-// What is told behind a command whose words clap reads: what clap finds wrong with them, and what the command takes. Where they ask for
-// help, what it does stands in place of the fault.
+// What is told behind a command whose words clap reads.
 fn command_usage(
     alloc: Global,
     about: &str,
     rest: &[String],
     mut command: Command<'_>,
     matches: Result<ArgMatches<'_>, Error>,
+) -> Result<String, AllocError> {
+    fault_and_help(alloc, about, rest, &mut command, &matches)
+}
+
+// What clap finds wrong with the words, and what the command takes. Where they ask for help, what it does stands in place of the fault.
+fn fault_and_help(
+    alloc: Global,
+    about: &str,
+    rest: &[String],
+    command: &mut Command<'_>,
+    matches: &Result<ArgMatches<'_>, Error>,
 ) -> Result<String, AllocError> {
     let help = command.render_help()?;
     let forms = help.as_str().trim_end();

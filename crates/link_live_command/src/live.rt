@@ -106,15 +106,15 @@ fn run_script<P: Port + Send, A: Audio + Send, T: Pace + Send, K: Sink, R: Threa
 {
     let now = pace.until(0);
     let config = config_of(seed, *options, &mut script);
-    let Ok(parts) = Parts::<Triple<11>>::new(rt, alloc, &(), &config, now, options.events) else {
-        return Status::Memory;
-    };
     // A law, for the proof: there can be room for what the script says.
     scripts_have_commands();
+    let Ok(mut outlet) = Outlet::new(alloc) else {
+        return Status::Memory;
+    };
     let Ok(room) = Room::new(alloc, &script, options.blocks) else {
         return Status::Memory;
     };
-    let Ok(mut outlet) = Outlet::new(alloc) else {
+    let Ok(parts) = Parts::<Triple<11>>::new(rt, alloc, &(), &config, now, options.events) else {
         return Status::Memory;
     };
     let run = live_run::<Brand, P, A, T, R>(

@@ -76,41 +76,38 @@ pub fn control_matches<'a>(alloc: Global, words: &'a [String]) -> Result<ArgMatc
 pub fn control_command<'a>(alloc: Global) -> Result<Command<'a>, AllocError>
     ensures { IfOk result IsControlCommand }
 {
-    let endpoint = text(
-        alloc,
-        "ENDPOINT",
-        "where the client connects, as 127.0.0.1:20900",
-    );
-    let events = option(
-        alloc,
-        "events",
-        "262144",
-        "how many events the journal takes, from 1 to 524288",
-        value_parser!(u64).range(1..=524_288),
-    );
-    let quantum = option(
-        alloc,
-        "quantum",
-        "4000000",
-        "the length in microbeats that beats are counted in at first, from 0, which is none, to 1099511627776",
-        value_parser!(u64).range(0..=1_099_511_627_776),
-    );
-    let group = option(
-        alloc,
-        "group",
-        "0",
-        "the group of the nodes that hear each other, from 0, which all Link programs are in, to 65535",
-        value_parser!(u64).range(0..=65_535),
-    );
+    // Each argument is made where it is taken, so that none has to be given back where one before it fails.
     Command::new(alloc, "control")
         .bin_name("jorazhil control")?
         .disable_help_flag(true)
         .disable_version_flag(true)
         .override_usage("jorazhil control [OPTIONS] <ENDPOINT> < SCRIPT")
-        .arg(endpoint)?
-        .arg(events)?
-        .arg(quantum)?
-        .arg(group)
+        .arg(text(
+            alloc,
+            "ENDPOINT",
+            "where the client connects, as 127.0.0.1:20900",
+        ))?
+        .arg(option(
+            alloc,
+            "events",
+            "262144",
+            "how many events the journal takes, from 1 to 524288",
+            value_parser!(u64).range(1..=524_288),
+        ))?
+        .arg(option(
+            alloc,
+            "quantum",
+            "4000000",
+            "the length in microbeats that beats are counted in at first, from 0, which is none, to 1099511627776",
+            value_parser!(u64).range(0..=1_099_511_627_776),
+        ))?
+        .arg(option(
+            alloc,
+            "group",
+            "0",
+            "the group of the nodes that hear each other, from 0, which all Link programs are in, to 65535",
+            value_parser!(u64).range(0..=65_535),
+        ))
 }
 
 // A value that is needed, any text.

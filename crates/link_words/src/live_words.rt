@@ -74,42 +74,39 @@ pub fn live_matches<'a>(alloc: Global, words: &'a [String]) -> Result<ArgMatches
 pub fn live_command<'a>(alloc: Global) -> Result<Command<'a>, AllocError>
     ensures { IfOk result IsLiveCommand }
 {
-    let events = option(
-        alloc,
-        "events",
-        "262144",
-        "how many events the journal takes, from 1 to 524288",
-        value_parser!(u64).range(1..=524_288),
-    );
-    let blocks = option(
-        alloc,
-        "blocks",
-        "262144",
-        "how many blocks of 20 milliseconds are played at most, from 0 to 524288",
-        value_parser!(u64).range(0..=524_288),
-    );
-    let quantum = option(
-        alloc,
-        "quantum",
-        "4000000",
-        "the length in microbeats that accents and phases are counted in at first, from 0, which is none, to 1099511627776",
-        value_parser!(u64).range(0..=1_099_511_627_776),
-    );
-    let group = option(
-        alloc,
-        "group",
-        "0",
-        "the group of the nodes that hear each other, from 0, which all Link programs are in, to 65535",
-        value_parser!(u64).range(0..=65_535),
-    );
+    // Each argument is made where it is taken, so that none has to be given back where one before it fails.
     Command::new(alloc, "live")
         .bin_name("jorazhil live")?
         .disable_help_flag(true)
         .disable_version_flag(true)
         .override_usage("jorazhil live [OPTIONS] < SCRIPT")
-        .arg(events)?
-        .arg(blocks)?
-        .arg(quantum)?
-        .arg(group)?
+        .arg(option(
+            alloc,
+            "events",
+            "262144",
+            "how many events the journal takes, from 1 to 524288",
+            value_parser!(u64).range(1..=524_288),
+        ))?
+        .arg(option(
+            alloc,
+            "blocks",
+            "262144",
+            "how many blocks of 20 milliseconds are played at most, from 0 to 524288",
+            value_parser!(u64).range(0..=524_288),
+        ))?
+        .arg(option(
+            alloc,
+            "quantum",
+            "4000000",
+            "the length in microbeats that accents and phases are counted in at first, from 0, which is none, to 1099511627776",
+            value_parser!(u64).range(0..=1_099_511_627_776),
+        ))?
+        .arg(option(
+            alloc,
+            "group",
+            "0",
+            "the group of the nodes that hear each other, from 0, which all Link programs are in, to 65535",
+            value_parser!(u64).range(0..=65_535),
+        ))?
         .arg(flag(alloc, "record", "also writes the run's replay script"))
 }

@@ -20,10 +20,10 @@ pub returns : goal.returns
 returns g c =
     let stored : to_z w64 (of_z w64 c.until-now.result) ≡ c.until-now.result = to_z-of_z w64 _ (moment_fits _ c.until-now.ensures.answer.range) in
     let kept = c.keep_run.ensures ∙ ap (λ (n : ℤ). told_of (config_value c.config_of-config.result) n c.control_run-run.result) stored in
-    let given = c.in-Ok.ensures.given in
+    let given = c.in-Ok-new.ensures.given in
     record {
-      ends = run_of_head c.args.seed c.args.options.now c.args.head (config_value c.config_of-config.result) c.in-Ok.parts.config
-          c.until-now.result c.in-Ok.parts.opened_at c.in-Ok.parts.most _ _ _ _ _ _ _ _ _ _ _ _ _ c.control_run-run.result c.is_ok.result _
+      ends = run_of_head c.args.seed c.args.options.now c.args.head (config_value c.config_of-config.result) c.in-Ok-new.parts.config
+          c.until-now.result c.in-Ok-new.parts.opened_at c.in-Ok-new.parts.most _ _ _ _ _ _ _ _ _ _ _ _ _ c.control_run-run.result c.is_ok.result _
           c.config_of-config.ensures (given.0, given.1 ∙ stored, given.2) c.until-now.ensures.late c.control_run-run.ensures.ends kept
           (wrote_whole c.write_report-written.result c.is_ok.result _ _ _ c.is_ok.ensures.value c.write_report-written.ensures.whole c.write_report-written.ensures.quiet)
           (wrote_part c.write_report-written.result c.is_ok.result _ _ _ c.is_ok.ensures.value c.write_report-written.ensures.part c.write_report-written.ensures.cause)

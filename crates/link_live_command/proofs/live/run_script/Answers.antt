@@ -36,16 +36,16 @@ pub returns : goal.returns
 returns g c =
     let stored : to_z w64 (of_z w64 c.until-now.result) ≡ c.until-now.result = to_z-of_z w64 _ (moment_fits _ c.until-now.ensures.answer.range) in
     let kept = c.keep.ensures ∙ ap (λ (n : ℤ). told_of (config_value c.config_of-config.result) n c.live_run-run.result) stored in
-    let given = c.in-Ok.ensures.given in
+    let given = c.in-Ok-new-2.ensures.given in
     record {
-      ends = run_of_script c.args.seed c.args.options.now c.args.script c.config_of-config.new.script (config_value c.config_of-config.result) c.in-Ok.parts.config
-          c.until-now.result c.in-Ok.parts.opened_at c.in-Ok.parts.most _ _ _ _ _ _ _ _ _ _ _ c.live_run-run.result c.is_ok.result _
+      ends = run_of_script c.args.seed c.args.options.now c.args.script c.config_of-config.new.script (config_value c.config_of-config.result) c.in-Ok-new-2.parts.config
+          c.until-now.result c.in-Ok-new-2.parts.opened_at c.in-Ok-new-2.parts.most _ _ _ _ _ _ _ _ _ _ _ c.live_run-run.result c.is_ok.result _
           c.config_of-config.ensures.config c.config_of-config.ensures.apps c.config_of-config.ensures.blocks (given.0, given.1 ∙ stored, given.2)
           c.until-now.ensures.late c.live_run-run.ensures.ends kept
           (wrote_whole c.write_report-written.result c.is_ok.result _ _ _ c.is_ok.ensures.value c.write_report-written.ensures.whole c.write_report-written.ensures.quiet)
           (wrote_part c.write_report-written.result c.is_ok.result _ _ _ c.is_ok.ensures.value c.write_report-written.ensures.part c.write_report-written.ensures.cause)
           (let say = c.are_sayable.ensures in
-          replays c.written_scripts_are_read.ensures c.requires.script.0 c.args.seed c.args.options.now c.args.script (config_value c.config_of-config.result) c.in-Ok.parts.config
+          replays c.written_scripts_are_read.ensures c.requires.script.0 c.args.seed c.args.options.now c.args.script (config_value c.config_of-config.result) c.in-Ok-new-2.parts.config
           c.until-now.result c.live_run-run.result (report_value c.keep.new.self)
           c.requires.script.2 c.config_of-config.ensures.config c.ranges.seed.fits c.config_of-config.ensures.visible
           c.config_of-config.ensures.group c.requires.options.3 c.until-now.ensures.answer.range given.0
