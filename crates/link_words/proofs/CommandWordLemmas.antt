@@ -1,7 +1,7 @@
 -- What clap read of the words of a command.
 use Rattle.std.proofs.Common.{◌≡◌, ◌<◌, ◌≤◌, ◌∙◌, ◌-◌, ◌^◌, ◌++◌, ◌∷◌, ◌||◌, ℕ, ℤ, pos, Bool, true, false, true≢false, List, [], length, Option, Some, map, get_or, sym, ap, ap₂, subst, nat_cmp, w64, inl, inr, arith}
 use Rattle.std.specs.Int.{saturate_unsigned}
-use Rattle.std.specs.Ordering.{ord_max}
+use Rattle.std.specs.Ordering.{ord_max, ord_min}
 use Rattle.std.specs.Borrow.{Bor}
 use Rattle.std.specs.List.{All, IsDistinct, slice_index_or}
 use Rattle.std.specs.Str.{bytes_eq}
@@ -26,7 +26,7 @@ use Rattle.clap.specs.declared.parser.matches.ArgMatches.{ArgMatches}
 use Rattle.clap.specs.declared.builder.command.Command.TheOpen.{Command-F}
 use Rattle.clap.proofs.CallerLemmas.{added_plain}
 use Rattle.clap.proofs.WalkLemmas.{one_text-rows}
-use Rattle.link_words.specs.CommandWords.{IsNumberIn, Says, bare_app}
+use Rattle.link_words.specs.CommandWords.{IsBare, IsNumberIn, Says, bare_app}
 
 -- ---- what is read
 
@@ -82,13 +82,6 @@ only_one xs distinct k a low at j e below same = elim (cases_lt j k) [
 ]
 
 -- ---- the command before its arguments
-
-pub record IsBare (name : List ℕ) (c : Command) : Type 0 where
-  pub app : app_of c ≡ bare_app name
-  pub none : args_of c ≡ []
-  pub groups : groups_of c ≡ []
-  pub local : (out-Command c).has_globals ≡ false
-  pub negates : (out-Command c).subcommand_negates_reqs ≡ false
 
 pub bare_command : (name : List ℕ) (new worded helpless end : Command)
     → app_of new ≡ new_app name → args_of new ≡ [] → groups_of new ≡ [] → (out-Command new).has_globals ≡ false → (out-Command new).subcommand_negates_reqs ≡ false
@@ -153,3 +146,11 @@ pub narrowed : (whole r : ValueParser) (from to : ℤ) (least most : ℕ) → wh
 narrowed whole r from to least most is made start end =
     subst (λ (p : ValueParser). NarrowsTo p (Some from) (Some to) r) is made
     ∙ ap₂ (λ (low high : ℤ). unsigned_up_to (ord_max nat_cmp 0 (saturate_unsigned w64 low)) (2 ^ 64 - 1) (Some high)) start end
+
+-- the type has all of it
+pub all_of_range : (least most : ℕ) → least < 2 ^ 64 → most < 2 ^ 64
+    → unsigned_up_to (ord_max nat_cmp 0 (saturate_unsigned w64 (pos least))) (2 ^ 64 - 1) (Some (pos most)) ≡ Unsigned least most
+all_of_range least most low high =
+    let first : ord_max nat_cmp 0 (saturate_unsigned w64 (pos least)) ≡ least = grind (arith, low) in
+    let last : ord_min nat_cmp (2 ^ 64 - 1) most ≡ most = grind (arith, high) in
+    ap₂ Unsigned first last

@@ -6,10 +6,10 @@ use Rattle.clap.specs.Built.{AddsArg}
 use Rattle.clap.specs.declared.builder.arg.Arg.{Arg}
 use Rattle.clap.specs.declared.builder.command.Command.{Command}
 use Rattle.clap.specs.declared.parser.matches.ArgMatches.{ArgMatches}
-use Rattle.link_words.specs.CommandWords.{HasNumber}
+use Rattle.link_words.specs.CommandWords.{HasNumber, IsBare}
 use Rattle.link_words.specs.LiveCommand.{IsLiveCommand}
 use Rattle.link_words.specs.OptionWords.{IsLocalArg, IsOptionArg, flag_rule, option_rule}
-use Rattle.link_words.proofs.CommandWordLemmas.{IsBare, none_yet, one_more, same_id}
+use Rattle.link_words.proofs.CommandWordLemmas.{none_yet, one_more, same_id}
 use Rattle.link_words.proofs.OptionLemmas.{local_added, option_added, option_read}
 
 module _ (c : Command) (m : ArgMatches) (is : IsLiveCommand c) (p : IsParsedFrom c m) where

@@ -12,10 +12,10 @@ use Rattle.clap.specs.declared.builder.command.Command.TheViews.{out-Command}
 use Rattle.clap.specs.declared.builder.value_parser.ValueParser.TheVariants as parser
 use Rattle.clap.specs.declared.parser.matches.ArgMatches.{ArgMatches}
 use Rattle.clap.proofs.CallerReads.{required_reads}
-use Rattle.link_words.specs.CommandWords.{HasNumber}
+use Rattle.link_words.specs.CommandWords.{HasNumber, IsBare}
 use Rattle.link_words.specs.ValueCommand.{IsNumberArg, IsValuesCommand}
 use Rattle.link_words.specs.ValueWords.{number_rule}
-use Rattle.link_words.proofs.CommandWordLemmas.{IsBare, letter, named, none_yet, one_more, own, same_first}
+use Rattle.link_words.proofs.CommandWordLemmas.{letter, named, none_yet, one_more, own, same_first}
 
 -- ---- the two values
 

@@ -11,11 +11,11 @@ ghost use Rattle.link_words.specs.OptionWords.{IsLocalArg};
 
 use crate::command_line::begins_with;
 use crate::command_name::CommandName;
-use crate::command_words::{WordsFault, number_in};
+use crate::command_words::{WordsFault, bare, number_in};
 use crate::endpoint_words::endpoint_in;
-use crate::option_words::{group_in, microbeats_in, option};
+use crate::option_words::{events, group, group_in, microbeats_in, quantum};
 use clap::error::ErrorKind;
-use clap::{Arg, ArgAction, ArgMatches, Command, Error, value_parser};
+use clap::{Arg, ArgAction, ArgMatches, Command, Error};
 use lk_base::Endpoint;
 use std::alloc::{AllocError, Global};
 
@@ -77,37 +77,19 @@ pub fn control_command<'a>(alloc: Global) -> Result<Command<'a>, AllocError>
     ensures { IfOk result IsControlCommand }
 {
     // Each argument is made where it is taken, so that none has to be given back where one before it fails.
-    Command::new(alloc, "control")
-        .bin_name("jorazhil control")?
-        .disable_help_flag(true)
-        .disable_version_flag(true)
+    bare(alloc, "control", "jorazhil control")?
         .override_usage("jorazhil control [OPTIONS] <ENDPOINT> < SCRIPT")
         .arg(text(
             alloc,
             "ENDPOINT",
             "where the client connects, as 127.0.0.1:20900",
         ))?
-        .arg(option(
+        .arg(events(alloc))?
+        .arg(quantum(
             alloc,
-            "events",
-            "262144",
-            "how many events the journal takes, from 1 to 524288",
-            value_parser!(u64).range(1..=524_288),
-        ))?
-        .arg(option(
-            alloc,
-            "quantum",
-            "4000000",
             "the length in microbeats that beats are counted in at first, from 0, which is none, to 1099511627776",
-            value_parser!(u64).range(0..=1_099_511_627_776),
         ))?
-        .arg(option(
-            alloc,
-            "group",
-            "0",
-            "the group of the nodes that hear each other, from 0, which all Link programs are in, to 65535",
-            value_parser!(u64).range(0..=65_535),
-        ))
+        .arg(group(alloc))
 }
 
 // A value that is needed, any text.

@@ -10,10 +10,10 @@ ghost use Rattle.link_words.specs.LiveWords.{BeginsLive, IsLive, NamesLive, live
 
 use crate::command_line::begins_with;
 use crate::command_name::CommandName;
-use crate::command_words::{WordsFault, number_in};
-use crate::option_words::{flag, flag_in, group_in, microbeats_in, option};
+use crate::command_words::{WordsFault, bare, number_in, within};
+use crate::option_words::{events, flag, flag_in, group, group_in, microbeats_in, option, quantum};
 use clap::error::ErrorKind;
-use clap::{ArgMatches, Command, Error, value_parser};
+use clap::{ArgMatches, Command, Error};
 use std::alloc::{AllocError, Global};
 
 /// How a live run is set up by its words.
@@ -75,38 +75,20 @@ pub fn live_command<'a>(alloc: Global) -> Result<Command<'a>, AllocError>
     ensures { IfOk result IsLiveCommand }
 {
     // Each argument is made where it is taken, so that none has to be given back where one before it fails.
-    Command::new(alloc, "live")
-        .bin_name("jorazhil live")?
-        .disable_help_flag(true)
-        .disable_version_flag(true)
+    bare(alloc, "live", "jorazhil live")?
         .override_usage("jorazhil live [OPTIONS] < SCRIPT")
-        .arg(option(
-            alloc,
-            "events",
-            "262144",
-            "how many events the journal takes, from 1 to 524288",
-            value_parser!(u64).range(1..=524_288),
-        ))?
+        .arg(events(alloc))?
         .arg(option(
             alloc,
             "blocks",
             "262144",
             "how many blocks of 20 milliseconds are played at most, from 0 to 524288",
-            value_parser!(u64).range(0..=524_288),
+            within(0, 524_288),
         ))?
-        .arg(option(
+        .arg(quantum(
             alloc,
-            "quantum",
-            "4000000",
             "the length in microbeats that accents and phases are counted in at first, from 0, which is none, to 1099511627776",
-            value_parser!(u64).range(0..=1_099_511_627_776),
         ))?
-        .arg(option(
-            alloc,
-            "group",
-            "0",
-            "the group of the nodes that hear each other, from 0, which all Link programs are in, to 65535",
-            value_parser!(u64).range(0..=65_535),
-        ))?
+        .arg(group(alloc))?
         .arg(flag(alloc, "record", "also writes the run's replay script"))
 }

@@ -8,7 +8,7 @@ ghost use Rattle.link_words.specs.LoadWords.{BeginsLoad, IsLoad, IsLoadCommand, 
 
 use crate::command_line::begins_with;
 use crate::command_name::CommandName;
-use crate::command_words::{WordsFault, number_in};
+use crate::command_words::{WordsFault, bare, number_in, within};
 use crate::value_words::number;
 use clap::error::ErrorKind;
 use clap::{ArgMatches, Command, Error, value_parser};
@@ -58,22 +58,18 @@ pub fn load_matches<'a>(alloc: Global, words: &'a [String]) -> Result<ArgMatches
 pub fn load_command<'a>(alloc: Global) -> Result<Command<'a>, AllocError>
     ensures { IfOk result IsLoadCommand }
 {
-    let seed = number(
-        alloc,
-        "SEED",
-        "the seed of the events, from 0 to 18446744073709551615",
-        value_parser!(u64),
-    );
-    let count = number(
-        alloc,
-        "COUNT",
-        "how many events, from 1 to 524288",
-        value_parser!(u64).range(1..=524_288),
-    );
-    Command::new(alloc, "load")
-        .bin_name("jorazhil load")?
-        .disable_help_flag(true)
-        .disable_version_flag(true)
-        .arg(seed)?
-        .arg(count)
+    // Each argument is made where it is taken, so that none has to be given back where one before it fails.
+    bare(alloc, "load", "jorazhil load")?
+        .arg(number(
+            alloc,
+            "SEED",
+            "the seed of the events, from 0 to 18446744073709551615",
+            value_parser!(u64),
+        ))?
+        .arg(number(
+            alloc,
+            "COUNT",
+            "how many events, from 1 to 524288",
+            within(1, 524_288),
+        ))
 }

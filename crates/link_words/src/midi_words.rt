@@ -8,10 +8,10 @@ ghost use Rattle.link_words.specs.MidiWords.{BeginsMidi, IsMidi, IsMidiCommand, 
 
 use crate::command_line::begins_with;
 use crate::command_name::CommandName;
-use crate::command_words::{WordsFault, number_in};
+use crate::command_words::{WordsFault, bare, number_in, within};
 use crate::value_words::number;
 use clap::error::ErrorKind;
-use clap::{ArgMatches, Command, Error, value_parser};
+use clap::{ArgMatches, Command, Error};
 use std::alloc::{AllocError, Global};
 
 /// Which blocks words ask for.
@@ -61,22 +61,18 @@ pub fn midi_matches<'a>(alloc: Global, words: &'a [String]) -> Result<ArgMatches
 pub fn midi_command<'a>(alloc: Global) -> Result<Command<'a>, AllocError>
     ensures { IfOk result IsMidiCommand }
 {
-    let length = number(
-        alloc,
-        "LENGTH",
-        "how long each block is, in microseconds, from 1 to 1000000",
-        value_parser!(u64).range(1..=1_000_000),
-    );
-    let blocks = number(
-        alloc,
-        "BLOCKS",
-        "how many blocks, from 0 to 524288",
-        value_parser!(u64).range(0..=524_288),
-    );
-    Command::new(alloc, "midi")
-        .bin_name("jorazhil midi")?
-        .disable_help_flag(true)
-        .disable_version_flag(true)
-        .arg(length)?
-        .arg(blocks)
+    // Each argument is made where it is taken, so that none has to be given back where one before it fails.
+    bare(alloc, "midi", "jorazhil midi")?
+        .arg(number(
+            alloc,
+            "LENGTH",
+            "how long each block is, in microseconds, from 1 to 1000000",
+            within(1, 1_000_000),
+        ))?
+        .arg(number(
+            alloc,
+            "BLOCKS",
+            "how many blocks, from 0 to 524288",
+            within(0, 524_288),
+        ))
 }

@@ -7,7 +7,7 @@ ghost use Rattle.lk_base.specs.Ranges.{IsQuantum};
 ghost use Rattle.link_words.specs.CommandWords.{HasNumber, IsNumberIn};
 ghost use Rattle.link_words.specs.OptionWords.{IsLocalArg, IsOptionArg, flag_rule, option_rule};
 
-use crate::command_words::number_in;
+use crate::command_words::{number_in, within};
 use clap::builder::ValueParser;
 use clap::{Arg, ArgAction, ArgMatches};
 use std::alloc::Global;
@@ -31,6 +31,48 @@ pub(crate) fn option<'a>(
         .value_parser(parser)
         .default_value(default)
         .help(help)
+}
+
+/// The option `events` of a run that keeps a journal.
+pub(crate) fn events<'a>(alloc: Global) -> Arg<'a>
+    ensures rule { rule_of result ≡ option_rule (codes "events") 1 524_288 (codes "262144") }
+    ensures kept { IsOptionArg result (codes "events") 1 524_288 }
+{
+    option(
+        alloc,
+        "events",
+        "262144",
+        "how many events the journal takes, from 1 to 524288",
+        within(1, 524_288),
+    )
+}
+
+/// The option `quantum` of a run beside peers, with what is told of it.
+pub(crate) fn quantum<'a>(alloc: Global, help: &'a str) -> Arg<'a>
+    ensures rule { rule_of result ≡ option_rule (codes "quantum") 0 (2 ^ 40) (codes "4000000") }
+    ensures kept { IsOptionArg result (codes "quantum") 0 (2 ^ 40) }
+{
+    option(
+        alloc,
+        "quantum",
+        "4000000",
+        help,
+        within(0, 1_099_511_627_776),
+    )
+}
+
+/// The option `group` of a run beside peers.
+pub(crate) fn group<'a>(alloc: Global) -> Arg<'a>
+    ensures rule { rule_of result ≡ option_rule (codes "group") 0 65_535 (codes "0") }
+    ensures kept { IsOptionArg result (codes "group") 0 65_535 }
+{
+    option(
+        alloc,
+        "group",
+        "0",
+        "the group of the nodes that hear each other, from 0, which all Link programs are in, to 65535",
+        within(0, 65_535),
+    )
 }
 
 /// A flag.

@@ -1,0 +1,8 @@
+use Rattle.std.proofs.Common.{refl}
+use Rattle.link_words.proofs.option_words.group.Goals as goal
+
+pub returns-clause-rule : goal.returns-clause-rule
+returns-clause-rule c = c.option.ensures.rule 0 65_535 (c.within.ensures 0 65_535 refl refl)
+
+pub returns-clause-kept : goal.returns-clause-kept
+returns-clause-kept c = c.option.ensures.kept 0 65_535 (c.within.ensures 0 65_535 refl refl)
