@@ -4,12 +4,10 @@ given).
 
 From nothing it is `rt ci --anew` where `rt help` speaks of --anew, and else `rt ci`, which proves all from nothing then; with --kept it is
 `rt ci`, which proves only what no run on this machine has passed, or `rt ci CRATE ..`, which does so for these and those below. With
---first, where nothing is kept yet, it is from nothing too: the first command of README.md, which proves the program as for a new user, and
-then `rt ci`, which keeps these proofs; so one run has the figures of both. With --checks it is `.ci/run`, where that proves all from
-nothing: so one run is the whole gate and has its figures, of which the checks beside `rt ci` have no part. There is one prover a processor,
-as in `.ci/run`. It watches the provers that rt starts, and puts the figures into docs/GATE.md, between its two marks: how long the run
-took, and for each crate the seconds of one processor that its proof, the proof of its tests and its must-fail edits took, with the check
-that the edits begin with.
+--checks it is `.ci/run`, where that proves all from nothing: so one run is the whole gate and has its figures, of which the checks beside
+`rt ci` have no part. There is one prover a processor, as in `.ci/run`. It watches the provers that rt starts, and puts the figures into
+docs/GATE.md, between its two marks: how long the run took, and for each crate the seconds of one processor that its proof, the proof of its
+tests and its must-fail edits took, with the check that the edits begin with.
 
 They are divided by how slow the machine was: by what the crates of a table of that page, the yardstick, took in the run, over the seconds
 that the table has for them; none of these crates may have changed since the commit that it names. Where a run proves none of them whole,
@@ -23,11 +21,16 @@ gets a row for so many processors in place of the one that it had, as the clock 
 stay. From the figures it is reckoned how long a run takes on two and on four processors at that pace, as rt hands out its checks; so it is
 for the run itself, where it was from nothing, so that one sees how far such a figure holds. Nothing is written where something isn't proved
 or a test fails. The commit has to be clean, so that the figures are those of a commit.
+
+With --first it is the first command of README.md alone, which proves and builds the program as for a new user, with as many jobs as that
+finds by itself. Nothing may be built or kept yet. The yardstick's crates are proved and tried after it, one job each, to tell how slow the
+machine was, and a table of first commands gets a row, between its own two marks.
 """
 import heapq
 import os
 import platform
 import re
+import resource
 import subprocess
 import sys
 import textwrap
@@ -49,9 +52,12 @@ PROGRAM = "jorazhil"
 UNKNOWN = "?"
 # The last line of `rt ci`, behind which some more stands where it was given names.
 TOLD = re.compile(r"(rt: )?\d+ passed, (\d+) failed( \(.*\))?")
-# The first command, without the jobs that the gate asks for, a line that tells of its end, and the gate.
-FIRST_TOLD = "gate: the program is built"
-FIRST = f"env -u RT_JOBS ./jorazhil replay < examples/one-alive.script && echo '{FIRST_TOLD}' && rt ci"
+RUNS_HEAD = ["Processors", "Minutes", "At the yardstick's pace", "Minutes that they worked", "Seconds of all provers", "Memory at most"]
+RUNS_HEAD += ["Commit", "Kit"]
+# The first command of README.md, and what it gets on standard input.
+FIRST, FIRST_INPUT = ["./jorazhil", "replay"], "examples/one-alive.script"
+FIRSTS, FIRSTS_END = "<!-- first commands: written by bench/gate.py -->", "<!-- end of the first commands -->"
+FIRSTS_HEAD = [head for head in RUNS_HEAD if head != "Seconds of all provers"]
 
 
 class Failed(Exception):
@@ -361,16 +367,13 @@ def table(figures, budgets, whole, slow, of_run):
     return lines, over
 
 
-def runs_with(text, processors, row):
-    """The lines of the table of runs with this row for so many processors."""
-    rows = {int(line.split("|")[1]): line.strip() for line in text.splitlines() if re.match(r"\| *\d+ *\|", line)}
-    rows[processors] = row
-    head = [
-        "| Processors | Minutes | At the yardstick's pace | The first command | Minutes that they worked | Seconds of all provers | "
-        "Memory at most | Commit | Kit |",
-        "|---|---|---|---|---|---|---|---|---|",
-    ]
-    return [*head, *(rows[number] for number in sorted(rows))]
+def with_row(page, begin, end, head, row):
+    """The page with this row in the table between two marks, in place of the one that it has for so many processors."""
+    first, last = between(page, begin, end)
+    rows = {int(line.split("|")[1]): line.strip() for line in page[first:last].splitlines() if re.match(r"\| *\d+ *\|", line)}
+    rows[int(row[0])] = f"| {' | '.join(row)} |"
+    lines = [f"| {' | '.join(head)} |", "|---" * len(head) + "|", *(rows[number] for number in sorted(rows))]
+    return page[:first] + "\n" + "\n".join(lines) + "\n" + page[last:]
 
 
 def keeps_proofs():
@@ -384,27 +387,33 @@ def worked_by(pid):
         return sum(map(int, file.read().rsplit(")", 1)[1].split()[11:15])) / TICK
 
 
-def watched(processors, words):
-    """Runs rt, or what runs it, on so many processors, and returns what watched it, how long rt took, and of that the first command, what
-    it worked, the last line that it wrote, and the status of all."""
-    began, took, first, worked, last = time.monotonic(), 0.0, 0.0, 0.0, ""
-    run = subprocess.Popen(
-        ["taskset", "-c", f"0-{processors - 1}", *words],
-        cwd=HERE,
-        env={**os.environ, "RT_JOBS": str(processors)},
-        stdout=subprocess.PIPE,
-        stderr=subprocess.STDOUT,
-        text=True,
-    )
+def waited_for():
+    """The seconds of a processor that all of this program's children have worked that have ended."""
+    return sum(resource.getrusage(resource.RUSAGE_CHILDREN)[:2])
+
+
+def watched(processors, words, given=os.devnull):
+    """Runs rt, or what runs it, on so many processors, and returns what watched it, how long rt took and what it worked, the last line that
+    it wrote, and the status of all. All that the first command takes counts, which finds its jobs by itself."""
+    began, took, worked, last, before = time.monotonic(), 0.0, 0.0, "", waited_for()
+    env = {name: value for name, value in os.environ.items() if name != "RT_JOBS"} | ({} if words == FIRST else {"RT_JOBS": str(processors)})
+    with open(os.path.join(HERE, given), encoding="utf-8") as file:
+        run = subprocess.Popen(
+            ["taskset", "-c", f"0-{processors - 1}", *words],
+            cwd=HERE,
+            env=env,
+            stdin=file,
+            stdout=subprocess.PIPE,
+            stderr=subprocess.STDOUT,
+            text=True,
+        )
     watch = Watch(run.pid)
     watch.start()
     for line in run.stdout:
         sys.stdout.write(line)
         sys.stdout.flush()
-        if line.strip() == FIRST_TOLD:
-            first = time.monotonic() - began
         # The checks behind rt ci end with such a line too.
-        if not last and TOLD.fullmatch(line.strip()):
+        if not last and words != FIRST and TOLD.fullmatch(line.strip()):
             took, last = time.monotonic() - began, line.strip()
             # Till then it has ended, and been waited for by what runs it.
             time.sleep(1)
@@ -412,19 +421,36 @@ def watched(processors, words):
     status = run.wait()
     watch.over.set()
     watch.join()
+    if words == FIRST and status == 0:
+        return watch, time.monotonic() - began, waited_for() - before, "", status
     if not last or TOLD.fullmatch(last)[2] != "0" or status and words[0] != ".ci/run":
         raise Failed(f"{' '.join(words)} ended with status {status}: {last or 'it did not come to its end'}")
-    return watch, took, first, worked, last, status
+    return watch, took, worked, last, status
+
+
+def row_of(processors, took, slow, worked, *cells):
+    """The cells of a run's row: its minutes as the clock told them and at the yardstick's pace, what it worked, others, commit and kit."""
+    commit, kit = told(["git", "rev-parse", "--short", "HEAD"]), told(["rt", "version"]).split()[0]
+    return [str(processors), f"{took / 60:.0f}", f"{took / slow / 60:.0f}", f"{worked / 60:.0f}", *cells, commit, f"`{kit}`"]
+
+
+def first_measured(processors, yardstick):
+    """Runs the first command, and returns its row among the first commands."""
+    watch, took, worked, *_ = watched(processors, FIRST, FIRST_INPUT)
+    sums = watch.sums()
+    kept = [name for name in below(PROGRAM) if not sums.get(name, {}).get("proof")]
+    if kept:
+        raise Failed(f"this wasn't from nothing, since what an earlier run had passed was kept: {', '.join(kept)}")
+    slow = slowness(watched(processors, ["rt", "ci", "--anew", *yardstick])[0].sums(), yardstick) if yardstick else 1.0
+    print(f"gate: the first command took {took:.0f} s, on a machine {slow:.2f} times as slow as the yardstick's")
+    return row_of(processors, took, slow, worked, f"{watch.most / 2**30:.1f} GB")
 
 
 def measured(processors, words, is_anew, old, budgets, whole, yardstick):
     """Runs the gate by these words, and returns the lines of its figures, its row among the runs, how many figures are over their budgets,
     and the run's status. `old` has the figures of the page."""
-    watch, took, first, worked, last, status = watched(processors, words)
+    watch, took, worked, last, status = watched(processors, words)
     sums, commit = watch.sums(), told(["git", "rev-parse", "--short", "HEAD"])
-    kept = [name for name in crates() for kind in KINDS if first and has_kind(name, kind) and not sums.get(name, {}).get(kind)]
-    if kept:
-        raise Failed(f"this wasn't from nothing, since what a run on this machine had passed was kept: {', '.join(dict.fromkeys(kept))}")
     # As the clock told them, for whoever wants to divide them otherwise.
     for name, taken in sums.items():
         print(f"gate: {name} took {', '.join(f'{seconds:.1f} s for {kind}' for kind, seconds in taken.items() if seconds)}")
@@ -444,25 +470,22 @@ def measured(processors, words, is_anew, old, budgets, whole, yardstick):
             f"below it is {reckoned(tasks_of(alone), processors) / 60:.0f} minutes."
         ]
     lines, over = table(joined(crates(), sums, slow, old, commit), budgets, whole, slow, of_run)
-    ran = f"the first command and then `{words[-1].split(' && ')[-1]}`" if first else f"`{' '.join(words)}`"
     head = (
-        f"`bench/gate.py` ran {ran} of `{told(['rt', 'version'])}` at commit {commit} on {processors} processors "
+        f"`bench/gate.py` ran `{' '.join(words)}` of `{told(['rt', 'version'])}` at commit {commit} on {processors} processors "
         f"({processor()}): **{took / 60:.0f} minutes**, in which they worked {worked / 60:.0f} minutes together; all provers at once held "
         f"{watch.most / 2**30:.1f} GB at most. It said: {last.removeprefix('rt: ')}"
     )
-    if first:
-        of_run += [f"The first command took **{first / 60:.0f} of these minutes**, at the yardstick's pace {first / slow / 60:.0f}."]
-    kit = told(["rt", "version"]).split()[0]
-    of_first = f"{first / 60:.0f}, at that pace {first / slow / 60:.0f}" if first else ""
-    row = (
-        f"| {processors} | {took / 60:.0f} | {took / slow / 60:.0f} | {of_first} | {worked / 60:.0f} | {together:.0f} | "
-        f"{watch.most / 2**30:.1f} GB | {commit} | `{kit}` |"
-    )
+    row = row_of(processors, took, slow, worked, f"{together:.0f}", f"{watch.most / 2**30:.1f} GB")
     say = (
         "Seconds of one processor, divided by how many times slower the machine was than the yardstick's, and of how many by the budget: the "
         "least of the runs since its sources or those below last changed, or its edits, and the commit of the last such run."
     )
     return [*prose(head), "", *prose(say), "", *lines], row, over, status
+
+
+def write(page):
+    with open(PAGE, "w", encoding="utf-8") as file:
+        file.write(page)
 
 
 def main():
@@ -479,10 +502,10 @@ def main():
         if has_checks and keeps_proofs():
             raise Failed("this rt keeps what it has proved, so .ci/run does not prove all from nothing: leave --checks out")
         if is_first and not keeps_proofs():
-            raise Failed("this rt keeps nothing, so rt ci would prove anew what the first command has proved: leave --first out")
+            raise Failed("this rt can't prove the yardstick's crates alone, by which the first command's minutes are divided: leave --first out")
         words = ["rt", "ci", *["--anew"] * (is_anew and keeps_proofs()), *some]
-        if has_checks or is_first:
-            words = [".ci/run"] if has_checks else ["bash", "-c", FIRST]
+        if has_checks:
+            words = [".ci/run"]
         if told(["git", "status", "--porcelain"]):
             raise Failed("the checkout has changes that are in no commit: commit them first")
         with open(PAGE, encoding="utf-8") as file:
@@ -491,7 +514,12 @@ def main():
         first, last = between(page, BUDGET, BUDGET_END)
         start, stop = between(page, YARDSTICK, YARDSTICK_END)
         between(page, RUNS, RUNS_END)
+        between(page, FIRSTS, FIRSTS_END)
         yardstick = yardstick_of(page[start:stop])
+        if is_first:
+            write(with_row(page, FIRSTS, FIRSTS_END, FIRSTS_HEAD, first_measured(processors, yardstick)))
+            print("gate: docs/GATE.md has the row")
+            return 0
         old, budgets = figures_of(page[begin:end]), budgets_of(page[first:last])
         lines, row, over, status = measured(processors, words, is_anew, old, *budgets, yardstick)
     except Failed as error:
@@ -499,10 +527,8 @@ def main():
         return 1
     page = page[:begin] + "\n" + "\n".join(lines) + "\n" + page[end:]
     if is_anew:
-        begin, end = between(page, RUNS, RUNS_END)
-        page = page[:begin] + "\n" + "\n".join(runs_with(page[begin:end], processors, row)) + "\n" + page[end:]
-    with open(PAGE, "w", encoding="utf-8") as file:
-        file.write(page)
+        page = with_row(page, RUNS, RUNS_END, RUNS_HEAD, row)
+    write(page)
     print(f"gate: docs/GATE.md has the figures; over their budgets: {over}")
     if status:
         print(f"gate: but {words[0]} ended with status {status}", file=sys.stderr)
