@@ -2,8 +2,8 @@
 """Runs the script `jorazhil` in a copy that isn't built, and looks that it answers help and words at fault by itself: checks/script.py.
 
 Beside it a stand-in for `rt` is on the PATH, which notes each of its calls and fails. Each run's exit status is compared with what is
-written here, and both of its texts. Then another stand-in keeps proofs, as `rt help` says, and lets `rt ci` pass or fail, so that it is
-seen what a first build is made of and what becomes of it. Where PROGRAM is given, the forms that the script tells are compared with the
+written here, and both of its texts. Then others keep proofs, as `rt help` says, and let `rt ci` pass, fail or take a while, so that it is
+seen what a first build is made of, in which order, and what becomes of it. Where PROGRAM is given, the forms that the script tells are compared with the
 program's own.
 The last line is 'N passed, N failed'.
 """
@@ -98,6 +98,17 @@ PASSING = """case $1 in
   *) exit 1 ;;
 esac
 """
+# A run of one crate notes when it begins, and is at work for three seconds.
+WORKING = PASSING.replace(
+    "  ci)\n",
+    """  ci)
+    if [ $# -eq 2 ]; then
+      echo "$2 $(date +%s.%N)" >>"$NOTES"
+      exec bash -c 'exec -a /kit/rattle bash -c "sleep 3; :" --crate-name "$1"' here "$2"
+    fi
+    mv "$NOTES" "$NOTES.begun"
+""",
+)
 REFUSING = """case $1 in
   help) echo 'usage: rt ci [--anew]' ;;
   doc) echo "$KIT/START-HERE.md" ;;
@@ -165,7 +176,7 @@ class Copy:
 
 def first_builds(folder):
     """What isn't as wanted of first builds by a kit that keeps proofs, by what each shows; nothing where all is."""
-    folders = [os.path.join(folder, name) for name in ("passing", "refusing", "closed")]
+    folders = [os.path.join(folder, name) for name in ("passing", "refusing", "closed", "working")]
     for name in folders:
         os.mkdir(name)
     copy = Copy(folders[0], PASSING)
@@ -195,6 +206,21 @@ def first_builds(folder):
     asked = copy.was_asked() or []
     as_before = "ci" not in asked and any(call.startswith("run ") for call in asked)
     yield "jorazhil replay, where nothing can be kept", None if as_before else f"rt was called, with {asked!r}"
+    copy = Copy(folders[3], WORKING)
+    why = differs(["replay"], 0, ["ran replay\n"], ["it is proved first"], copy.run(["replay"]))
+    yield "a run of a crate, which begins once those below it are at work", why or too_early(copy.notes + ".begun")
+
+
+def too_early(notes):
+    """Which crates' runs began with that of one below them, or before it; nothing where none did. There are none with few processors."""
+    if not os.path.exists(notes):
+        return None
+    with open(notes, encoding="utf-8") as file:
+        begun = {name: float(time) for name, time in map(str.split, file)}
+    with open(os.path.join(HERE, "crates.txt"), encoding="utf-8") as file:
+        uses = {line.split(":")[0]: line.split(":")[1].split() for line in file if ":" in line and not line.startswith("#")}
+    early = [f"{name} on {low}" for name in begun for low in uses[name] if low in begun and begun[name] < begun[low] + 1]
+    return f"they began at once: {', '.join(early)}" if early else None
 
 
 def main():
