@@ -114,11 +114,7 @@ fn devices_of<R: Net + Wait + Clock + Eprint + Copy + Drop, W: Write + Drop, E: 
         quantum: QUANTUM.unsigned_abs(),
         group: 0,
     };
-    let port = match UdpPort::new(rt, alloc, clock, about) {
-        Ok(port) => port,
-        Err(error) if error.kind() == ErrorKind::OutOfMemory => return Err(Status::Memory),
-        Err(_) => return Err(Status::Network),
-    };
+    let port = port_of(rt, alloc, clock, about)?;
     // The node comes first: where its first block begins, it is open.
     let (Ok(opened_at), Ok(audio)) = (clock.moment(&rt), ClickAudio::new(clicks, rt, clock)) else {
         return Err(Status::Audio);
@@ -132,4 +128,18 @@ fn devices_of<R: Net + Wait + Clock + Eprint + Copy + Drop, W: Write + Drop, E: 
         sound: StdSink::new(sound),
         midi: StdSink::new(midi),
     })
+}
+
+// The port of a session. The status says that no memory was left, or that the system has no network.
+fn port_of<R: Net + Wait + Clock + Eprint + Copy + Drop>(
+    rt: R,
+    alloc: Global,
+    clock: HostClock,
+    about: About,
+) -> Result<UdpPort<R>, Status> {
+    match UdpPort::new(rt, alloc, clock, about) {
+        Ok(port) => Ok(port),
+        Err(error) if error.kind() == ErrorKind::OutOfMemory => Err(Status::Memory),
+        Err(_) => Err(Status::Network),
+    }
 }

@@ -1,7 +1,7 @@
 //! A rehearsal: four bars over a node in memory, in one thread, so that each run prints the same. It begins with 120 beats a minute; its
 //! own callback starts to play and goes over to 128 in the third bar, and a peer to 150 in the fourth.
 
-ghost use Rattle.std.specs.Prelude.{◌≡◌, ◌≤◌, ◌<◌, ◌+◌, ◌^◌, length};
+ghost use Rattle.std.specs.Prelude.{◌≡◌, ◌≤◌, ◌<◌, ◌+◌, ◌^◌, [], length};
 ghost use Rattle.std.specs.Bool.{OnTrue, OnFalse};
 ghost use Rattle.lk_base.specs.Ranges.{IsMoment};
 ghost use Rattle.lk_outside.specs.Faults.{Rose};
@@ -19,7 +19,7 @@ use audio_handoff::StateCell;
 use link_midi::MidiEvents;
 use link_node::{Config, GateSetup, Sends};
 use link_payload::PeerFields;
-use link_shared::{AudioPass, Got, Link, LinkName, Opened, Parts};
+use link_shared::{AudioPass, Got, Hub, Link, LinkName, Opened, Parts};
 use lk_base::{Endpoint, Gate, IdSource, NodeId, SessionStart, Timeline};
 use lk_outside::Sink;
 use std::alloc::Global;
@@ -102,7 +102,7 @@ fn config_of_one() -> Config
     }
 }
 
-// For each block a turn of the hub, the edit that is due, and the callback. Answers whether all lines were written.
+// Makes the link, plays the bars, and ends it. Answers whether all lines were written.
 fn rehearse_bars<N: LinkName, R: Wait, K: Sink>(
     rt: &R,
     parts: Parts<Triple<11>>,
@@ -124,25 +124,51 @@ fn rehearse_bars<N: LinkName, R: Wait, K: Sink>(
         audio: mut pass,
         app,
     } = Link::<Triple<11>, N>::make(parts);
+    let mut score = Score::new();
+    let (block, written) = play_bars(
+        rt, &link, &mut hub, &mut pass, session, &mut sends, pattern, &mut score, out,
+    );
+    let now = start_of(block);
+    hub.hand_in(app);
+    let _ended = hub.last_turn(rt, link, &(), pass, now, &mut sends);
+    written && score.tell_done(out)
+}
+
+// For each block a turn of the hub, the edit that is due, and the callback, until a line isn't written. Answers which block would be next,
+// and whether all lines were written.
+fn play_bars<N: LinkName, R: Wait, K: Sink>(
+    rt: &R,
+    link: &Link<Triple<11>, N>,
+    hub: &mut Hub<Triple<11>, N>,
+    pass: &mut AudioPass<Triple<11>, N>,
+    session: NodeId,
+    sends: &mut Sends,
+    pattern: Pattern,
+    score: &mut Score,
+    out: &mut K,
+) -> (u32, bool)
+    requires gates { length hub.old.config.gates ≡ 1 }
+    requires unmade { pass.old.made ≡ [] }
+    ensures block { result.0 ≤ 373 }
+    ensures handed { hub.new.handed ≡ hub.old.handed }
+    ensures works { OnTrue result.1 (K.faults out.new ≡ K.faults out.old) }
+    ensures fails { OnFalse result.1 (Rose (K.faults out.old) (K.faults out.new)) }
+{
     let mut drums = Drums::new(pattern, OPENED_AT);
     let mut samples = Samples::new();
     let mut midi = MidiEvents::new();
-    let mut score = Score::new();
     let mut written = true;
     let mut block = 0;
     while block <= LAST_BLOCK && written {
         let now = start_of(block);
         let first = block * FRAMES;
-        let _turned = hub.turn(rt, &link, &(), now, got_at(block, session), &mut sends);
-        edit_due(&link, &mut pass, block, now);
-        let capture = callback(&link, &mut pass, &mut drums, first, &mut samples, &mut midi);
+        let _turned = hub.turn(rt, link, &(), now, got_at(block, session), sends);
+        edit_due(link, pass, block, now);
+        let capture = callback(link, pass, &mut drums, first, &mut samples, &mut midi);
         written = score.tell_block(&capture, &drums, first, midi.len(), out);
         block += 1;
     }
-    let now = start_of(block);
-    hub.hand_in(app);
-    let _ended = hub.last_turn(rt, link, &(), pass, now, &mut sends);
-    written && score.tell_done(out)
+    (block, written)
 }
 
 // The host time at which a block begins.

@@ -137,11 +137,7 @@ fn devices_of<R: Net + Wait + Clock + Eprint + Copy + Drop, W: Write + Drop>(
     let (Ok(clock), Ok(now)) = (HostClock::started(&rt), SystemTime::now(&rt)) else {
         return Err(untimed(words));
     };
-    let port = match UdpPort::new(rt, alloc, clock, about) {
-        Ok(port) => port,
-        Err(error) if error.kind() == ErrorKind::OutOfMemory => return Err(Status::Memory),
-        Err(_) => return Err(Status::Port),
-    };
+    let port = port_of(rt, alloc, clock, about)?;
     let Ok(audio) = ClickAudio::new(clicks, rt, clock) else {
         return Err(untimed(words));
     };
@@ -153,6 +149,20 @@ fn devices_of<R: Net + Wait + Clock + Eprint + Copy + Drop, W: Write + Drop>(
         audio,
         pace: ClockPace::new(rt, clock),
     })
+}
+
+// The port of a run. The status says that no memory was left, or that the system has no network.
+fn port_of<R: Net + Wait + Clock + Eprint + Copy + Drop>(
+    rt: R,
+    alloc: Global,
+    clock: HostClock,
+    about: About,
+) -> Result<UdpPort<R>, Status> {
+    match UdpPort::new(rt, alloc, clock, about) {
+        Ok(port) => Ok(port),
+        Err(error) if error.kind() == ErrorKind::OutOfMemory => Err(Status::Memory),
+        Err(_) => Err(Status::Port),
+    }
 }
 
 // The status where the system tells no time: `control` has no audio device that would lack it.

@@ -1,13 +1,13 @@
-use Rattle.std.proofs.Common.{◌-◌, ◌≡◌, ◌≤◌, length, pos, []}
+use Rattle.std.proofs.Common.{◌-◌, ◌≡◌, ◌≤◌, length, pos}
 use Rattle.std.specs.Bool.{OnTrue, OnFalse}
 use Rattle.lk_outside.specs.Faults.{Rose}
-use Rattle.drum_machine.proofs.rehearsal.rehearse_bars.Given as goal
+use Rattle.drum_machine.proofs.rehearsal.play_bars.Given as goal
 
 abbrev pub invariant-loop-block : goal.invariant-loop-block
 invariant-loop-block g l = record {
   within : l.block ≤ 373;
   gates : length l.hub.config.gates ≡ 1;
-  handed : l.hub.handed ≡ [];
+  handed : l.hub.handed ≡ l.fn.hub.handed;
   made : length l.pass.made ≤ l.block;
   origin : l.drums.origin ≡ pos 1_000_000;
   works : OnTrue l.written (g.K.Sink.faults l.out ≡ g.K.Sink.faults l.fn.out);
