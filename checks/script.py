@@ -3,8 +3,8 @@
 
 Beside it a stand-in for `rt` is on the PATH, which notes each of its calls and fails. Each run's exit status is compared with what is
 written here, and both of its texts. Then others keep proofs, as `rt help` says, and let `rt ci` pass, fail or take a while, so that it is
-seen what a first build is made of, in which order, and what becomes of it. Where PROGRAM is given, the forms that the script tells are compared with the
-program's own.
+seen what a first build is made of, in which order, and what becomes of it. Where PROGRAM is given, the forms that the script tells are
+compared with the program's own.
 The last line is 'N passed, N failed'.
 """
 import os
