@@ -4,8 +4,8 @@ given).
 
 From nothing it is `rt ci --anew` where `rt help` speaks of --anew, and else `rt ci`, which proves all from nothing then; with --kept it is
 `rt ci`, which proves only what no run on this machine has passed, or `rt ci CRATE ..`, which does so for these and those below. With
---checks it is `.ci/run`, where that proves all from nothing: so one run is the whole gate and has its figures, of which the checks beside
-`rt ci` have no part. There is one prover a processor, as in `.ci/run`. It watches the provers that rt starts, and puts the figures into
+--checks it is `.ci/run`, where nothing is kept: so one run is the whole gate and has its figures, of which the checks beside `rt ci` have
+no part. There is one prover a processor, as in `.ci/run`. It watches the provers that rt starts, and puts the figures into
 docs/GATE.md, between its two marks: how long the run took, and for each crate the seconds of one processor that its proof, the proof of its
 tests and its must-fail edits took, with the check that the edits begin with.
 
@@ -434,13 +434,18 @@ def row_of(processors, took, slow, worked, *cells):
     return [str(processors), f"{took / 60:.0f}", f"{took / slow / 60:.0f}", f"{worked / 60:.0f}", *cells, commit, f"`{kit}`"]
 
 
+def from_nothing(sums, names):
+    """Refuses a run that didn't prove each of these crates."""
+    kept = [name for name in names if not sums.get(name, {}).get("proof")]
+    if kept:
+        raise Failed(f"this wasn't from nothing, since what an earlier run had passed was kept: {', '.join(kept)}")
+
+
 def first_measured(processors, yardstick):
     """Runs the first command, and returns its row among the first commands."""
     watch, took, worked, *_ = watched(processors, FIRST, FIRST_INPUT)
     sums = watch.sums()
-    kept = [name for name in below(PROGRAM) if not sums.get(name, {}).get("proof")]
-    if kept:
-        raise Failed(f"this wasn't from nothing, since what an earlier run had passed was kept: {', '.join(kept)}")
+    from_nothing(sums, below(PROGRAM))
     slow = slowness(watched(processors, ["rt", "ci", "--anew", *yardstick])[0].sums(), yardstick) if yardstick else 1.0
     print(f"gate: the first command took {took:.0f} s, on a machine {slow:.2f} times as slow as the yardstick's")
     return row_of(processors, took, slow, worked, f"{watch.most / 2**30:.1f} GB")
@@ -451,6 +456,8 @@ def measured(processors, words, is_anew, old, budgets, whole, yardstick):
     and the run's status. `old` has the figures of the page."""
     watch, took, worked, last, status = watched(processors, words)
     sums, commit = watch.sums(), told(["git", "rev-parse", "--short", "HEAD"])
+    if is_anew:
+        from_nothing(sums, crates())
     # As the clock told them, for whoever wants to divide them otherwise.
     for name, taken in sums.items():
         print(f"gate: {name} took {', '.join(f'{seconds:.1f} s for {kind}' for kind, seconds in taken.items() if seconds)}")
@@ -499,8 +506,6 @@ def main():
         return 2
     processors = int(numbers[0]) if numbers else 2
     try:
-        if has_checks and keeps_proofs():
-            raise Failed("this rt keeps what it has proved, so .ci/run does not prove all from nothing: leave --checks out")
         if is_first and not keeps_proofs():
             raise Failed("this rt can't prove the yardstick's crates alone, by which the first command's minutes are divided: leave --first out")
         words = ["rt", "ci", *["--anew"] * (is_anew and keeps_proofs()), *some]
