@@ -434,8 +434,8 @@ def row_of(processors, took, slow, worked, *cells):
     return [str(processors), f"{took / 60:.0f}", f"{took / slow / 60:.0f}", f"{worked / 60:.0f}", *cells, commit, f"`{kit}`"]
 
 
-def from_nothing(sums, names):
-    """Refuses a run that didn't prove each of these crates."""
+def refuse_kept(sums, names):
+    """Fails where a run didn't prove each of these crates, so that it wasn't from nothing."""
     kept = [name for name in names if not sums.get(name, {}).get("proof")]
     if kept:
         raise Failed(f"this wasn't from nothing, since what an earlier run had passed was kept: {', '.join(kept)}")
@@ -445,7 +445,7 @@ def first_measured(processors, yardstick):
     """Runs the first command, and returns its row among the first commands."""
     watch, took, worked, *_ = watched(processors, FIRST, FIRST_INPUT)
     sums = watch.sums()
-    from_nothing(sums, below(PROGRAM))
+    refuse_kept(sums, below(PROGRAM))
     slow = slowness(watched(processors, ["rt", "ci", "--anew", *yardstick])[0].sums(), yardstick) if yardstick else 1.0
     print(f"gate: the first command took {took:.0f} s, on a machine {slow:.2f} times as slow as the yardstick's")
     return row_of(processors, took, slow, worked, f"{watch.most / 2**30:.1f} GB")
@@ -457,7 +457,7 @@ def measured(processors, words, is_anew, old, budgets, whole, yardstick):
     watch, took, worked, last, status = watched(processors, words)
     sums, commit = watch.sums(), told(["git", "rev-parse", "--short", "HEAD"])
     if is_anew:
-        from_nothing(sums, crates())
+        refuse_kept(sums, crates())
     # As the clock told them, for whoever wants to divide them otherwise.
     for name, taken in sums.items():
         print(f"gate: {name} took {', '.join(f'{seconds:.1f} s for {kind}' for kind, seconds in taken.items() if seconds)}")
