@@ -5,7 +5,7 @@ use lk_base::Endpoint;
 use lk_outside::{Bound, Put, Taken, Talk};
 use std::io;
 use std::io::{Read, Write};
-use std::net::{Ipv4Addr, Net, OpenListener, SocketAddr, TcpListener, TcpStream};
+use std::net::{Net, OpenListener, TcpListener, TcpStream};
 use std::sync::Wait;
 use std::test::Fail;
 
@@ -16,12 +16,16 @@ fn a_client_is_heard_and_answered_until_it_leaves(rt: HostRuntime) -> Result<(),
     Ok(())
 }
 
-// An endpoint of this host that nobody listens at.
+// An endpoint of this host that nobody listens at: at 127.5.0.1, where no other test has the system pick ports.
 fn free_endpoint<R: Net>(rt: &R) -> io::Result<Endpoint> {
-    let listener = TcpListener::bind(rt, SocketAddr::from((Ipv4Addr::LOCALHOST, 0)))?;
+    let any = Endpoint {
+        addr: 0x7f05_0001,
+        port: 0,
+    };
+    let listener = TcpListener::bind(rt, address_of(any))?;
     Ok(Endpoint {
-        addr: 0x7f00_0001,
         port: listener.local_addr()?.port(),
+        ..any
     })
 }
 

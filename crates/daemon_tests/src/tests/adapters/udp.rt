@@ -20,6 +20,13 @@ use std::time::{Clock, Duration};
 /// 127.0.0.1
 const HERE: u32 = 0x7f00_0001;
 
+/// Networks of this host, 127.1.0.0 and so on, one for each test that runs beside the others. At 127.0.0.1 the system picks ports for
+/// whoever asks at any time, so what is free there may be taken before it is bound.
+const SCRIPTS_NETWORK: u32 = 0x7f01_0000;
+const IDLE_NETWORK: u32 = 0x7f02_0000;
+const WAIT_NETWORK: u32 = 0x7f03_0000;
+const DEVICES_NETWORK: u32 = 0x7f04_0000;
+
 /// How long a datagram is waited for at most, in microseconds.
 const PATIENCE: i64 = 5_000_000;
 
@@ -219,28 +226,29 @@ fn done_of<R: Net + Clock + Wait + Eprint + Copy + Drop>(
     alloc: Global,
     steps: &[Step],
 ) -> io::Result<usize> {
-    let ends = ends(&rt)?;
+    let ends = ends(&rt, SCRIPTS_NETWORK)?;
     let mut near = without_gates(rt, alloc)?;
     let mut far = without_gates(rt, alloc)?;
     Ok(steps_done(&rt, alloc, &ends, &mut near, &mut far, steps))
 }
 
-fn ends<R: Net>(rt: &R) -> io::Result<Ends> {
+// Each of the free ends has an address of its own in this network.
+fn ends<R: Net>(rt: &R, network: u32) -> io::Result<Ends> {
     Ok([
-        end(HERE, free_port(rt)?),
-        end(HERE, free_port(rt)?),
-        end(HERE, free_port(rt)?),
-        end(HERE, free_port(rt)?),
-        end(HERE, free_port(rt)?),
+        free_end(rt, network | 1)?,
+        free_end(rt, network | 2)?,
+        free_end(rt, network | 3)?,
+        free_end(rt, network | 4)?,
+        free_end(rt, network | 5)?,
         end(HERE, 0),
         end(0xc000_0201, 20_808),
         end(0xffff_ffff, 20_808),
     ])
 }
 
-fn free_port<R: Net>(rt: &R) -> io::Result<u16> {
-    let socket = UdpSocket::bind(rt, SocketAddr::from((Ipv4Addr::LOCALHOST, 0)))?;
-    Ok(socket.local_addr()?.port())
+fn free_end<R: Net>(rt: &R, addr: u32) -> io::Result<Endpoint> {
+    let socket = UdpSocket::bind(rt, address_of(end(addr, 0)))?;
+    Ok(end(addr, socket.local_addr()?.port()))
 }
 
 fn end(addr: u32, port: u16) -> Endpoint {
@@ -382,14 +390,14 @@ fn is_datagram(arrival: &Arrival, gate: u8, from: Endpoint, count: usize, byte: 
     }
 }
 
-// Whether nobody has bound the port of this endpoint of this host.
+// Whether nobody has bound this endpoint of this host.
 fn is_free<R: Net>(rt: &R, endpoint: Endpoint) -> bool {
-    UdpSocket::bind(rt, SocketAddr::from((Ipv4Addr::LOCALHOST, endpoint.port))).is_ok()
+    UdpSocket::bind(rt, address_of(endpoint)).is_ok()
 }
 
 #[test]
 fn a_port_is_idle_at_its_time_and_not_before(rt: HostRuntime) -> Result<(), Fail> {
-    let ends = ends(&rt)?;
+    let ends = ends(&rt, IDLE_NETWORK)?;
     let clock = HostClock::started(&rt)?;
     let mut port = idle_port(rt, rt.alloc(), clock, &ends)?;
     let told = waits(&rt, &clock, &mut port);
@@ -432,7 +440,7 @@ fn idle<R: Net + Clock + Wait + Eprint + Copy + Drop>(port: &mut GatedPort<R>, u
 
 #[test]
 fn a_datagram_ends_the_wait_in_which_it_comes(rt: HostRuntime) -> Result<(), Fail> {
-    let ends = ends(&rt)?;
+    let ends = ends(&rt, WAIT_NETWORK)?;
     let clock = HostClock::started(&rt)?;
     let mut port = idle_port(rt, rt.alloc(), clock, &ends)?;
     let (one, last) = (address_of(at(&ends, 1)), address_of(at(&ends, 3)));
@@ -471,7 +479,7 @@ fn is_sent_later<R: Net + Clock>(rt: &R, to: SocketAddr) -> bool {
 
 #[test]
 fn each_device_goes_to_a_thread_of_its_own(rt: HostRuntime) -> Result<(), Fail> {
-    let ends = ends(&rt)?;
+    let ends = ends(&rt, DEVICES_NETWORK)?;
     let clock = HostClock::started(&rt)?;
     let mut audio = ClickAudio::new(Vec::<u8>::new(rt.alloc()), rt, clock)?;
     let mut port = idle_port(rt, rt.alloc(), clock, &ends)?;
