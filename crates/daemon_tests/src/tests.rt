@@ -2,7 +2,6 @@
 
 mod adapters;
 mod control;
-mod cut;
 mod faults;
 mod live;
 mod rows;

@@ -15,6 +15,8 @@ mod sides;
 mod status;
 mod words;
 
+ghost use Rattle.lk_base.specs.Ranges.{IsMoment};
+
 use crate::callback::QUANTUM;
 use crate::input::read_input;
 use crate::rehearsal::rehearse;
@@ -42,15 +44,9 @@ fn main(rt: HostRuntime) -> ExitCode {
                 }
                 // What is sent to another thread stands on the runtime itself here, and not on a type parameter for it.
                 Words::Session(setup) => {
-                    match devices_of(
-                        rt,
-                        rt.alloc(),
-                        setup.blocks,
-                        rt.stdout(),
-                        rt.stderr(),
-                        rt.stderr(),
-                    ) {
-                        Ok(mut devices) => {
+                    match outside_of(rt, rt.alloc(), setup.blocks, rt.stderr()) {
+                        Ok(outside) => {
+                            let mut devices = devices_of(outside, rt.stdout(), rt.stderr());
                             let status = play_session(
                                 &rt,
                                 rt.alloc(),
@@ -93,19 +89,24 @@ fn words_of(rt: &HostRuntime) -> Result<Words, Status> {
     }
 }
 
-// The real things: sockets, and an audio device that asks for blocks by the machine's clock. The sound is written to `sound`, the MIDI
-// clock beside it to `midi`. The seed is the nanoseconds since 1970.
-fn devices_of<R: Net + Wait + Clock + Eprint + Copy + Drop, W: Write + Drop, E: Write + Drop>(
+/// What the system may refuse a session: sockets, and an audio device that asks for blocks by the machine's clock. The seed is the
+/// nanoseconds since 1970.
+#[derive(Drop)]
+struct Outside<R: Net + Wait + Clock + Eprint + Copy + Drop, E: Write + Drop> {
+    seed: u64,
+    opened_at: i64,
+    port: UdpPort<R>,
+    audio: ClickAudio<E, R>,
+    ghost moment: { IsMoment opened_at },
+}
+
+fn outside_of<R: Net + Wait + Clock + Eprint + Copy + Drop, E: Write + Drop>(
     rt: R,
     alloc: Global,
     blocks: u32,
-    sound: W,
-    midi: E,
     clicks: E,
-) -> Result<Devices<UdpPort<R>, ClickAudio<E, R>, StdSink<W>, StdSink<E>>, Status> {
-    let (Ok(clock), Ok(now)) = (HostClock::started(&rt), SystemTime::now(&rt)) else {
-        return Err(Status::Audio);
-    };
+) -> Result<Outside<R, E>, Status> {
+    let (clock, seed) = clock_and_seed(&rt)?;
     let about = About {
         program: "drum_machine",
         command: "session",
@@ -119,15 +120,47 @@ fn devices_of<R: Net + Wait + Clock + Eprint + Copy + Drop, W: Write + Drop, E: 
     let (Ok(opened_at), Ok(audio)) = (clock.moment(&rt), ClickAudio::new(clicks, rt, clock)) else {
         return Err(Status::Audio);
     };
+    Ok(Outside {
+        seed,
+        opened_at,
+        port,
+        audio,
+    })
+}
+
+fn clock_and_seed<R: Clock>(rt: &R) -> Result<(HostClock, u64), Status> {
+    let (Ok(clock), Ok(now)) = (HostClock::started(rt), SystemTime::now(rt)) else {
+        return Err(Status::Audio);
+    };
     let since = now.duration_since(UNIX_EPOCH).unwrap_or_default();
-    Ok(Devices {
-        seed: u64::try_from(since.as_nanos()).unwrap_or(u64::MAX),
+    Ok((clock, u64::try_from(since.as_nanos()).unwrap_or(u64::MAX)))
+}
+
+// The sound is written to `sound`, the MIDI clock beside it to `midi`.
+fn devices_of<
+    R: Net + Wait + Clock + Eprint + Copy + Drop,
+    W: Write + Drop,
+    M: Write + Drop,
+    E: Write + Drop,
+>(
+    outside: Outside<R, E>,
+    sound: W,
+    midi: M,
+) -> Devices<UdpPort<R>, ClickAudio<E, R>, StdSink<W>, StdSink<M>> {
+    let Outside {
+        seed,
+        opened_at,
+        port,
+        audio,
+    } = outside;
+    Devices {
+        seed,
         opened_at,
         port,
         audio,
         sound: StdSink::new(sound),
         midi: StdSink::new(midi),
-    })
+    }
 }
 
 // The port of a session. The status says that no memory was left, or that the system has no network.

@@ -65,10 +65,10 @@ pub fn rehearse<R: Wait, K: Sink>(rt: &R, alloc: Global, pattern: Pattern, out: 
 {
     let config = config_of_one();
     let session = config.id;
-    let Ok(parts) = Parts::<Triple<11>>::new(rt, alloc, &(), &config, OPENED_AT, EVENTS) else {
+    let Ok(sends) = Sends::new(alloc) else {
         return Status::Memory;
     };
-    let Ok(sends) = Sends::new(alloc) else {
+    let Ok(parts) = Parts::<Triple<11>>::new(rt, alloc, &(), &config, OPENED_AT, EVENTS) else {
         return Status::Memory;
     };
     if rehearse_bars::<Brand, R, K>(rt, parts, session, sends, pattern, out) {

@@ -69,14 +69,14 @@ pub fn play_session<
 {
     let blocks = setup.blocks;
     let config = config_of(setup, devices.seed);
+    let drums = Drums::new(pattern, devices.opened_at);
+    let Ok(sends) = Sends::new(alloc) else {
+        return Status::Memory;
+    };
     let Ok(parts) = Parts::<Triple<11>>::new(rt, alloc, &(), &config, devices.opened_at, EVENTS)
     else {
         return Status::Memory;
     };
-    let Ok(sends) = Sends::new(alloc) else {
-        return Status::Memory;
-    };
-    let drums = Drums::new(pattern, devices.opened_at);
     play_parts::<Brand, P, A, W, M, R>(rt, parts, &config, sends, drums, blocks, devices)
 }
 

@@ -71,11 +71,18 @@ fn a_moment_counts_whole_microseconds_up_to_the_last(rt: HostRuntime) -> Result<
         limit: u64::MAX,
     };
     let clock = HostClock::started(&shown)?;
-    for (at, moment) in MOMENTS {
-        micros.set(*at);
-        assert!(rt; moment_by(&clock, &shown) == *moment, "{at}");
-    }
+    assert!(rt; tells_all(&clock, &shown));
     Ok(())
+}
+
+fn tells_all<R: Wait + Copy + Drop>(clock: &HostClock, shown: &Shown<R>) -> bool {
+    for (at, moment) in MOMENTS {
+        shown.micros.set(*at);
+        if moment_by(clock, shown) != *moment {
+            return false;
+        }
+    }
+    true
 }
 
 // The moment that it is by a clock; -1 where it tells no time.
@@ -105,17 +112,22 @@ fn never_falls<R: Clock>(clock: &HostClock, rt: &R) -> bool {
 #[test]
 fn a_pace_answers_at_its_moment_or_after(rt: HostRuntime) -> Result<(), Fail> {
     let clock = HostClock::started(&rt)?;
-    let mut pace = ClockPace::new(rt, clock);
-    let mut before = moment_by(&clock, &rt);
+    assert!(rt; follows_all(&mut ClockPace::new(rt, clock), &clock, &rt));
+    Ok(())
+}
+
+fn follows_all<P: Pace, R: Clock>(pace: &mut P, clock: &HostClock, rt: &R) -> bool {
+    let mut before = moment_by(clock, rt);
     // A moment that has gone by is answered with the one that it is.
     for asked in [1_500, 3_000, 4_500, 0] {
         let told = pace.until(asked);
-        let after = moment_by(&clock, &rt);
-        let follows = asked <= told && before <= told && told <= after;
-        assert!(rt; follows, "{asked}");
+        let after = moment_by(clock, rt);
+        if told < asked || told < before || after < told {
+            return false;
+        }
         before = after;
     }
-    Ok(())
+    true
 }
 
 #[test]
@@ -127,11 +139,13 @@ fn a_sleep_that_ends_early_goes_on(rt: HostRuntime) -> Result<(), Fail> {
         limit: 4_000,
     };
     let clock = HostClock::started(&shown)?;
-    assert!(rt; sleep_by(&clock, &shown, 2_000) == 2_000);
-    assert!(rt; sleep_by(&clock, &shown, 1_000) == 2_000);
     // From 4,000 microseconds on it tells no time.
-    assert!(rt; sleep_by(&clock, &shown, 5_000) == -1);
-    assert!(rt; ClockPace::new(shown, clock).until(6_000) == 6_000);
+    assert!(rt;
+        sleep_by(&clock, &shown, 2_000) == 2_000
+            && sleep_by(&clock, &shown, 1_000) == 2_000
+            && sleep_by(&clock, &shown, 5_000) == -1
+            && ClockPace::new(shown, clock).until(6_000) == 6_000
+    );
     Ok(())
 }
 
@@ -151,13 +165,19 @@ fn blocks_of_20_milliseconds_follow_on_each_other(rt: HostRuntime) -> Result<(),
     let clock = HostClock::started(&shown)?;
     micros.set(130);
     let mut audio = ClickAudio::new(Broken, shown, clock)?;
-    for start in [30u32, 20_030, 40_030] {
-        // It was waited for.
-        let given = gives_block(&mut audio, i64::from(start));
-        assert!(rt; given && micros.get() == u64::from(start) + 100, "{start}");
-    }
-    assert!(rt; matches!(audio.next(), Next::Failed));
+    assert!(rt; gives_three(&mut audio, &micros) && matches!(audio.next(), Next::Failed));
     Ok(())
+}
+
+// Whether each of three blocks is given, and was waited for.
+fn gives_three<A: Audio>(audio: &mut A, micros: &Cell<u64>) -> bool {
+    for start in [30u32, 20_030, 40_030] {
+        let given = gives_block(audio, i64::from(start));
+        if !given || micros.get() != u64::from(start) + 100 {
+            return false;
+        }
+    }
+    true
 }
 
 #[test]
@@ -171,9 +191,12 @@ fn no_block_ends_after_the_last_moment(rt: HostRuntime) -> Result<(), Fail> {
     let clock = HostClock::started(&shown)?;
     micros.set(36_028_797_018_963_968 - 39_999);
     let mut audio = ClickAudio::new(Broken, shown, clock)?;
-    assert!(rt; gives_block(&mut audio, MOMENT_MAX - 39_999));
-    assert!(rt; closes(&mut audio) && closes(&mut audio));
+    assert!(rt; gives_the_last(&mut audio));
     Ok(())
+}
+
+fn gives_the_last<A: Audio>(audio: &mut A) -> bool {
+    gives_block(audio, MOMENT_MAX - 39_999) && closes(audio) && closes(audio)
 }
 
 // Whether the next block is the one of 20 milliseconds that begins there.

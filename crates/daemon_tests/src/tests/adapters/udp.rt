@@ -9,8 +9,7 @@ use lk_base::{Clicks, Endpoint, Gate};
 use lk_outside::{Arrival, Audio, Bound, Next, Pace, Played, Port, Posted};
 use std::alloc::Global;
 use std::io;
-use std::io::ErrorKind;
-use std::net::{Ipv4Addr, Net, SocketAddr, UdpSocket};
+use std::net::{Net, UdpSocket};
 use std::process::Abort;
 use std::sync::Wait;
 use std::test::Fail;
@@ -23,8 +22,11 @@ const HERE: u32 = 0x7f00_0001;
 /// Networks of this host, 127.1.0.0 and so on, one for each test that runs beside the others. At 127.0.0.1 the system picks ports for
 /// whoever asks at any time, so what is free there may be taken before it is bound.
 const SCRIPTS_NETWORK: u32 = 0x7f01_0000;
+
 const IDLE_NETWORK: u32 = 0x7f02_0000;
+
 const WAIT_NETWORK: u32 = 0x7f03_0000;
+
 const DEVICES_NETWORK: u32 = 0x7f04_0000;
 
 /// How long a datagram is waited for at most, in microseconds.
@@ -228,37 +230,45 @@ fn done_of<R: Net + Clock + Wait + Eprint + Copy + Drop>(
 ) -> io::Result<usize> {
     let ends = ends(&rt, SCRIPTS_NETWORK)?;
     let mut near = without_gates(rt, alloc)?;
-    let mut far = without_gates(rt, alloc)?;
-    Ok(steps_done(&rt, alloc, &ends, &mut near, &mut far, steps))
+    done_beside(rt, alloc, &ends, &mut near, steps)
 }
 
-// Each of the free ends has an address of its own in this network.
+fn done_beside<R: Net + Clock + Wait + Eprint + Copy + Drop>(
+    rt: R,
+    alloc: Global,
+    ends: &Ends,
+    near: &mut GatedPort<R>,
+    steps: &[Step],
+) -> io::Result<usize> {
+    let mut far = without_gates(rt, alloc)?;
+    Ok(steps_done(&rt, alloc, ends, near, &mut far, steps))
+}
+
+// Each of the free ends has an address of its own in this network, and all of them a port that is free at its first address.
 fn ends<R: Net>(rt: &R, network: u32) -> io::Result<Ends> {
+    let socket = UdpSocket::bind(rt, address_of(end(network, 0)))?;
+    let port = socket.local_addr()?.port();
     Ok([
-        free_end(rt, network | 1)?,
-        free_end(rt, network | 2)?,
-        free_end(rt, network | 3)?,
-        free_end(rt, network | 4)?,
-        free_end(rt, network | 5)?,
+        end(network | 1, port),
+        end(network | 2, port),
+        end(network | 3, port),
+        end(network | 4, port),
+        end(network | 5, port),
         end(HERE, 0),
         end(0xc000_0201, 20_808),
         end(0xffff_ffff, 20_808),
     ])
 }
 
-fn free_end<R: Net>(rt: &R, addr: u32) -> io::Result<Endpoint> {
-    let socket = UdpSocket::bind(rt, address_of(end(addr, 0)))?;
-    Ok(end(addr, socket.local_addr()?.port()))
-}
-
 fn end(addr: u32, port: u16) -> Endpoint {
     Endpoint { addr, port }
 }
 
-/// A port, and how many gates it has.
+/// A port with its clock, and how many gates it has.
 #[derive(Drop)]
 struct GatedPort<R: Net + Clock + Wait + Eprint + Copy + Drop> {
     port: UdpPort<R>,
+    clock: HostClock,
     gates: usize,
     ghost same: { gates ≡ length (locals_of port.gates.items) },
 }
@@ -268,8 +278,24 @@ fn without_gates<R: Net + Clock + Wait + Eprint + Copy + Drop>(
     rt: R,
     alloc: Global,
 ) -> io::Result<GatedPort<R>> {
-    let port = UdpPort::new(rt, alloc, HostClock::started(&rt)?, ABOUT)?;
-    Ok(GatedPort { port, gates: 0 })
+    let clock = HostClock::started(&rt)?;
+    let port = UdpPort::new(rt, alloc, clock, ABOUT)?;
+    Ok(GatedPort {
+        port,
+        clock,
+        gates: 0,
+    })
+}
+
+// A port of four gates, at the first ends.
+fn idle_port<R: Net + Clock + Wait + Eprint + Copy + Drop>(
+    rt: R,
+    alloc: Global,
+    ends: &Ends,
+) -> io::Result<GatedPort<R>> {
+    let mut port = without_gates(rt, alloc)?;
+    let _bound = port.bind(some_of(ends, 0, 4));
+    Ok(port)
 }
 
 impl<R: Net + Clock + Wait + Eprint + Copy + Drop> GatedPort<R> {
@@ -398,36 +424,17 @@ fn is_free<R: Net>(rt: &R, endpoint: Endpoint) -> bool {
 #[test]
 fn a_port_is_idle_at_its_time_and_not_before(rt: HostRuntime) -> Result<(), Fail> {
     let ends = ends(&rt, IDLE_NETWORK)?;
-    let clock = HostClock::started(&rt)?;
-    let mut port = idle_port(rt, rt.alloc(), clock, &ends)?;
-    let told = waits(&rt, &clock, &mut port);
-    assert!(rt; told);
+    let mut port = idle_port(rt, rt.alloc(), &ends)?;
+    assert!(rt; waits(&rt, &mut port));
     Ok(())
 }
 
 // Whether a port is idle no earlier than at its time, and for one that has gone by, and one before the start, at once.
-fn waits<R: Net + Clock + Wait + Eprint + Copy + Drop>(
-    rt: &R,
-    clock: &HostClock,
-    port: &mut GatedPort<R>,
-) -> bool {
-    let until = moment_by(clock, rt).saturating_add(12_000);
+fn waits<R: Net + Clock + Wait + Eprint + Copy + Drop>(rt: &R, port: &mut GatedPort<R>) -> bool {
+    let until = moment_by(&port.clock, rt).saturating_add(12_000);
     let told = idle(port, until);
-    let now = moment_by(clock, rt);
+    let now = moment_by(&port.clock, rt);
     until <= told && told <= now && idle(port, 1) >= now && idle(port, -1) >= now
-}
-
-// A port of four gates.
-fn idle_port<R: Net + Clock + Wait + Eprint + Copy + Drop>(
-    rt: R,
-    alloc: Global,
-    clock: HostClock,
-    ends: &Ends,
-) -> io::Result<GatedPort<R>> {
-    let port = UdpPort::new(rt, alloc, clock, ABOUT)?;
-    let mut gated = GatedPort { port, gates: 0 };
-    let _bound = gated.bind(some_of(ends, 0, 4));
-    Ok(gated)
 }
 
 // The moment until which nothing came; that before all where something did.
@@ -441,13 +448,11 @@ fn idle<R: Net + Clock + Wait + Eprint + Copy + Drop>(port: &mut GatedPort<R>, u
 #[test]
 fn a_datagram_ends_the_wait_in_which_it_comes(rt: HostRuntime) -> Result<(), Fail> {
     let ends = ends(&rt, WAIT_NETWORK)?;
-    let clock = HostClock::started(&rt)?;
-    let mut port = idle_port(rt, rt.alloc(), clock, &ends)?;
-    let (one, last) = (address_of(at(&ends, 1)), address_of(at(&ends, 3)));
+    let mut port = idle_port(rt, rt.alloc(), &ends)?;
     let (came, sent) = join(
         &rt,
         move || is_soon(&port.receive(END), 1) && is_soon(&port.receive(END), 3),
-        move || is_sent_later(&rt, one) && is_sent_later(&rt, last),
+        move || is_sent_later(&rt, at(&ends, 1)) && is_sent_later(&rt, at(&ends, 3)),
     );
     assert!(rt; came && sent);
     Ok(())
@@ -469,20 +474,19 @@ fn is_soon(arrival: &Arrival, on: u8) -> bool {
 }
 
 // Sends a datagram half a second later, by when the other thread waits for it.
-fn is_sent_later<R: Net + Clock>(rt: &R, to: SocketAddr) -> bool {
+fn is_sent_later<R: Net + Clock>(rt: &R, to: Endpoint) -> bool {
     sleep(rt, Duration::from_millis(500));
-    match UdpSocket::bind(rt, SocketAddr::from((Ipv4Addr::LOCALHOST, 0))) {
-        Ok(socket) => socket.send_to(b"a", to).is_ok(),
+    match UdpSocket::bind(rt, address_of(end(HERE, 0))) {
+        Ok(socket) => socket.send_to(b"a", address_of(to)).is_ok(),
         Err(_) => false,
     }
 }
 
 #[test]
 fn each_device_goes_to_a_thread_of_its_own(rt: HostRuntime) -> Result<(), Fail> {
-    let ends = ends(&rt, DEVICES_NETWORK)?;
-    let clock = HostClock::started(&rt)?;
+    let mut port = devices_port(rt, rt.alloc())?;
+    let clock = port.clock;
     let mut audio = ClickAudio::new(Vec::<u8>::new(rt.alloc()), rt, clock)?;
-    let mut port = idle_port(rt, rt.alloc(), clock, &ends)?;
     let mut pace = ClockPace::new(rt, clock);
     let (told, (played, moment)) = join(
         &rt,
@@ -491,6 +495,14 @@ fn each_device_goes_to_a_thread_of_its_own(rt: HostRuntime) -> Result<(), Fail> 
     );
     assert!(rt; told >= 3_000 && played && moment >= 2_000);
     Ok(())
+}
+
+fn devices_port<R: Net + Clock + Wait + Eprint + Copy + Drop>(
+    rt: R,
+    alloc: Global,
+) -> io::Result<GatedPort<R>> {
+    let ends = ends(&rt, DEVICES_NETWORK)?;
+    idle_port(rt, alloc, &ends)
 }
 
 /// Whether a device gives a block and plays nothing in it.

@@ -197,10 +197,10 @@ fn run_by<R: Threads + Wait + Sync>(
     case: &Case,
     talk: &mut ListTalk,
 ) -> Result<(Status, usize), AllocError> {
-    let port = port_of(alloc, case)?;
-    let sides = sides_of(alloc, case)?;
+    let mut port = port_of(alloc, case)?;
+    let mut sides = sides_of(alloc, case)?;
     let words = if case.one_event { ONE_EVENT } else { WORDS };
-    run_over(rt, alloc, words, port, talk, sides)
+    run_over(rt, alloc, words, &mut port, talk, &mut sides)
 }
 
 // How a run ended, and how many lines it logged.
@@ -208,13 +208,13 @@ fn run_over<R: Threads + Wait + Sync>(
     rt: &R,
     alloc: Global,
     words: &str,
-    mut port: ListPort,
+    port: &mut ListPort,
     talk: &mut ListTalk,
-    mut sides: Sides,
+    sides: &mut Sides,
 ) -> Result<(Status, usize), AllocError> {
     let mut log = empty_log(alloc);
     let pace = &mut ListPace::new(0);
-    let status = sides.run_talking(rt, alloc, words, &mut port, talk, pace, &mut log)?;
+    let status = sides.run_talking(rt, alloc, words, port, talk, pace, &mut log)?;
     Ok((status, log.lines.len()))
 }
 

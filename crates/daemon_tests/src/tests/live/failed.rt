@@ -11,6 +11,7 @@ use super::blocks::blocks_of;
 use super::events::count_of;
 use super::sides::Sides;
 use client_state::Commit;
+use link_daemon::Status;
 use link_live::Report;
 use link_node::Event;
 use lk_base::Timeline;
@@ -521,8 +522,8 @@ fn outcome_of<R: Threads + Wait + Sync>(
     second: &Cause,
 ) -> Result<Outcome, AllocError> {
     let port = port_of(alloc, first, second)?;
-    let sides = sides_of(alloc, first, second)?;
-    run_over(rt, alloc, words_of(first, second), port, sides)
+    let mut sides = sides_of(alloc, first, second)?;
+    run_over(rt, alloc, words_of(first, second), port, &mut sides)
 }
 
 fn run_over<R: Threads + Wait + Sync>(
@@ -530,17 +531,21 @@ fn run_over<R: Threads + Wait + Sync>(
     alloc: Global,
     words: &str,
     port: ListPort,
-    mut sides: Sides,
+    sides: &mut Sides,
 ) -> Result<Outcome, AllocError> {
     let (status, port) = sides.run_held(rt, alloc, words, port)?;
+    Ok(outcome_in(status, sides, port.posts().len()))
+}
+
+fn outcome_in(status: Status, sides: &Sides, posts: usize) -> Outcome {
     let text = sides.out.bytes();
-    Ok(Outcome {
+    Outcome {
         status: status.number(),
         written: text.len() as u64,
         is_front: SUMMARY.starts_with(text) || text.starts_with(SUMMARY),
-        counts: counts_of(&sides.report, port.posts().len()),
+        counts: counts_of(&sides.report, posts),
         are_own: sides.report.events.iter().all(|event| is_own(event)),
-    })
+    }
 }
 
 const SUMMARY: &[u8] = b"# live ";

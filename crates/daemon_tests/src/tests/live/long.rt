@@ -1,18 +1,18 @@
-//! Ten minutes of ten peers, which the journal holds whole; and a journal that doesn't hold a run.
+//! Ten minutes of ten peers, which the journal holds whole.
 
 ghost use Rattle.std.specs.Prelude.{All, IfOk, IfSome};
 ghost use Rattle.lk_outside.specs.Coming.{IsToCome};
 
 use super::counts::miscounted;
 use super::peers::{coming, endpoint_of, fields_of, id_of};
-use super::sides::{Sides, quiet_port, sides_over};
+use super::sides::{Sides, sides_over};
 use asdp_messages::{write_alive, write_ping_message, write_pong_message, write_response};
 use link_daemon::Status;
 use link_live::Report;
 use link_node::Event;
 use link_payload::PingFields;
 use lk_base::Wire;
-use lk_outside::{Arrival, ListPace, ListPort};
+use lk_outside::{Arrival, ListPort};
 use std::alloc::{AllocError, Global};
 use std::process::Abort;
 use std::sync::Wait;
@@ -25,22 +25,11 @@ const STEPS: u32 = 24_000;
 const SCRIPT: &[u8] =
     b"link 1\nsetup 500000 1\ngate 127.0.0.1:20808\nto 127.0.0.1:20809\nat 0 look\n";
 
-/// A tick, three commits and an end are five events.
-const COMMITS: &[u8] = b"link 1\nsetup 500000 1\ngate 127.0.0.1:20808\nto 127.0.0.1:20809\n\
-    at 1000000 tempo 250000\nat 1000000 tempo 250000\nat 1000000 tempo 250000\n";
-
 #[test]
 fn ten_minutes_of_ten_peers_are_taken_whole(rt: HostRuntime) -> Result<(), Fail> {
-    let port = port_of_ten(rt.alloc())?;
     let mut sides = sides_over(rt.alloc(), SCRIPT, 30_000)?;
-    let port = held_to_its_end(&rt, rt.alloc(), &mut sides, port)?;
-    let found = miscounted(rt.alloc(), port.given(), &sides.report.events);
-    assert_eq!(rt;
-        found,
-        Ok(None),
-        "bytes, how often the port gave them, and how often they were taken"
-    );
-    assert!(rt; is_whole(&port, &sides.report));
+    let port = held_to_its_end(&rt, rt.alloc(), &mut sides)?;
+    expect_whole(&rt, rt.alloc(), &port, &sides.report);
     Ok(())
 }
 
@@ -49,11 +38,21 @@ fn held_to_its_end<R: Threads + Wait + Sync + Abort>(
     rt: &R,
     alloc: Global,
     sides: &mut Sides,
-    port: ListPort,
 ) -> Result<ListPort, AllocError> {
+    let port = port_of_ten(alloc)?;
     let (status, port) = sides.run_held(rt, alloc, "live", port)?;
-    assert_eq!(rt; status, Status::Done);
+    assert!(rt; status == Status::Done);
     Ok(port)
+}
+
+fn expect_whole<'a>(rt: &impl Abort, alloc: Global, port: &'a ListPort, report: &'a Report) {
+    let found = miscounted(alloc, port.given(), &report.events);
+    assert_eq!(rt;
+        found,
+        Ok(None),
+        "bytes, how often the port gave them, and how often they were taken"
+    );
+    assert!(rt; is_whole(port, report));
 }
 
 fn port_of_ten(alloc: Global) -> Result<ListPort, AllocError> {
@@ -66,25 +65,6 @@ fn is_whole(port: &ListPort, report: &Report) -> bool {
         && port.given().len() == 59_220
         && are_taken(port.given(), &report.events)
         && report.plays.len() == 30_000
-}
-
-#[test]
-fn a_journal_of_three_events_takes_three(rt: HostRuntime) -> Result<(), Fail> {
-    let mut sides = sides_over(rt.alloc(), COMMITS, 2)?;
-    let status = status_of_three(&rt, rt.alloc(), &mut sides)?;
-    assert!(rt; status == Status::Events && sides.report.events.len() == 3);
-    Ok(())
-}
-
-// How a run ends whose journal takes three events.
-fn status_of_three<R: Threads + Wait + Sync>(
-    rt: &R,
-    alloc: Global,
-    sides: &mut Sides,
-) -> Result<Status, AllocError> {
-    let mut port = quiet_port(alloc, 10)?;
-    let mut pace = ListPace::new(0);
-    sides.run(rt, alloc, "live --events 3", &mut port, &mut pace)
 }
 
 // Whether the arrivals that a port has given are the datagrams of a journal, in order and no others.

@@ -191,9 +191,14 @@ impl<'a> Pace for Lines<'a> {
 
 #[test]
 fn the_loops_overlap(rt: HostRuntime) -> Result<(), Fail> {
-    let mut sides = sides_of_rounds(rt.alloc())?;
-    assert!(rt; go_in_rounds(&rt, rt.alloc(), &mut sides)?);
+    let overlap = overlap(&rt, rt.alloc())?;
+    assert!(rt; overlap);
     Ok(())
+}
+
+fn overlap<R: Threads + Wait + Sync>(rt: &R, alloc: Global) -> Result<bool, AllocError> {
+    let mut sides = sides_of_rounds(alloc)?;
+    go_in_rounds(rt, alloc, &mut sides)
 }
 
 fn sides_of_rounds(alloc: Global) -> Result<Sides, AllocError> {

@@ -69,13 +69,19 @@ const CASES: &[Case] = &[
 fn a_run_tells_how_much_there_was_and_its_last_state(rt: HostRuntime) -> Result<(), Fail> {
     for case in CASES {
         let (words, commits) = (case.words, case.commits);
-        let mut sides = sides_over(rt.alloc(), case.script, 2)?;
-        assert!(rt;
-            is_told_and_replayed(&rt, rt.alloc(), case, &mut sides)?,
-            "{words}, {commits}"
-        );
+        let told = is_right(&rt, rt.alloc(), case)?;
+        assert!(rt; told, "{words}, {commits}");
     }
     Ok(())
+}
+
+fn is_right<R: Threads + Wait + Sync>(
+    rt: &R,
+    alloc: Global,
+    case: &Case,
+) -> Result<bool, AllocError> {
+    let mut sides = sides_over(alloc, case.script, 2)?;
+    is_told_and_replayed(rt, alloc, case, &mut sides)
 }
 
 // Whether a run by these words is told as the script has it, and its record is replayed to what it told.
@@ -155,13 +161,18 @@ fn events_told(events: &[Event]) -> &'static [u8] {
 
 #[test]
 fn a_look_is_shown_what_was_committed_before(rt: HostRuntime) -> Result<(), Fail> {
-    let mut sides = sides_over(rt.alloc(), LOOKING, 2)?;
-    assert!(rt; looks_last(&rt, rt.alloc(), &mut sides)?);
+    let shown = looks_last(&rt, rt.alloc())?;
+    assert!(rt; shown);
     Ok(())
 }
 
 // Whether a run ends with a look, the third capture, that is shown all.
-fn looks_last<R: Threads + Wait + Sync>(
+fn looks_last<R: Threads + Wait + Sync>(rt: &R, alloc: Global) -> Result<bool, AllocError> {
+    let mut sides = sides_over(alloc, LOOKING, 2)?;
+    looks_last_over(rt, alloc, &mut sides)
+}
+
+fn looks_last_over<R: Threads + Wait + Sync>(
     rt: &R,
     alloc: Global,
     sides: &mut Sides,

@@ -14,7 +14,7 @@ pub returns : goal.returns
 returns g c =
     let at = c.args.devices.now.opened_at in
     let stored : to_z w64 (of_z w64 at) ≡ at = to_z-of_z w64 at (moment_fits at c.args.devices.now.moment) in
-    let given = c.in-Ok.ensures.given in
+    let given = c.in-Ok-new.ensures.given in
     let ends = c.play_parts.ensures.ends in
     record {
       ends = inr (

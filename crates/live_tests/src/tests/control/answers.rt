@@ -76,8 +76,7 @@ const COUNTS: &[(u16, &[u8], Served, u16)] = &[
 // Fails where a session ended or was answered otherwise, or has another line logged than these.
 fn expect_session(rt: &impl Abort, session: &Session, end: Served, answers: &[u8], lines: usize) {
     assert_eq!(rt; session.talk.bytes(), answers);
-    assert_eq!(rt; session.end, end);
-    assert_eq!(rt; session.log.lines.len(), lines);
+    assert!(rt; session.end == end && session.log.lines.len() == lines);
 }
 
 // A row's answers, however many bytes a read gives.

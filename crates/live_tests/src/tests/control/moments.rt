@@ -37,19 +37,19 @@ const ROWS: &[(i64, [i64; 4])] = &[
 // Fails where the lines of a log have other moments, or something else than the second and the third one a commit, which are numbered
 // from 1 and start to play at their own moment.
 fn expect_log(rt: &impl Abort, late: i64, log: &[LineLog], moments: &[i64; 4]) {
-    assert_eq!(rt; log.len(), 4, "{late}");
+    let mut right = log.len() == 4;
     for (k, (line, moment)) in log.iter().zip(moments).enumerate() {
-        assert_eq!(rt; line.moment, *moment, "{late} {k}");
-        expect_commit(rt, k as u64, line);
+        right = is_right(k as u64, line, *moment) & right;
     }
+    assert!(rt; right, "{late}");
 }
 
-fn expect_commit(rt: &impl Abort, k: u64, line: &LineLog) {
-    let right = match line.commit {
-        Some((number, commit)) => number == k && is_start(&commit, line.moment),
-        None => k == 0 || k == 3,
-    };
-    assert!(rt; right, "{k}");
+fn is_right(k: u64, line: &LineLog, moment: i64) -> bool {
+    line.moment == moment
+        && match line.commit {
+            Some((number, commit)) => number == k && is_start(&commit, moment),
+            None => k == 0 || k == 3,
+        }
 }
 
 // Whether a commit is made at a moment, and starts to play then.

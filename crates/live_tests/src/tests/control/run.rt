@@ -166,14 +166,16 @@ fn expect_row<R: Threads + Wait + Sync + Abort>(rt: &R, alloc: Global, row: &Row
     let mut talk = talk_of(rt, alloc, row.sent, 512, 40_000, row.talk);
     let mut log = SessionLog::new(alloc).expect(rt, "memory for a log");
     let run = run_on(rt, alloc, row.most, row.port, &mut talk, &mut log);
-    assert_eq!(rt; talk.bytes(), row.answers);
-    expect_told(rt, &run, log.lines.len(), row.end, row.told);
+    expect_told(rt, &run, talk.bytes(), log.lines.len(), row);
 }
 
-// Fails where a run ended otherwise, or told something else.
-fn expect_told(rt: &impl Abort, run: &ControlRun, lines: usize, end: ControlEnd, told: &str) {
-    assert_eq!(rt; run.end, end);
-    assert_eq!(rt; tell(run, lines).as_slice(), told.as_bytes(), "{end:?}");
+// Fails where a run ended otherwise, answered otherwise, or told something else.
+fn expect_told(rt: &impl Abort, run: &ControlRun, answers: &[u8], lines: usize, row: &Row) {
+    let (end, told) = (row.end, row.told);
+    let right = run.end == end
+        && answers == row.answers
+        && tell(run, lines).as_slice() == told.as_bytes();
+    assert!(rt; right, "{end:?}{told}");
 }
 
 // As many commits as lines are answered: the queue of a link holds a sixteenth of them.

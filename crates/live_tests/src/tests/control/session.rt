@@ -125,12 +125,8 @@ fn served_over<N: LinkName, R: Wait>(
     requires opened { IsSome (opened_of talk.old) }
     requires log { (log.old.lines.items ≡ []) × (4_096 ≤ vec_capacity log.old.lines) }
 {
-    let Opened {
-        link,
-        mut hub,
-        mut app,
-        ..
-    } = Link::<Triple<11>, N>::make(parts);
-    let _turned = hub.turn(rt, &link, &(), 0, heard, sends);
-    serve(rt, alloc, &link, &(), &mut app, talk, pace, log)
+    let mut opened = Link::<Triple<11>, N>::make(parts);
+    let Opened { link, hub, app, .. } = &mut opened;
+    let _turned = hub.turn(rt, link, &(), 0, heard, sends);
+    serve(rt, alloc, link, &(), app, talk, pace, log)
 }

@@ -85,13 +85,10 @@ fn played_over<C: StateCell<11, Way = ()>, N: LinkName>(
     requires few { length script.now.blocks.items ≤ 99 }
     requires ready { IsReady script.now row.now.blocks room.old }
 {
-    let Opened {
-        link,
-        mut audio,
-        ..
-    } = Link::<C, N>::make(parts);
-    commit_before(&link, &mut audio, row.commits);
-    play(&link, &mut audio, row, script, room, device)
+    let mut opened = Link::<C, N>::make(parts);
+    let Opened { link, audio, .. } = &mut opened;
+    commit_before(link, audio, row.commits);
+    play(link, audio, row, script, room, device)
 }
 
 fn play<C: StateCell<11, Way = ()>, N: LinkName>(

@@ -33,42 +33,51 @@ pub fn fill_queue<C: StateCell<11>, N: LinkName, R: Wait + Abort>(
         second,
         ..
     } = bench;
-    assert_eq!(rt; (first.room(), second.room()), (65_534, 0));
-    let opening = OPENED;
-    let last = state_of(257, 0, start_at(301), 301);
-    expect_capture(rt, alloc, way, link, first, 0, &opening, &opening);
-    expect_capture(rt, alloc, way, link, second, 0, &opening, &opening);
+    expect_rooms(rt, first, second);
+    expect_both(rt, alloc, way, link, first, second, &OPENED);
     push_all(rt, link, first);
-    expect_capture(
-        rt,
-        alloc,
-        way,
-        link,
-        first,
-        0,
-        &opening,
-        &shown_with(&opening, 256),
-    );
-    expect_taken(rt, way, link, network);
-    expect_commit(rt, link, first, 301, 257);
+    let shown = shown_with(&OPENED, 256);
+    expect_capture(rt, alloc, way, link, first, &OPENED, &shown);
     take_all(rt, alloc, way, link, first, network);
-    expect_capture(rt, alloc, way, link, first, 257, &last, &last);
-    expect_capture(rt, alloc, way, link, second, 257, &last, &last);
+    let last = state_of(257, 0, start_at(301), 301);
+    expect_both(rt, alloc, way, link, first, second, &last);
 }
 
-/// A capture is of the state that so many commits were taken for, each in a state of its own, and shows this.
+fn expect_rooms<C: StateCell<11>, N: LinkName>(
+    rt: &impl Abort,
+    first: &AppPass<C, N>,
+    second: &AppPass<C, N>,
+) {
+    assert!(rt; first.room() == 65_534);
+    assert!(rt; second.room() == 0);
+}
+
+/// Both passes capture this state, and show no commit over it.
+fn expect_both<C: StateCell<11>, N: LinkName, R: Wait + Abort>(
+    rt: &R,
+    alloc: Global,
+    way: &C::Way,
+    link: &Link<C, N>,
+    first: &mut AppPass<C, N>,
+    second: &mut AppPass<C, N>,
+    state: &State,
+) {
+    expect_capture(rt, alloc, way, link, first, state, state);
+    expect_capture(rt, alloc, way, link, second, state, state);
+}
+
+/// A capture is of this state and shows that. Its number is that of the commits that it has taken, each in a state of its own.
 fn expect_capture<C: StateCell<11>, N: LinkName, R: Wait + Abort>(
     rt: &R,
     alloc: Global,
     way: &C::Way,
     link: &Link<C, N>,
     pass: &mut AppPass<C, N>,
-    taken: u64,
     state: &State,
     shown: &State,
 ) {
     let wanted = Capture {
-        number: taken,
+        number: state.app,
         state: *state,
         shown: *shown,
     };
@@ -83,7 +92,7 @@ fn expect_taken<C: StateCell<11>, N: LinkName, R: Wait + Abort>(
     network: &mut Network<C, N>,
 ) {
     let turned = network.turn(rt, link, way, 0, Got::Nothing);
-    assert_eq!(rt; turned, TAKEN);
+    assert!(rt; turned == TAKEN);
 }
 
 /// The commit that is made at a time has a number.
@@ -94,7 +103,8 @@ fn expect_commit<C: StateCell<11>, N: LinkName, R: Wait + Abort>(
     time: u16,
     number: u64,
 ) {
-    assert_eq!(rt; link.commit(rt, pass, edit(time)), Ok(number));
+    let told = link.commit(rt, pass, edit(time));
+    assert!(rt; told == Ok(number), "{number}");
 }
 
 fn push_all<C: StateCell<11>, N: LinkName, R: Wait + Abort>(
@@ -105,11 +115,21 @@ fn push_all<C: StateCell<11>, N: LinkName, R: Wait + Abort>(
     for number in 1..257u16 {
         expect_commit(rt, link, pass, number, u64::from(number));
     }
-    let busy = Err(Busy { commit: edit(300) });
-    assert_eq!(rt; link.commit(rt, pass, edit(300)), busy);
-    assert_eq!(rt; link.quit(rt), Err(QueueFull));
+    expect_full(rt, link, pass);
 }
 
+/// A commit comes back, and a quit finds no room.
+fn expect_full<C: StateCell<11>, N: LinkName, R: Wait + Abort>(
+    rt: &R,
+    link: &Link<C, N>,
+    pass: &mut AppPass<C, N>,
+) {
+    let busy = Busy { commit: edit(300) };
+    let back = link.commit(rt, pass, edit(300)) == Err(busy);
+    assert!(rt; back && link.quit(rt) == Err(QueueFull));
+}
+
+/// A turn takes the first commit, and so makes room for one more. Further turns take all others, in each state of which that one is shown.
 fn take_all<C: StateCell<11>, N: LinkName, R: Wait + Abort>(
     rt: &R,
     alloc: Global,
@@ -118,22 +138,21 @@ fn take_all<C: StateCell<11>, N: LinkName, R: Wait + Abort>(
     pass: &mut AppPass<C, N>,
     network: &mut Network<C, N>,
 ) {
+    expect_taken(rt, way, link, network);
+    expect_commit(rt, link, pass, 301, 257);
     let mut state = OPENED;
     for taken in 1..257u16 {
-        state = shown_with(&state, taken);
-        state.app = u64::from(taken);
-        expect_capture(
-            rt,
-            alloc,
-            way,
-            link,
-            pass,
-            u64::from(taken),
-            &state,
-            &shown_with(&state, 301),
-        );
+        state = taken_in(&state, taken);
+        expect_capture(rt, alloc, way, link, pass, &state, &shown_with(&state, 301));
         expect_taken(rt, way, link, network);
     }
+}
+
+/// The state that has taken so many commits, the last of which is made at that time.
+fn taken_in(state: &State, taken: u16) -> State {
+    let mut taken_in = shown_with(state, taken);
+    taken_in.app = u64::from(taken);
+    taken_in
 }
 
 /// That many commits are pushed, and a turn takes each before the next one. The last state has taken all.
@@ -154,5 +173,5 @@ pub fn push_many<C: StateCell<11>, N: LinkName, R: Wait + Abort>(
         expect_taken(rt, way, link, network);
     }
     let last = state_of(COMMITS, 0, start_at(1), 1);
-    expect_capture(rt, alloc, way, link, first, COMMITS, &last, &last);
+    expect_capture(rt, alloc, way, link, first, &last, &last);
 }

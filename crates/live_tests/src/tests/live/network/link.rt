@@ -3,6 +3,7 @@
 ghost use Rattle.std.specs.Prelude.{◌≡◌, true};
 ghost use Rattle.lk_base.specs.Ranges.{IsMoment};
 ghost use Rattle.lk_outside.specs.ListPort.{bound_of};
+ghost use Rattle.client_state.specs.Commit.{IsTidyCommit};
 ghost use Rattle.link_node.specs.Config.{config_value, IsConfig};
 ghost use Rattle.link_live.specs.Network.{locals_of};
 
@@ -11,6 +12,7 @@ use super::given::{Given, bind, commit_of, is_app_commit, most_of, opening_of, p
 use super::told::{Told, tell};
 use super::watch::{Untils, Watch};
 use audio_handoff::StateCell;
+use client_state::Commit;
 use link_live::network_loop;
 use link_node::{Config, Sends};
 use link_shared::{AppPass, AudioPass, Link, LinkName, Opened, Parts};
@@ -63,14 +65,15 @@ fn told_of<C: StateCell<11>, N: LinkName, R: Wait + Abort>(
     requires ledger { (parts.ledger ≡ N.name) × (parts.shares ≡ N.parts) × (N.whole ≡ N.parts) }
     requires gates { bound ≡ true → bound_of watch.old.port ≡ locals_of parts.config }
 {
+    let mut opened = Link::<C, N>::make(parts);
     let Opened {
         link,
-        mut hub,
-        mut audio,
-        mut app,
-    } = Link::<C, N>::make(parts);
-    fill(rt, way, &link, &mut audio, &mut app, given);
-    let end = network_loop(rt, &mut hub, &link, way, watch, bound, sends);
+        hub,
+        audio,
+        app,
+    } = &mut opened;
+    fill(rt, way, link, audio, app, given);
+    let end = network_loop(rt, hub, link, way, watch, bound, sends);
     tell(hub.journal(), watch, end, opening_of(given))
 }
 
@@ -83,22 +86,36 @@ fn fill<C: StateCell<11>, N: LinkName, R: Wait + Abort>(
     app: &mut AppPass<C, N>,
     given: &Given,
 ) {
-    let opening = opening_of(given);
     let mut quits = false;
     let mut fits = true;
     let mut place = 0u16;
     for letter in given.queue {
-        let commit = commit_of(*letter, place, opening);
-        if is_app_commit(*letter) {
-            fits = link.commit(rt, app, commit).is_ok() & fits;
-        } else if *letter == b'u' && !link.audio_spent(audio) {
-            let _number = link.commit_audio(way, audio, &commit);
-        } else if *letter == b'q' {
-            quits = link.quit(rt).is_ok();
-            fits = quits & fits;
-        }
+        let commit = commit_of(*letter, place, opening_of(given));
+        fits = push(rt, way, link, audio, app, *letter, commit) & fits;
+        quits = quits | (*letter == b'q');
         place = place.wrapping_add(1);
     }
     // Without a quit the loop has no end.
     assert!(rt; quits & fits);
+}
+
+// Makes the commit of a letter, or asks the loop to end. Answers whether it found room.
+fn push<C: StateCell<11>, N: LinkName, R: Wait>(
+    rt: &R,
+    way: &C::Way,
+    link: &Link<C, N>,
+    audio: &mut AudioPass<C, N>,
+    app: &mut AppPass<C, N>,
+    letter: u8,
+    commit: Commit,
+) -> bool
+    requires { IsTidyCommit commit }
+{
+    if is_app_commit(letter) {
+        return link.commit(rt, app, commit).is_ok();
+    }
+    if letter == b'u' && !link.audio_spent(audio) {
+        let _number = link.commit_audio(way, audio, &commit);
+    }
+    letter != b'q' || link.quit(rt).is_ok()
 }

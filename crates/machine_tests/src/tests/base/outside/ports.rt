@@ -4,7 +4,6 @@ ghost use Rattle.std.specs.Prelude.{All, IfOk};
 ghost use Rattle.lk_base.specs.Ranges.{IsMoment};
 ghost use Rattle.lk_outside.specs.Coming.{IsToCome};
 
-use crate::tests::expect;
 use lk_base::{Endpoint, Gate, Wire};
 use lk_outside::Posted::Sent;
 use lk_outside::{Arrival, BIND, Bound, ListPort, Port, Post, Posted, RECEIVE, SEND};
@@ -310,61 +309,50 @@ fn expect_run(
 
 fn play(rt: &impl Abort, port: &mut ListPort, steps: &[Step]) {
     for (k, step) in steps.iter().enumerate() {
-        take(rt, port, k, step);
+        let right = is_right(port, step);
+        assert!(rt; right, "step {k}");
     }
 }
 
-fn take(rt: &impl Abort, port: &mut ListPort, k: usize, step: &Step) {
+// Whether what has to come of a step comes of it. Nothing is received or sent without gates.
+fn is_right(port: &mut ListPort, step: &Step) -> bool {
     match step {
-        Step::Bind(gates, bound, after) => expect_bind(rt, port, gates, *bound, after),
-        Step::Receive(told) => expect_receive(rt, port, k, told),
-        Step::Send(bytes, posted) => expect_send(rt, port, bytes, *posted),
-        Step::Counts(given, posts, faults) => {
-            let counts = (port.given().len(), port.posts().len(), port.fault_count());
-            expect(rt, &k, &counts, &(*given, *posts, *faults));
+        Step::Bind(gates, bound, after) => binds(port, gates) == *bound && has_gates(port, after),
+        Step::Receive(told) => !port.gates().is_empty() && told_by(&port.receive(0)) == *told,
+        Step::Send(bytes, posted) => {
+            !port.gates().is_empty() && port.send(Gate(0), AWAY, bytes) == *posted
         }
-        Step::Posts(wanted) => expect_posts(rt, port, wanted),
+        Step::Counts(given, posts, faults) => {
+            port.given().len() == *given
+                && port.posts().len() == *posts
+                && port.fault_count() == *faults
+        }
+        Step::Posts(wanted) => are_posts(port.posts(), wanted),
     }
 }
 
-fn expect_receive(rt: &impl Abort, port: &mut ListPort, k: usize, told: &Told) {
-    assert!(rt; !port.gates().is_empty());
-    expect(rt, &k, &told_by(&port.receive(0)), told);
-}
-
-fn expect_send(rt: &impl Abort, port: &mut ListPort, bytes: &[u8], posted: Posted) {
-    assert!(rt; !port.gates().is_empty());
-    expect(rt, &bytes, &port.send(Gate(0), AWAY, bytes), &posted);
-}
-
-fn expect_bind(
-    rt: &impl Abort,
-    port: &mut ListPort,
-    gates: &[Endpoint],
-    bound: Bound,
-    after: &[Endpoint],
-) {
-    assert!(rt; 1 <= gates.len() && gates.len() <= 4);
-    let found = port.bind(gates);
-    expect(rt, &"bind", &found, &bound);
-    expect_gates(rt, port, after);
-}
-
-fn expect_gates(rt: &impl Abort, port: &ListPort, after: &[Endpoint]) {
-    expect(rt, &"gates", &port.gates(), &after);
-}
-
-fn expect_posts(rt: &impl Abort, port: &ListPort, wanted: &[&[u8]]) {
-    expect(rt, &"posts", &port.posts().len(), &wanted.len());
-    for (post, bytes) in port.posts().iter().zip(wanted) {
-        expect_post(rt, post, bytes);
+fn binds(port: &mut ListPort, gates: &[Endpoint]) -> Bound {
+    if gates.is_empty() || gates.len() > 4 {
+        return Bound::Failed;
     }
+    port.bind(gates)
 }
 
-fn expect_post(rt: &impl Abort, post: &Post, bytes: &[u8]) {
-    expect(rt, &"gate", &post.gate, &Gate(0));
-    expect(rt, &"end", &post.to, &AWAY);
-    expect(rt, &"post", &post.bytes.as_slice(), &bytes);
+fn has_gates(port: &ListPort, gates: &[Endpoint]) -> bool {
+    port.gates() == gates
+}
+
+// Whether these datagrams were posted, each from the gate 0.
+fn are_posts(posts: &[Post], wanted: &[&[u8]]) -> bool {
+    let mut right = posts.len() == wanted.len();
+    for (post, bytes) in posts.iter().zip(wanted) {
+        right = is_post(post, bytes) & right;
+    }
+    right
+}
+
+fn is_post(post: &Post, bytes: &[u8]) -> bool {
+    post.gate == Gate(0) && post.to == AWAY && post.bytes.as_slice() == bytes
 }
 
 #[test]

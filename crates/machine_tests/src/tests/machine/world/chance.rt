@@ -362,9 +362,10 @@ fn converged_among(rt: &impl Abort, alloc: Global, worlds: u32, apart: bool) -> 
         let mut course = Course::new(alloc, u64::from(seed), apart);
         let world = course.end(alloc).expect(rt, "memory for a world");
         let row = seed as usize;
-        expect(rt, row, &have_origins(&course.made, &world, apart), &true);
-        expect(rt, row, &agree(&course.made, &world), &true);
-        expect(rt, row, &stay_apart(&world, apart), &true);
+        let kept = have_origins(&course.made, &world, apart)
+            && agree(&course.made, &world)
+            && stay_apart(&world, apart);
+        expect(rt, row, &kept, &true);
         let all = have_converged(&course.made, &world, apart);
         converged = u32::wrapping_add(converged, u32::from(all));
     }
