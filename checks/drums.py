@@ -4,13 +4,14 @@
 PROGRAM is jorazhil's own, and DRUMS the drum machine's. The live run's clicks are lines on its standard error, each with its host time. It
 starts to play, and changes its tempo twice between two beats. The drum machine has a stroke on each beat; the onsets in its WAV are found
 by their level alone. The two clocks begin apart, by how much nobody knows: so the onsets have to be where the clicks are, but for one
-distance that all of them share, to within a millisecond; and each click that falls into the WAV has its onset. Its MIDI clock comes 24
-times a beat of the last tempo. Beside a second live run, which stops, the onsets end with the clicks, and a third one, which comes later,
-is started by it. Then a pattern of sixteenths, whose onsets are quarters of a beat apart, from the front of the WAV on, each with a MIDI
-clock, which tells its host time; one that begins with a rest; and the WAV's header. Two drum machines beside each other: what a listener
-hears of them, each with an id of its own, up to their goodbyes; and two that begin within a second. As many destinations as there may be,
-and one that the system refuses. When the first block begins, and when the run ends. A journal that is full before the end. A rehearsal by
-other patterns, which has the stored one's steps; patterns and words at fault, with their statuses and whole texts; and the script `drums`.
+distance that all of them share, to within a millisecond; each click that falls into the WAV has its onset, and each onset its click. Its
+MIDI clock comes 24 times a beat of the last tempo. Beside a second live run, which stops, the onsets end with the clicks, and a third one,
+which comes later, is started by it. Then a pattern of sixteenths, whose onsets are quarters of a beat apart, from the front of the WAV on,
+each with a MIDI clock, which tells its host time; one that begins with a rest; and the WAV's header. Two drum machines beside each other:
+what a listener hears of them, each with an id of its own, up to their goodbyes; and two that begin within a second. As many destinations as
+there may be, and one that the system refuses. When the first block begins, and when the run ends. A journal that is full before the end. A
+rehearsal by other patterns, which has the stored one's steps; patterns and words at fault, with their statuses and whole texts; and the
+script `drums`.
 The last line is 'N passed, N failed'.
 """
 import os
@@ -136,7 +137,7 @@ def session(program, drums):
     for tries in range(3):
         try:
             return one_session(program, drums)
-        except Differs:
+        except (Differs, LookupError):
             if tries == 2:
                 raise
 
