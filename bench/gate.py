@@ -471,7 +471,8 @@ def measured(processors, words, is_anew, old, budgets, whole, yardstick):
     of_run = []
     if is_anew:
         alone = {name: {kind: seconds / slow for kind, seconds in sums.get(name, dict.fromkeys(KINDS, 0.0)).items()} for name in crates()}
-        of_run += [f"By the figures that this page had of all that hasn't changed it would be {by_page:.2f}."] * (by_page is not None)
+        if by_page is not None:
+            of_run.append(f"By the figures that this page had of all that hasn't changed it would be {by_page:.2f}.")
         of_run += [
             f"This run by itself, so divided, took {together / slow:.0f} seconds of all provers and {took / slow / 60:.0f} minutes; reckoned as "
             f"below it is {reckoned(tasks_of(alone), processors) / 60:.0f} minutes."

@@ -32,8 +32,9 @@ TOOL = os.path.join(os.path.dirname(os.path.dirname(os.path.realpath(__file__)))
 LIMIT, LEAST_MPB, MOST_MPB, MOST_LINES = 2**60, 60_060, 3_000_000, 4096
 RANGES = {b"tempo": (LEAST_MPB, MOST_MPB), b"beat": (-LIMIT, LIMIT), b"time": (-LIMIT, LIMIT)}
 COMMITS = ("tempo", "play", "stop")
-# How long the run beside the node under control lives, in microseconds, and how many lines are drawn for that one.
-BESIDE, DRAWN = 5_000_000, 1500
+# How long the run beside the node under control lives, in microseconds, and how many lines are drawn for that one. They are sent long
+# before its end, on a slow machine too, and other runs go on meanwhile.
+BESIDE, DRAWN = 15_000_000, 1500
 # Seconds until which something has to happen, wherever it is waited for.
 PATIENCE = 30
 LISTENS = re.compile(r"^jorazhil: listening for a client at (127\.0\.0\.1:[0-9]+)$", re.M)
