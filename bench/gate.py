@@ -10,8 +10,8 @@ docs/GATE.md, between its two marks: how long the run took, and for each crate t
 tests and its must-fail edits took, with the check that the edits begin with.
 
 They are divided by how slow the machine was: by what the crates of a table of that page, the yardstick, took in the run, over the seconds
-that the table has for them; none of these crates may have changed since the commit that it names. Where a run proves none of them whole,
-what is as it was when the page's figures of it were taken stands for them, over these figures, and where there is none of it, the
+that the table has for them; none of these crates may have changed since the commit that its row names. Where a run proves none of them
+whole, what is as it was when the page's figures of it were taken stands for them, over these figures, and where there is none of it, the
 yardstick's first is proved after the run. Where the page has figures of a commit since which neither the sources of the crate nor of one
 below it changed, nor of edits the crate's, the least of the two counts, since what else is at work on a machine only adds to it, and a
 crate that wasn't proved anew keeps its own.
@@ -23,8 +23,9 @@ for the run itself, where it was from nothing, so that one sees how far such a f
 or a test fails. The commit has to be clean, so that the figures are those of a commit.
 
 With --first it is the first command of README.md alone, which proves and builds the program as for a new user, with as many jobs as that
-finds by itself. Nothing may be built or kept yet. The yardstick's crates are proved and tried after it, one job each, to tell how slow the
-machine was, and a table of first commands gets a row, between its own two marks.
+finds by itself. Nothing may be built or kept yet. How slow the machine was is told by the yardstick's proofs in it, those that it made with
+one job, since two at one proof work more; and, since these come early, by the yardstick's proofs and edits made again behind it. A table of
+first commands gets a row, between its own two marks.
 """
 import heapq
 import os
@@ -102,6 +103,8 @@ class Watch(threading.Thread):
         super().__init__(daemon=True)
         self.top, self.over = top, threading.Event()
         self.found, self.most = {}, 0
+        # The crates whose proof had several jobs.
+        self.shared = set()
 
     def run(self):
         rounds = 0
@@ -126,7 +129,10 @@ class Watch(threading.Thread):
         with open(f"/proc/{pid}/stat", encoding="utf-8", errors="replace") as file:
             rest = file.read().rsplit(")", 1)[1].split()
         taken = (int(rest[11]) + int(rest[12])) / TICK
-        self.found[pid, rest[19]] = (*kind_of(words, os.readlink(f"/proc/{pid}/cwd")), taken)
+        crate, kind = kind_of(words, os.readlink(f"/proc/{pid}/cwd"))
+        self.found[pid, rest[19]] = crate, kind, taken
+        if kind == "proof" and dict(zip(words, words[1:])).get("--jobs") != "1":
+            self.shared.add(crate)
         return True
 
     def sums(self):
@@ -180,22 +186,30 @@ def budgets_of(text):
 
 
 def yardstick_of(text):
-    """The seconds by crate that a table has, and the commit in its head at which they were measured."""
+    """The seconds by crate that a table has for its proof and for its edits. Each row has the commit at which they were measured."""
     rows = [[cell.strip().strip("`") for cell in line.strip().strip("|").split("|")] for line in text.splitlines() if line.startswith("|")]
-    commit = re.search(r"at ([0-9a-f]{7,})", rows[0][1]) if rows and len(rows[0]) == 2 else None
-    if not commit or not rows[2:] or not all(len(row) == 2 and row[1].isdigit() for row in rows[2:]):
-        raise Failed("the yardstick is no table of crates and their seconds, with `at COMMIT` in its head")
-    changed = [name for name, _ in rows[2:] if not is_same(commit[1], name, "edits")]
+    if not rows[2:] or not all(len(row) == 4 and row[1].isdigit() and row[2].isdigit() for row in rows[2:]):
+        raise Failed("the yardstick is no table of crates with the seconds of their proofs, those of their edits, and a commit")
+    changed = [name for name, _, _, commit in rows[2:] if not is_same(commit, name, "edits")]
     if changed:
-        raise Failed(f"these crates of the yardstick changed since {commit[1]}, so they can't be in it: {', '.join(changed)}")
-    return {name: int(seconds) for name, seconds in rows[2:]}
+        raise Failed(f"these crates of the yardstick changed since the commit of their row, so they can't be in it: {', '.join(changed)}")
+    return {name: (int(proof), int(edits)) for name, proof, edits, _ in rows[2:]}
 
 
 def slowness(sums, yardstick):
     """How many times the yardstick's seconds its crates took in a run, those that it proved whole; None where there is none."""
     known = [name for name in yardstick if all(sums.get(name, {}).get(kind) or not has_kind(name, kind) for kind in KINDS)]
     taken = sum(sum(sums[name].values()) for name in known)
-    return taken / sum(yardstick[name] for name in known) if known else None
+    return taken / sum(sum(yardstick[name]) for name in known) if known else None
+
+
+def slowness_around(first, behind, yardstick):
+    """The same by what two watches saw: of a first command the proofs that had one job, and all of a run behind it."""
+    early = {name: taken["proof"] for name, taken in first.sums().items() if name in yardstick and name not in first.shared}
+    late = {name: sum(taken.values()) for name, taken in behind.sums().items() if name in yardstick}
+    of_early, of_late = sum(yardstick[name][0] for name in early), sum(sum(yardstick[name]) for name in late)
+    print(f"gate: in it the yardstick's proofs took {sum(early.values()):.1f} s for {of_early}, and behind it all {sum(late.values()):.1f} for {of_late}")
+    return (sum(early.values()) + sum(late.values())) / (of_early + of_late)
 
 
 def slowness_by_page(sums, old, kinds):
@@ -447,9 +461,8 @@ def refuse_kept(sums, names):
 def first_measured(processors, yardstick):
     """Runs the first command, and returns its row among the first commands."""
     watch, took, worked, *_ = watched(processors, FIRST, FIRST_INPUT)
-    sums = watch.sums()
-    refuse_kept(sums, below(PROGRAM))
-    slow = slowness(watched(processors, ["rt", "ci", "--anew", *yardstick])[0].sums(), yardstick) if yardstick else 1.0
+    refuse_kept(watch.sums(), below(PROGRAM))
+    slow = slowness_around(watch, watched(processors, ["rt", "ci", "--anew", *yardstick])[0], yardstick)
     print(f"gate: the first command took {took:.0f} s, on a machine {slow:.2f} times as slow as the yardstick's")
     return row_of(processors, took, slow, worked, f"{watch.most / 2**30:.1f} GB")
 

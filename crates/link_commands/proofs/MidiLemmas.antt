@@ -14,7 +14,7 @@ use Rattle.link_node.specs.Machine.{Machine}
 use Rattle.link_node.specs.Opening.{opened}
 use Rattle.link_node.specs.Runs.{machine_after, replayed}
 use Rattle.link_node.specs.Step.{step_of}
-use Rattle.link_text.specs.ReplayScript.{IsScriptOf}
+use Rattle.link_script.specs.ReplayScript.{IsScriptOf}
 use Rattle.link_commands.specs.MidiText.{MidiRun, begin_of, blocks_line_of, due_by, midi_events_of, midi_line_of, midi_text_of, part_of, parts_from}
 use Rattle.link_commands.specs.Outlet.{HandsOver, HandsPart}
 use Rattle.link_commands.specs.Replaying.{GoesOn, IsOpened}

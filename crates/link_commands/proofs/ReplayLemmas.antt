@@ -11,7 +11,7 @@ use Rattle.link_node.specs.declared.event.Change.{Change}
 use Rattle.link_node.specs.Machine.{Machine}
 use Rattle.link_node.specs.Runs.{published_by, published_of, sent_by, sent_of, shown_by}
 use Rattle.link_node.specs.Step.{step_of, sends_of, change_of}
-use Rattle.link_text.specs.ReplayScript.{SaysSome}
+use Rattle.link_script.specs.ReplayScript.{SaysSome}
 use Rattle.link_text.specs.ReplayText.{event_text_of, events_text_of, published_in, sending_line_of, states_text_of, state_line_of, done_line_of, replay_text_of}
 use Rattle.link_commands.specs.Outlet.{HandsOver, HandsPart}
 use Rattle.link_commands.specs.Replaying.{GoesOn, IsOpened}

@@ -7,7 +7,7 @@ use Rattle.link_node.specs.Opening.{opened}
 use Rattle.link_node.specs.Runs.{AreFitting}
 use Rattle.link_node.specs.Step.{step_of}
 use Rattle.link_lines.specs.Lines.{lines_of, counting_in}
-use Rattle.link_text.specs.ReplayScript.{AreEventLines, IsChecked, SaysFrom, SaysSome}
+use Rattle.link_script.specs.ReplayScript.{AreEventLines, IsChecked, SaysFrom, SaysSome}
 use Rattle.link_commands.specs.Replaying.{GoesOn, IsOpened}
 
 -- ---- what the text says from a place on

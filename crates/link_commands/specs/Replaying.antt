@@ -7,7 +7,7 @@ use Rattle.link_node.specs.Machine.{Machine}
 use Rattle.link_node.specs.Opening.{opened}
 use Rattle.link_node.specs.Standing.{StandsFor, gates_of, app_of, audio_of}
 use Rattle.link_node.specs.declared.node.Node.{Node}
-use Rattle.link_text.specs.ReplayScript.{IsScriptOf, SaysFrom}
+use Rattle.link_script.specs.ReplayScript.{IsScriptOf, SaysFrom}
 
 -- the node stands for the machine, and the text says from the place on these events, which the node can take
 pub record GoesOn (Stands : Machine → Type 0) (gates app audio : ℕ) (text : List ℕ) (at : ℕ) (m : Machine) (es : List EventValue) : Type 0 where

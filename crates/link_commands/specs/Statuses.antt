@@ -9,7 +9,7 @@ use Rattle.lk_outside.specs.Transfer.{ReadsWhole, TakesOver, TakesWithin, Append
 use Rattle.link_node.specs.Config.{ConfigValue}
 use Rattle.link_node.specs.Event.{EventValue}
 use Rattle.link_text.specs.Load.{IsLoadText}
-use Rattle.link_text.specs.ReplayScript.{IsScriptOf, IsNoScript, IsFirstFault}
+use Rattle.link_script.specs.ReplayScript.{IsScriptOf, IsNoScript, IsFirstFault}
 use Rattle.link_text.specs.ReplayText.{replay_text_of}
 use Rattle.link_commands.specs.HexLines.{IsFirstBadLine}
 use Rattle.link_commands.specs.DecodeText.{IsDecodeText}

@@ -8,7 +8,7 @@ use Rattle.client_state.specs.declared.state.State.{State}
 use Rattle.link_shared.specs.declared.capture.Capture.{Capture}
 use Rattle.link_live.specs.Clients.{commit_of_act}
 use Rattle.link_text.specs.declared.control_line.ControlLine.{ControlLine}
-use Rattle.link_text.specs.declared.live_script.Act.{Act}
+use Rattle.link_script.specs.declared.live_script.Act.{Act}
 use Rattle.link_control.specs.Answers.{answer_of, answers_of}
 use Rattle.link_control.specs.Log.{Answered, Numbered, act_asked, captured_over, commits_in, entries_of, entry_of, own_after, own_behind, put_before}
 use Rattle.link_control.specs.ServingNow.{number_of}

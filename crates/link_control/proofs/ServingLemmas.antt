@@ -15,7 +15,7 @@ use Rattle.lk_outside.specs.Pace.{IsPaced}
 use Rattle.lk_outside.specs.Sink.{Appends}
 use Rattle.link_text.specs.ControlLine.{IsAsked}
 use Rattle.link_text.specs.declared.control_line.ControlLine.{ControlLine}
-use Rattle.link_text.specs.declared.live_script.Act.{Act}
+use Rattle.link_script.specs.declared.live_script.Act.{Act}
 use Rattle.link_live.specs.Clients.{commit_of_act}
 use Rattle.link_control.specs.Answers.{answer_of, answers_of}
 use Rattle.link_control.specs.Lines.{whole_lines_of}

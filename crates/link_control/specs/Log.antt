@@ -7,8 +7,8 @@ use Rattle.client_state.specs.declared.commit.Commit.{Commit}
 use Rattle.link_shared.specs.declared.capture.Capture.{Capture}
 use Rattle.link_text.specs.declared.control_line.ControlLine.{ControlLine}
 use Rattle.link_text.specs.declared.control_line.ControlLine.TheVariants.{Status, Tempo, Play, Stop, Beat, Time}
-use Rattle.link_text.specs.declared.live_script.Act.{Act}
-use Rattle.link_text.specs.declared.live_script.Act.TheVariants as act
+use Rattle.link_script.specs.declared.live_script.Act.{Act}
+use Rattle.link_script.specs.declared.live_script.Act.TheVariants as act
 use Rattle.link_live.specs.Clients.{apps_taken, commit_of_act}
 use Rattle.link_control.specs.declared.log.LineLog.{LineLog}
 

@@ -1,12 +1,2 @@
-mod StatusLemmas
-mod FaultLineLemmas
-mod CauseLemmas
-mod CourseLemmas
-mod ControlCourseLemmas
-mod ScriptStatusLemmas
-mod LiveStatusLemmas
-mod ControlStatusLemmas
-mod OneStatusLemmas
-mod ValidRunLemmas
-mod ValidInputLemmas
+pub mod StatusLemmas
 mod ControlLemmas

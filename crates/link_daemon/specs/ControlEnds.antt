@@ -11,7 +11,7 @@ use Rattle.lk_base.specs.declared.endpoint.Endpoint.{Endpoint}
 use Rattle.lk_outside.specs.Port.{PortContents}
 use Rattle.lk_outside.specs.Transfer.{TakesWithin}
 use Rattle.link_text.specs.LiveHead.{IsHeadText}
-use Rattle.link_text.specs.LiveScript.{commands_told}
+use Rattle.link_script.specs.LiveScript.{commands_told}
 use Rattle.link_live.specs.Report.{IsCleared, ReportValue}
 use Rattle.link_control.specs.ControlRun.{ControlSetup, EndsControlRun}
 use Rattle.link_control.specs.Serving.{TalkSeen, seen_talk}

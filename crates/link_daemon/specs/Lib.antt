@@ -2,5 +2,3 @@ pub mod ControlSetup
 pub mod AllSeen
 pub mod ControlEnds
 pub mod Ends
-pub mod OneStatus
-pub mod ValidInput

@@ -3,7 +3,7 @@
 ghost use Rattle.std.specs.Prelude.{◌≡◌, ◌≤◌, [], map, IfOk};
 ghost use Rattle.lk_base.specs.Ranges.{IsQuantum};
 ghost use Rattle.link_node.specs.Config.{config_value, gate_value};
-ghost use Rattle.link_text.specs.LiveScript.{IsLiveHead};
+ghost use Rattle.link_script.specs.LiveScript.{IsLiveHead};
 ghost use Rattle.link_live.specs.Report.{report_value};
 ghost use Rattle.link_control.specs.ControlRun.{IsReady, told_of};
 ghost use Rattle.link_commands.specs.Statuses.{seen};

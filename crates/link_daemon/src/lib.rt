@@ -2,16 +2,14 @@
 //! the real things that a program reads from and writes to.
 //!
 //! In reading order: `top` (the top call), `control` (the command `control`, over the run of `link_control`), `usage_text` (what is told
-//! of words that are no command); last `laws`.
+//! of words that are no command).
 #![tactic(auto)]
 
 mod control;
-mod laws;
 mod top;
 mod usage_text;
 
 pub use control::control_main;
-pub use laws::{one_fault_line, one_status, valid_is_done};
 pub use link_adapters::{
     BehindName, ClickAudio, ClockPace, HostClock, StdSink, StdSource, TcpTalk, UdpPort,
 };

@@ -16,7 +16,7 @@ use Rattle.client_state.specs.declared.state.State.{State}
 use Rattle.link_shared.specs.Audio.{AudioView, HasReadAudio, last_of}
 use Rattle.link_shared.specs.Desk.{NoneIsNewer}
 use Rattle.link_shared.specs.declared.capture.Capture.{Capture}
-use Rattle.link_text.specs.declared.live_script.BlockCommand.{BlockCommand}
+use Rattle.link_script.specs.declared.live_script.BlockCommand.{BlockCommand}
 use Rattle.link_live.specs.AudioRun.{BlockRead, AreFresh, HasPlayed, HasNoneLeft, IsAudioRun, act_commits, acts_in, block_commits, blocks_commits, blocks_captures, blocks_of, clicks_of_blocks, looks_of, pairs_of}
 use Rattle.link_live.specs.Clients.{capture_of, audio_taken}
 use Rattle.link_live.specs.PlayingRun.{HasCommitted, IsPlaying, IsEnded, commits_on, commands_before}

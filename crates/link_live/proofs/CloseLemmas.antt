@@ -15,9 +15,9 @@ use Rattle.link_shared.specs.Ending.{HasEnded}
 use Rattle.link_shared.specs.Hub.{HubView, new_hub}
 use Rattle.link_shared.specs.Passes.{AppView}
 use Rattle.link_shared.specs.declared.capture.Capture.{Capture}
-use Rattle.link_text.specs.declared.live_script.AppCommand.{AppCommand}
-use Rattle.link_text.specs.declared.live_script.BlockCommand.{BlockCommand}
-use Rattle.link_text.specs.declared.live_script.LiveScript.{LiveScript}
+use Rattle.link_script.specs.declared.live_script.AppCommand.{AppCommand}
+use Rattle.link_script.specs.declared.live_script.BlockCommand.{BlockCommand}
+use Rattle.link_script.specs.declared.live_script.LiveScript.{LiveScript}
 use Rattle.link_live.specs.AudioRun.{BlockRead, IsAudioRun, clicks_of_blocks}
 use Rattle.link_live.specs.Headline.{LiveSetup, new_audio}
 use Rattle.link_live.specs.LiveRun.{EndsLiveRun, IsReady, first_of}

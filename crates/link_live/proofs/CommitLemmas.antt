@@ -13,8 +13,8 @@ use Rattle.client_state.specs.Words.{state_of_words}
 use Rattle.audio_handoff.specs.Cell.{Pair}
 use Rattle.link_shared.specs.Audio.{AudioView, last_of}
 use Rattle.link_shared.specs.declared.capture.Capture.{Capture}
-use Rattle.link_text.specs.declared.live_script.Act.{Act}
-use Rattle.link_text.specs.declared.live_script.BlockCommand.{BlockCommand}
+use Rattle.link_script.specs.declared.live_script.Act.{Act}
+use Rattle.link_script.specs.declared.live_script.BlockCommand.{BlockCommand}
 use Rattle.link_live.specs.AudioRun.{acts_in, act_commits}
 use Rattle.link_live.specs.Clients.{capture_of, commit_of_act, audio_taken, edited_of}
 use Rattle.link_live.specs.PlayingRun.{HasCommitted, IsShownWith, commits_on, one_commit, commands_before, shown_with}

@@ -15,7 +15,7 @@ use Rattle.link_shared.specs.Ending.{HasEnded, WerePublished}
 use Rattle.link_shared.specs.Hub.{HubView}
 use Rattle.link_shared.specs.Journal.{AreCarried}
 use Rattle.link_shared.specs.declared.capture.Capture.{Capture}
-use Rattle.link_text.specs.declared.live_script.BlockCommand.{BlockCommand}
+use Rattle.link_script.specs.declared.live_script.BlockCommand.{BlockCommand}
 use Rattle.link_live.specs.AudioRun.{BlockRead, IsAudioRun, block_commits, blocks_captures, pairs_of}
 use Rattle.link_live.specs.Clients.{audio_taken, capture_of}
 use Rattle.link_live.specs.Headline.{ArePublished, IsAudioPart, LiveSetup, new_audio}

@@ -16,9 +16,9 @@ use Rattle.link_shared.specs.Audio.{last_of}
 use Rattle.link_shared.specs.Passes.{AppView, HasCaptured, HasCommitted}
 use Rattle.link_shared.specs.declared.capture.Capture.{Capture}
 use Rattle.link_node.specs.Config.{GateValue}
-use Rattle.link_text.specs.LiveScript.{Command, app, block, IsCommand, IsLiveText, apps_in, blocks_in}
-use Rattle.link_text.specs.declared.live_script.AppCommand.{AppCommand}
-use Rattle.link_text.specs.declared.live_script.BlockCommand.{BlockCommand}
+use Rattle.link_script.specs.LiveScript.{Command, app, block, IsCommand, IsLiveText, apps_in, blocks_in}
+use Rattle.link_script.specs.declared.live_script.AppCommand.{AppCommand}
+use Rattle.link_script.specs.declared.live_script.BlockCommand.{BlockCommand}
 use Rattle.link_live.specs.Clients.{capture_of, commit_of_act, apps_taken}
 use Rattle.link_live.specs.ScriptRun.{AreAmong, Taken, ArePaced, IsScriptRun, is_look, commits_of_command, commands_captures, commands_commits, pairs_of}
 use Rattle.link_live.specs.TakingRun.{IsCommandAt, IsIn, IsTaking}

@@ -10,7 +10,7 @@ use Rattle.link_shared.specs.Hub.{HubView}
 use Rattle.link_shared.specs.Journal.{app_commits_in}
 use Rattle.link_shared.specs.Passes.{AppView}
 use Rattle.link_shared.specs.declared.capture.Capture.{Capture}
-use Rattle.link_text.specs.declared.live_script.AppCommand.{AppCommand}
+use Rattle.link_script.specs.declared.live_script.AppCommand.{AppCommand}
 use Rattle.link_live.specs.Clients.{capture_of}
 use Rattle.link_live.specs.Headline.{ArePublished, IsScriptPart, LiveSetup}
 use Rattle.link_live.specs.Report.{ReportValue}

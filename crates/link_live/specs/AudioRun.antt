@@ -11,8 +11,8 @@ use Rattle.client_state.specs.declared.commit.Commit.{Commit}
 use Rattle.link_shared.specs.Audio.{AudioView}
 use Rattle.link_shared.specs.Desk.{NoneIsNewer}
 use Rattle.link_shared.specs.declared.capture.Capture.{Capture}
-use Rattle.link_text.specs.declared.live_script.Act.{Act}
-use Rattle.link_text.specs.declared.live_script.BlockCommand.{BlockCommand}
+use Rattle.link_script.specs.declared.live_script.Act.{Act}
+use Rattle.link_script.specs.declared.live_script.BlockCommand.{BlockCommand}
 use Rattle.link_live.specs.Clients.{capture_of, commit_of_act, audio_taken}
 
 -- ---- what is done for a block

@@ -24,8 +24,8 @@ use Rattle.link_shared.specs.Audio.{AudioView}
 use Rattle.link_shared.specs.Journal.{app_commits_in, last_audio_in, AreCarried}
 use Rattle.link_shared.specs.Passes.{AppView}
 use Rattle.link_shared.specs.declared.capture.Capture.{Capture}
-use Rattle.link_text.specs.declared.live_script.AppCommand.{AppCommand}
-use Rattle.link_text.specs.declared.live_script.BlockCommand.{BlockCommand}
+use Rattle.link_script.specs.declared.live_script.AppCommand.{AppCommand}
+use Rattle.link_script.specs.declared.live_script.BlockCommand.{BlockCommand}
 use Rattle.link_live.specs.AudioRun.{IsAudioRun}
 use Rattle.link_live.specs.Journal.{AreInOrder, IsHeard, ticks_in, has_ended}
 use Rattle.link_live.specs.Network.{ArePostedBefore, HasGrown, locals_of, posts_of}

@@ -7,10 +7,10 @@ use Rattle.lk_outside.specs.Faults.{Rose}
 use Rattle.lk_outside.specs.Port.{PortContents}
 use Rattle.link_node.specs.Config.{ConfigValue, GateValue}
 use Rattle.link_node.specs.Event.{event_value}
-use Rattle.link_text.specs.LiveScript.{IsCommand, IsLiveText, app, block}
-use Rattle.link_text.specs.declared.live_script.AppCommand.{AppCommand}
-use Rattle.link_text.specs.declared.live_script.BlockCommand.{BlockCommand}
-use Rattle.link_text.specs.declared.live_script.LiveScript.{LiveScript}
+use Rattle.link_script.specs.LiveScript.{IsCommand, IsLiveText, app, block}
+use Rattle.link_script.specs.declared.live_script.AppCommand.{AppCommand}
+use Rattle.link_script.specs.declared.live_script.BlockCommand.{BlockCommand}
+use Rattle.link_script.specs.declared.live_script.LiveScript.{LiveScript}
 use Rattle.link_live.specs.Headline.{Course, LiveSetup, IsLiveRun}
 use Rattle.link_live.specs.Report.{ReportValue}
 use Rattle.link_live.specs.declared.run.LiveEnd.{LiveEnd}

@@ -7,9 +7,9 @@ use Rattle.lk_outside.specs.Port.{PortContents}
 use Rattle.link_shared.specs.Audio.{AudioView}
 use Rattle.link_shared.specs.Hub.{HubView}
 use Rattle.link_shared.specs.Passes.{AppView}
-use Rattle.link_text.specs.LiveScript.{IsCommand, app, block}
-use Rattle.link_text.specs.declared.live_script.AppCommand.{AppCommand}
-use Rattle.link_text.specs.declared.live_script.BlockCommand.{BlockCommand}
+use Rattle.link_script.specs.LiveScript.{IsCommand, app, block}
+use Rattle.link_script.specs.declared.live_script.AppCommand.{AppCommand}
+use Rattle.link_script.specs.declared.live_script.BlockCommand.{BlockCommand}
 use Rattle.link_live.specs.AudioRun.{IsAudioRun, HasAudioCause}
 use Rattle.link_live.specs.Network.{IsNetworkRun, HasCause, locals_of}
 use Rattle.link_live.specs.ScriptRun.{IsScriptRun}

@@ -11,8 +11,8 @@ use Rattle.client_state.specs.declared.commit.Commit.{Commit}
 use Rattle.client_state.specs.declared.state.State.{State}
 use Rattle.link_shared.specs.Audio.{AudioView, last_of}
 use Rattle.link_shared.specs.declared.capture.Capture.{Capture}
-use Rattle.link_text.specs.declared.live_script.Act.{Act}
-use Rattle.link_text.specs.declared.live_script.BlockCommand.{BlockCommand}
+use Rattle.link_script.specs.declared.live_script.Act.{Act}
+use Rattle.link_script.specs.declared.live_script.BlockCommand.{BlockCommand}
 use Rattle.link_live.specs.AudioRun.{BlockRead, AreFresh, HasPlayed, IsAudioRun, acts_in, blocks_of, pairs_of, looks_of, blocks_captures, blocks_commits, clicks_of_blocks}
 use Rattle.link_live.specs.Clients.{edited_of}
 use Rattle.link_live.specs.declared.audio.BlockEnd.{BlockEnd}

@@ -5,9 +5,9 @@ use Rattle.lk_outside.specs.Pace.{IsPaced}
 use Rattle.client_state.specs.declared.commit.Commit.{Commit}
 use Rattle.link_shared.specs.Passes.{AppView}
 use Rattle.link_shared.specs.declared.capture.Capture.{Capture}
-use Rattle.link_text.specs.declared.live_script.Act.{Act}
-use Rattle.link_text.specs.declared.live_script.Act.TheVariants.{Tempo, Force, Request, Quantum, Play, Stop, Look}
-use Rattle.link_text.specs.declared.live_script.AppCommand.{AppCommand}
+use Rattle.link_script.specs.declared.live_script.Act.{Act}
+use Rattle.link_script.specs.declared.live_script.Act.TheVariants.{Tempo, Force, Request, Quantum, Play, Stop, Look}
+use Rattle.link_script.specs.declared.live_script.AppCommand.{AppCommand}
 use Rattle.link_live.specs.Clients.{capture_of, commit_of_act, apps_taken}
 
 -- a command that was taken: the moment that the pace answered, which its commit carries, and the pair of number and row that was captured

@@ -7,7 +7,7 @@ use Rattle.client_state.specs.declared.commit.Commit.{Commit}
 use Rattle.link_shared.specs.Audio.{last_of}
 use Rattle.link_shared.specs.Passes.{AppView}
 use Rattle.link_shared.specs.declared.capture.Capture.{Capture}
-use Rattle.link_text.specs.declared.live_script.AppCommand.{AppCommand}
+use Rattle.link_script.specs.declared.live_script.AppCommand.{AppCommand}
 use Rattle.link_live.specs.ScriptRun.{AreAmong, Taken, ArePaced, commands_captures, commands_commits, pairs_of}
 
 -- the pair was read for the applications by the time that the pass knows of

@@ -7,15 +7,15 @@ ghost use Rattle.client_state.specs.State.{IsTidyState};
 ghost use Rattle.lk_base.specs.Ranges.{IsMoment};
 ghost use Rattle.lk_outside.specs.Audio.{AudioContents};
 ghost use Rattle.link_shared.specs.Audio.{AudioView};
-ghost use Rattle.link_text.specs.LiveScript.{IsAct, IsCommand, block as block_command};
+ghost use Rattle.link_script.specs.LiveScript.{IsAct, IsCommand, block as block_command};
 ghost use Rattle.link_live.specs.AudioRun.{IsAudioRun, HasAudioCause, acts_in};
 ghost use Rattle.link_live.specs.PlayingRun.{AfterBlock, HasBlockCause, HasCommitted, IsPlaying, IsShownWith};
 
 use crate::edit::commit_of;
 use audio_handoff::StateCell;
 use client_state::{Commit, Own, State, shown};
+use link_script::{BlockCommand, LiveScript};
 use link_shared::{AudioPass, Capture, Link, LinkName};
-use link_text::{BlockCommand, LiveScript};
 use lk_base::Clicks;
 use lk_outside::{Audio, Next, Played};
 

@@ -5,12 +5,12 @@ ghost use Rattle.lk_base.specs.Ranges.{IsMoment, IsQuantum, IsWithinLimit};
 ghost use Rattle.lk_base.specs.Timeline.{IsTidy};
 ghost use Rattle.client_state.specs.Commit.{IsTidyCommit};
 ghost use Rattle.client_state.specs.State.{IsTidyState};
-ghost use Rattle.link_text.specs.LiveScript.{IsAct};
+ghost use Rattle.link_script.specs.LiveScript.{IsAct};
 ghost use Rattle.link_live.specs.Clients.{edited_of, commit_of_act};
 
 use client_state::{Commit, State};
+use link_script::Act;
 use link_shared::Capture;
-use link_text::Act;
 
 /// The commit of an act at a moment: what it changes of the captured and of the shown state. Waits: no. Memory: none.
 #[tactic(auto, unfolding(crate::specs::Clients::commit_of_act))]

@@ -1,13 +1,13 @@
 //! The room of a live run.
 
 ghost use Rattle.std.specs.Prelude.{◌≡◌, ◌<◌, ◌≤◌, ◌^◌, length, All, IfOk};
-ghost use Rattle.link_text.specs.LiveScript.{IsCommand, app as app_command, block as block_command};
+ghost use Rattle.link_script.specs.LiveScript.{IsCommand, app as app_command, block as block_command};
 ghost use Rattle.link_live.specs.LiveRun.{IsReady, ScriptsHaveCommands};
 
 use crate::audio::AudioReport;
 use crate::script::ScriptReport;
 use link_node::Sends;
-use link_text::LiveScript;
+use link_script::LiveScript;
 use std::alloc::{AllocError, Global};
 
 /// All room that a live run needs: for what its node sends, and for what the audio thread and the script's application tell.

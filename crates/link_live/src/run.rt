@@ -20,8 +20,8 @@ use link_node::{
     Config, Event, GateSetup, best_timelines_are_told, clients_follow_sessions,
     datagrams_go_out_on_gates,
 };
+use link_script::LiveScript;
 use link_shared::{Link, LinkName, Opened, Parts};
-use link_text::LiveScript;
 use lk_base::Endpoint;
 use lk_outside::{Audio, Bound, Pace, Port};
 use std::alloc::Global;

@@ -1,8 +1,8 @@
 //! The loop of an application that takes its commands from a live script.
 
 ghost use Rattle.std.specs.Prelude.{◌≡◌, ◌≤◌, ◌<◌, ◌+◌, ℕ, List, [], None, if◌then◌else◌, true, length, All, vec_capacity, vec_len};
-ghost use Rattle.link_text.specs.LiveScript.{IsCommand, app as app_command};
-ghost use Rattle.link_text.specs.declared.live_script.AppCommand.{AppCommand as AnyCommand};
+ghost use Rattle.link_script.specs.LiveScript.{IsCommand, app as app_command};
+ghost use Rattle.link_script.specs.declared.live_script.AppCommand.{AppCommand as AnyCommand};
 ghost use Rattle.link_live.specs.ScriptRun.{IsScriptRun, is_look};
 ghost use Rattle.link_live.specs.TakingRun.{IsCommandAt, IsTaking};
 
@@ -10,8 +10,8 @@ use crate::edit::commit_of;
 use crate::handing::{ask_to_end, hand_over};
 use audio_handoff::StateCell;
 use client_state::Commit;
+use link_script::{Act, AppCommand, LiveScript};
 use link_shared::{AppPass, Capture, Link, LinkName};
-use link_text::{Act, AppCommand, LiveScript};
 use lk_outside::Pace;
 use std::alloc::Global;
 use std::sync::Wait;

@@ -8,14 +8,14 @@ ghost use Rattle.std.specs.Thread.{IsSend, IsSync};
 ghost use Rattle.link_live.specs.declared.network.NetEnd.{NetEnd as AnyEnd};
 ghost use Rattle.link_live.specs.declared.audio.AudioReport.{AudioReport as AnyAudio};
 ghost use Rattle.link_live.specs.declared.script.ScriptReport.{ScriptReport as AnyScript};
-ghost use Rattle.link_text.specs.declared.live_script.LiveScript.{LiveScript as AnyScriptText};
+ghost use Rattle.link_script.specs.declared.live_script.LiveScript.{LiveScript as AnyScriptText};
 
 use crate::audio::{AudioReport, audio_loop};
 use crate::network::{NetEnd, network_loop};
 use crate::script::{ScriptReport, script_loop};
 use link_node::Sends;
+use link_script::LiveScript;
 use link_shared::{AppPass, AudioPass, Hub, Link, LinkName};
-use link_text::LiveScript;
 use lk_outside::{Audio, Pace, Port};
 use std::alloc::Global;
 use std::sync::Wait;

@@ -6,9 +6,9 @@ use Rattle.lk_base.specs.Ranges.{IsMoment, IsQuantum}
 use Rattle.link_node.specs.Config.{ConfigValue, gate_value}
 use Rattle.link_node.specs.Event.{EventValue, event_value}
 use Rattle.link_node.specs.Runs.{AreFitting}
-use Rattle.link_text.specs.LiveScript.{IsLiveText}
-use Rattle.link_text.specs.ReplayScript.{AreSayable, IsHead, IsScriptOf, IsVisibleId, written_script_of}
-use Rattle.link_text.specs.declared.live_script.LiveScript.{LiveScript}
+use Rattle.link_script.specs.LiveScript.{IsLiveText}
+use Rattle.link_script.specs.ReplayScript.{AreSayable, IsHead, IsScriptOf, IsVisibleId, written_script_of}
+use Rattle.link_script.specs.declared.live_script.LiveScript.{LiveScript}
 use Rattle.link_live.specs.Headline.{LiveSetup}
 use Rattle.link_live_command.specs.LiveEnds.{EndsLive, EndsRun, IsReplayable, IsSetUp}
 use Rattle.link_live.specs.LiveRun.{EndsLiveRun, setup_of, told_of}

@@ -16,8 +16,8 @@ use Rattle.link_node.specs.Runs.{AreFitting}
 use Rattle.link_node.specs.declared.event.Event.{Event}
 use Rattle.link_lines.specs.Line.{line_of}
 use Rattle.link_lines.specs.Lines.{lines_of, counting_in}
-use Rattle.link_text.specs.LiveScript.{IsLiveHead}
-use Rattle.link_text.specs.ReplayScript.{AreSayable, IsEventKind, IsGate, IsHead, IsScriptOf, written_script_of}
+use Rattle.link_script.specs.LiveScript.{IsLiveHead}
+use Rattle.link_script.specs.ReplayScript.{AreSayable, IsEventKind, IsGate, IsHead, IsScriptOf, written_script_of}
 use Rattle.link_text.specs.ReplayText.{state_line_of}
 use Rattle.link_lines.specs.Words.{joined, truth_text_of}
 use Rattle.link_live.specs.Report.{ReportValue}

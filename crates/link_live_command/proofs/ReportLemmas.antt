@@ -11,7 +11,7 @@ use Rattle.link_node.specs.Config.{ConfigValue, config_value, gate_value}
 use Rattle.link_node.specs.declared.config.Config.{Config}
 use Rattle.link_node.specs.declared.config.GateSetup.{GateSetup}
 use Rattle.link_node.specs.Event.{EventValue}
-use Rattle.link_text.specs.ReplayScript.{ended, event_line, gate_lines, head_lines, written_script_of}
+use Rattle.link_script.specs.ReplayScript.{ended, event_line, gate_lines, head_lines, written_script_of}
 use Rattle.link_text.specs.ReplayText.{state_line_of}
 use Rattle.link_commands.specs.Outlet.{HandsOver, HandsPart}
 use Rattle.link_live.specs.Report.{ReportValue}

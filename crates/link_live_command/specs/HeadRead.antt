@@ -2,7 +2,7 @@
 use Rattle.std.specs.Prelude.{◌≤◌, ℕ, List, map}
 use Rattle.link_node.specs.Config.{gate_value}
 use Rattle.link_text.specs.LiveHead.{IsHeadText}
-use Rattle.link_text.specs.LiveScript.{commands_told}
+use Rattle.link_script.specs.LiveScript.{commands_told}
 use Rattle.link_text.specs.declared.live_head.LiveHead.{LiveHead}
 use Rattle.link_commands.specs.Statuses.{Stream, WasRead}
 

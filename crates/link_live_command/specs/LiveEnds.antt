@@ -8,8 +8,8 @@ use Rattle.rand_pcg.specs.Lcg.{started, increment_of}
 use Rattle.rand_pcg.specs.Pcg.{multiplier_64}
 use Rattle.lk_base.specs.Ids.{drawn_id}
 use Rattle.lk_outside.specs.Transfer.{TakesWithin}
-use Rattle.link_text.specs.LiveScript.{IsLiveText, commands_told}
-use Rattle.link_text.specs.ReplayScript.{IsScriptOf}
+use Rattle.link_script.specs.LiveScript.{IsLiveText, commands_told}
+use Rattle.link_script.specs.ReplayScript.{IsScriptOf}
 use Rattle.link_live.specs.Headline.{LiveSetup}
 use Rattle.link_live.specs.LiveRun.{EndsLiveRun}
 use Rattle.link_words.specs.LiveWords.{BeginsLive, IsLive, NamesLive}

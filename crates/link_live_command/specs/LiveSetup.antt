@@ -4,8 +4,8 @@ use Rattle.rand_pcg.specs.Lcg.{started, increment_of}
 use Rattle.rand_pcg.specs.Pcg.{multiplier_64}
 use Rattle.lk_base.specs.Ids.{drawn_id}
 use Rattle.link_node.specs.Config.{ConfigValue, gate_value}
-use Rattle.link_text.specs.LiveScript.{IsLiveText, commands_told}
-use Rattle.link_text.specs.declared.live_script.LiveScript.{LiveScript}
+use Rattle.link_script.specs.LiveScript.{IsLiveText, commands_told}
+use Rattle.link_script.specs.declared.live_script.LiveScript.{LiveScript}
 use Rattle.link_live.specs.Headline.{LiveSetup}
 use Rattle.link_live.specs.LiveRun.{setup_of}
 use Rattle.link_commands.specs.Statuses.{Stream, WasRead}

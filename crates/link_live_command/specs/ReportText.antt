@@ -4,7 +4,7 @@ use Rattle.std.specs.List.{flat_map}
 use Rattle.std.specs.Fmt.{decimal}
 use Rattle.client_state.specs.declared.state.State.{State}
 use Rattle.link_lines.specs.Line.{line_of}
-use Rattle.link_text.specs.ReplayScript.{written_script_of}
+use Rattle.link_script.specs.ReplayScript.{written_script_of}
 use Rattle.link_text.specs.ReplayText.{state_line_of}
 use Rattle.link_live.specs.Report.{ReportValue}
 

@@ -7,7 +7,7 @@ ghost use Rattle.arrayvec.specs.ArrayVec.{array_vec_len};
 ghost use Rattle.lk_outside.specs.Faults.{Rose};
 ghost use Rattle.link_node.specs.Config.{config_value};
 ghost use Rattle.link_node.specs.Event.{event_value};
-ghost use Rattle.link_text.specs.ReplayScript.{ended, event_line, head_lines, written_script_of};
+ghost use Rattle.link_script.specs.ReplayScript.{ended, event_line, head_lines, written_script_of};
 ghost use Rattle.link_commands.specs.Outlet.{HandsOver, HandsPart};
 ghost use Rattle.link_live.specs.Report.{report_value};
 ghost use Rattle.link_live_command.specs.ReportText.{last_state_text_of, live_line_of, live_text_of};

@@ -4,7 +4,7 @@ ghost use Rattle.std.specs.Prelude.{◌≡◌, ℕ, map};
 ghost use Rattle.lk_base.specs.Endpoint.{IsEndpoint};
 ghost use Rattle.link_node.specs.Event.{FitsKind, event_value};
 ghost use Rattle.link_node.specs.Runs.{AreFitting};
-ghost use Rattle.link_text.specs.ReplayScript.{AreSayable, IsEventKind};
+ghost use Rattle.link_script.specs.ReplayScript.{AreSayable, IsEventKind};
 
 use link_node::Event;
 use lk_base::Endpoint;

@@ -8,7 +8,7 @@ use Rattle.lk_base.specs.declared.start.ClientStart.{ClientStart}
 use Rattle.lk_base.specs.declared.timeline.Timeline.{Timeline}
 use Rattle.client_state.specs.Commit.{IsTidyStart}
 use Rattle.link_lines.specs.Words.{truth_text_of}
-use Rattle.link_text.specs.ReplayScript.{timeline_words, start_words, quantum_words}
+use Rattle.link_script.specs.ReplayScript.{timeline_words, start_words, quantum_words}
 
 -- ---- each part begins with a letter of its own
 

@@ -9,7 +9,7 @@ use Rattle.std.proofs.lemmas.List.{length-append}
 use Rattle.lk_base.specs.Ranges.{IsWithinLimit}
 use Rattle.link_text.specs.ControlLine.{Asks, IsAsked, IsControlLine, control_words}
 use Rattle.link_lines.specs.LineWords.{words_of}
-use Rattle.link_text.specs.LiveScript.{IsTempo}
+use Rattle.link_script.specs.LiveScript.{IsTempo}
 use Rattle.link_lines.specs.Words.{joined}
 use Rattle.link_text.specs.declared.control_line.ControlLine.{ControlLine}
 use Rattle.link_text.specs.declared.control_line.ControlLine.TheVariants.{Status, Tempo, Play, Stop, Beat, Time}

@@ -24,7 +24,7 @@ use Rattle.link_node.specs.Event.{EventValue, Rx, Tick, App, Audio, End, moment_
 use Rattle.link_lines.specs.Words.{joined, dotted, truth_text_of, endpoint_text_of}
 use Rattle.link_text.specs.EventDetails.{kind_of, details_of, SaysDetails}
 use Rattle.link_lines.specs.LineWords.{words_of}
-use Rattle.link_text.specs.ReplayScript.{event_words, commit_words, timeline_words, start_words, quantum_words, IsHexOf, IsHexIn, IsEventKind, IsEventLine}
+use Rattle.link_script.specs.ReplayScript.{event_words, commit_words, timeline_words, start_words, quantum_words, IsHexOf, IsHexIn, IsEventKind, IsEventLine}
 use Rattle.link_text.specs.SaidEvent.{said_value}
 use Rattle.link_text.specs.declared.said_event.SaidEvent.{SaidEvent}
 use Rattle.link_lines.proofs.NumberLemmas.{decimal_lacks, stored}

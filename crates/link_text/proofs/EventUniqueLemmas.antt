@@ -18,7 +18,7 @@ use Rattle.link_node.specs.Event.{EventValue, Rx, Tick, App, Audio, End, moment_
 use Rattle.link_lines.specs.Words.{truth_text_of, endpoint_text_of}
 use Rattle.link_text.specs.EventDetails.{kind_of, details_of}
 use Rattle.link_text.specs.Places.{audio_of, AreOfVersion, IsOfVersion}
-use Rattle.link_text.specs.ReplayScript.{commit_words, timeline_words, start_words, quantum_words, IsHexOf, IsHexIn, IsEventKind, IsEventLine, AreEventLines, IsWithoutQuantum}
+use Rattle.link_script.specs.ReplayScript.{commit_words, timeline_words, start_words, quantum_words, IsHexOf, IsHexIn, IsEventKind, IsEventLine, AreEventLines, IsWithoutQuantum}
 use Rattle.link_text.proofs.CommitLemmas.{no_s, no_t}
 use Rattle.link_text.proofs.EventLemmas.{line_words, moment_within, quantum_within, tempo_within}
 use Rattle.link_text.proofs.HeadLemmas.{endpoint_one, truth_one, mag_less, first_differs}

@@ -2,7 +2,7 @@
 use Rattle.std.proofs.Common.{◌≡◌, ◌⊎◌, inl, inr, refl, sym, ◌∙◌, ap, subst, arith, ℕ, ◌+◌, ◌-◌, ◌<◌, ◌≤◌, ◌^◌, List, [], ◌∷◌, ◌++◌, length, drop}
 use Rattle.std.proofs.lemmas.List.{append_assoc, append-nil, append_cancel_right}
 use Rattle.link_lines.specs.Lines.{lines_of, counting_in}
-use Rattle.link_text.specs.FirstFault.{Begins, IsFaultAt, IsCutShort, IsFirstFault, IsNone, IsLineFault}
+use Rattle.link_script.specs.FirstFault.{Begins, IsFaultAt, IsCutShort, IsFirstFault, IsNone, IsLineFault}
 use Rattle.link_text.specs.Places.{IsAhead, counting_from}
 use Rattle.link_text.specs.declared.place.Place.{Place}
 use Rattle.link_text.proofs.PlaceLemmas.{counting-append, counting_counted}

@@ -5,7 +5,7 @@ use Rattle.std.proofs.lemmas.List.{length-drop}
 use Rattle.link_node.specs.Event.{EventValue, Rx, Tick, App, Audio, End, FitsKind, app_after, audio_after}
 use Rattle.link_node.specs.Runs.{AreFitting}
 use Rattle.link_lines.specs.Lines.{lines_of, is_passed, counting_in}
-use Rattle.link_text.specs.ReplayScript.{IsEventKind, AreEventLines, SaysFrom}
+use Rattle.link_script.specs.ReplayScript.{IsEventKind, AreEventLines, SaysFrom}
 
 kind_fits : (gates app audio : ℕ) (e : EventValue) → app < 2 ^ 60 → IsEventKind gates audio e → FitsKind gates app audio e
 kind_fits gates app audio (Rx gate from bytes now) room kind = (kind.0, kind.2, kind.3)

@@ -17,7 +17,7 @@ use Rattle.link_node.specs.Event.{EventValue, Rx, Tick, App, Audio, End, moment_
 use Rattle.link_lines.specs.Words.{joined, dotted, truth_text_of, endpoint_text_of}
 use Rattle.link_lines.specs.LineWords.{words_of}
 use Rattle.link_text.specs.EventDetails.{kind_of, details_of}
-use Rattle.link_text.specs.ReplayScript.{IsVisibleId, IsGate, IsEventLine, AreEventLines, gate_line, gate_lines, group_line, node_line, quantum_line, to_line, version_line}
+use Rattle.link_script.specs.ReplayScript.{IsVisibleId, IsGate, IsEventLine, AreEventLines, gate_line, gate_lines, group_line, node_line, quantum_line, to_line, version_line}
 use Rattle.link_text.specs.declared.head_read.Node.{Node}
 use Rattle.link_text.specs.HeadParts.{plain_of, IsKnownVersion, IsNodeLine, IsNode, LacksTo, LacksGate, AreFull, HasDestinations, HasGates}
 use Rattle.link_lines.proofs.WordLemmas.{cut_one}

@@ -10,7 +10,7 @@ use Rattle.hex.proofs.HexLemmas.{decode_of-ok, decode_of-digits}
 use Rattle.link_payload.specs.Entries.{AreBytes}
 use Rattle.link_text.specs.HexWord.{IsHexWord, hex_bytes}
 use Rattle.link_lines.specs.LineWords.{words_left, words_of}
-use Rattle.link_text.specs.ReplayScript.{IsHexOf}
+use Rattle.link_script.specs.ReplayScript.{IsHexOf}
 use Rattle.link_lines.specs.Words.{joined}
 use Rattle.link_text.proofs.EventLemmas.{hex_lacks, joined_words}
 use Rattle.link_lines.proofs.LineWordLemmas.{words_last}

@@ -8,8 +8,8 @@ use Rattle.link_lines.specs.Lines.{lines_of, counting_in}
 use Rattle.link_text.specs.declared.place.Place.{Place}
 use Rattle.link_text.specs.HeadParts.{AreFull, LacksGate}
 use Rattle.link_text.specs.Places.{IsAhead, counting_from}
-use Rattle.link_text.specs.ReplayScript.{IsGate, gate_line}
-use Rattle.link_text.specs.LiveScript.{IsCommand, IsLiveHead, IsTempo, live_head_lines, live_version_line, setup_line}
+use Rattle.link_script.specs.ReplayScript.{IsGate, gate_line}
+use Rattle.link_script.specs.LiveScript.{IsCommand, IsLiveHead, IsTempo, live_head_lines, live_version_line, setup_line}
 use Rattle.link_text.specs.LiveHead.{IsHeadLineFault, IsHeadText, IsSomeHead}
 use Rattle.link_text.specs.LiveParts.{IsLiveStart, IsStartFault}
 use Rattle.link_text.proofs.PlaceLemmas.{counting_end, counting_some}

@@ -6,13 +6,13 @@ use Rattle.std.proofs.lemmas.List.Elements.{All-head, All-tail, All-push, filter
 use Rattle.lk_base.specs.declared.endpoint.Endpoint.{Endpoint}
 use Rattle.link_node.specs.Config.{GateValue}
 use Rattle.link_lines.specs.Lines.{lines_of, is_passed, counting_in}
-use Rattle.link_text.specs.declared.live_script.AppCommand.{AppCommand}
-use Rattle.link_text.specs.declared.live_script.BlockCommand.{BlockCommand}
+use Rattle.link_script.specs.declared.live_script.AppCommand.{AppCommand}
+use Rattle.link_script.specs.declared.live_script.BlockCommand.{BlockCommand}
 use Rattle.link_text.specs.declared.place.Place.{Place}
 use Rattle.link_text.specs.HeadParts.{LacksGate, AreFull}
 use Rattle.link_text.specs.Places.{IsAhead, counting_from}
-use Rattle.link_text.specs.ReplayScript.{gate_line, gate_lines, to_line}
-use Rattle.link_text.specs.LiveScript.{Command, app, block, IsTempo, IsLiveHead, IsCommand, IsLiveScript, IsLiveText, IsSomeLiveScript, IsLiveLineFault, apps_in, blocks_in, begins_command, command_line, commands_told, live_head_lines, live_version_line, setup_line}
+use Rattle.link_script.specs.ReplayScript.{gate_line, gate_lines, to_line}
+use Rattle.link_script.specs.LiveScript.{Command, app, block, IsTempo, IsLiveHead, IsCommand, IsLiveScript, IsLiveText, IsSomeLiveScript, IsLiveLineFault, apps_in, blocks_in, begins_command, command_line, commands_told, live_head_lines, live_version_line, setup_line}
 use Rattle.link_text.specs.LiveParts.{HasBadCommand, HasCommands, IsLiveStart, TakesCommand, lines_told}
 use Rattle.link_text.proofs.HeadLemmas.{gates_one, lacks_gate_as, first_differs, full_events}
 use Rattle.link_text.proofs.FirstFaultLemmas as faults

@@ -4,11 +4,11 @@ use Rattle.std.specs.Fmt.{decimal, signed_decimal}
 use Rattle.std.proofs.lemmas.Fmt.{decimal_injective}
 use Rattle.link_lines.specs.LineWords.{words_of}
 use Rattle.link_lines.specs.Words.{joined, truth_text_of}
-use Rattle.link_text.specs.LiveScript.{Command, app, block, IsTempo, IsAct, IsCommand, act_words, command_words, command_line, setup_line}
-use Rattle.link_text.specs.declared.live_script.Act.{Act}
-use Rattle.link_text.specs.declared.live_script.Act.TheVariants.{Tempo, Force, Request, Quantum, Play, Stop, Look}
-use Rattle.link_text.specs.declared.live_script.AppCommand.{AppCommand}
-use Rattle.link_text.specs.declared.live_script.BlockCommand.{BlockCommand}
+use Rattle.link_script.specs.LiveScript.{Command, app, block, IsTempo, IsAct, IsCommand, act_words, command_words, command_line, setup_line}
+use Rattle.link_script.specs.declared.live_script.Act.{Act}
+use Rattle.link_script.specs.declared.live_script.Act.TheVariants.{Tempo, Force, Request, Quantum, Play, Stop, Look}
+use Rattle.link_script.specs.declared.live_script.AppCommand.{AppCommand}
+use Rattle.link_script.specs.declared.live_script.BlockCommand.{BlockCommand}
 use Rattle.link_text.proofs.EventLemmas.{AllLack, lacks_by_test, number_lacks, signed_lacks, truth_lacks, moment_within, quantum_within, tempo_within, words_joined, joined_words}
 use Rattle.link_text.proofs.HeadLemmas.{truth_one, first_differs}
 use Rattle.link_text.proofs.EventUniqueLemmas.{signed_one}

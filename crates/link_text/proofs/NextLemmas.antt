@@ -4,7 +4,7 @@ use Rattle.link_node.specs.Event.{EventValue, Rx, Tick, App, Audio, End, audio_a
 use Rattle.link_lines.specs.Lines.{lines_of, counting_in}
 use Rattle.link_text.specs.declared.place.Place.{Place}
 use Rattle.link_text.specs.Places.{HasPassed, counting_from}
-use Rattle.link_text.specs.ReplayScript.{IsEventKind, IsEventLine, AreEventLines, IsBehindLine, IsNextEvent, SaysFrom, SaysSome}
+use Rattle.link_script.specs.ReplayScript.{IsEventKind, IsEventLine, AreEventLines, IsBehindLine, IsNextEvent, SaysFrom, SaysSome}
 use Rattle.link_text.proofs.PlaceLemmas.{counting_same, counting_counted, counting_end}
 use Rattle.link_text.proofs.EventUniqueLemmas.{event_one}
 

@@ -3,7 +3,7 @@ use Rattle.std.proofs.Common.{◌≡◌, sym, ◌∙◌, ap, subst, arith, ℤ, 
 use Rattle.lk_base.specs.declared.ids.NodeId.{NodeId}
 use Rattle.link_node.specs.Config.{ConfigValue, GateValue}
 use Rattle.link_node.specs.Event.{EventValue}
-use Rattle.link_text.specs.ReplayScript.{AreEventLines, IsScriptOf}
+use Rattle.link_script.specs.ReplayScript.{AreEventLines, IsScriptOf}
 use Rattle.link_text.proofs.HeadLemmas.{AreOneNode, events_no_to, full_events}
 use Rattle.link_text.proofs.EventUniqueLemmas.{events_one}
 use Rattle.link_text.proofs.ScriptLemmas.{head_one, events_lack}

@@ -15,7 +15,7 @@ use Rattle.link_text.specs.declared.head_read.Node.{Node}
 use Rattle.link_text.specs.declared.place.Place.{Place}
 use Rattle.link_text.specs.HeadParts.{config_of, plain_of, IsFront, IsKnownVersion, IsNode, IsOpening, LacksTo, LacksGate, AreFull}
 use Rattle.link_text.specs.Places.{IsAhead, AreOfVersion, IsOfVersion, HasEvents, HasBadEvent, counting_from, audio_of}
-use Rattle.link_text.specs.ReplayScript.{IsHead, IsGate, IsEventLine, AreEventLines, IsSomeScript, IsLineFault, IsChecked, IsVersion, version_line, node_line, group_line, quantum_line, profile_lines, gate_lines, head_lines, gate_line, to_line}
+use Rattle.link_script.specs.ReplayScript.{IsHead, IsGate, IsEventLine, AreEventLines, IsSomeScript, IsLineFault, IsChecked, IsVersion, version_line, node_line, group_line, quantum_line, profile_lines, gate_lines, head_lines, gate_line, to_line}
 use Rattle.link_text.proofs.FirstFaultLemmas as faults
 use Rattle.link_text.proofs.FirstFaultLemmas.{IsCounted, BeginAlike, alike_first, line_fault}
 use Rattle.link_text.proofs.HeadLemmas.{lacks_gate_as, AreOneNode, node_one, group_one, quantum_one, version_one, gates_one, opened, gate_no_to, events_no_gate, events_no_to, full_events}

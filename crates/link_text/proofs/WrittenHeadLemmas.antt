@@ -9,7 +9,7 @@ use Rattle.std.proofs.lemmas.Option.{none-some, same_Some, slice_get-get_or, sli
 use Rattle.link_node.specs.Config.{gate_value}
 use Rattle.link_node.specs.declared.config.GateSetup.{GateSetup}
 use Rattle.lk_base.specs.declared.endpoint.Endpoint.{Endpoint}
-use Rattle.link_text.specs.ReplayScript.{gate_lines, to_line}
+use Rattle.link_script.specs.ReplayScript.{gate_lines, to_line}
 
 -- a place in the first of two lists
 pub slice_get_left : {A : Type 0} (xs ys : List A) (i : ℕ) → i < length xs → slice_get (xs ++ ys) i ≡ slice_get xs i

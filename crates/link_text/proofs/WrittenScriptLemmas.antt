@@ -20,7 +20,7 @@ use Rattle.lk_base.specs.declared.timeline.Timeline.{Timeline}
 use Rattle.client_state.specs.declared.commit.Commit.{Commit}
 use Rattle.link_node.specs.Config.{ConfigValue, GateValue}
 use Rattle.link_node.specs.Event.{EventValue, Rx, Tick, App, Audio, End, audio_after}
-use Rattle.link_text.specs.ReplayScript.{AreEventLines, AreSayable, IsEventKind, IsHead, IsHexIn, IsHexOf, commit_words, ended, event_line, event_words, gate_line, gate_lines, group_line, head_lines, hex_of, hex_word, node_line, quantum_line, quantum_words, start_words, timeline_words, to_line, version_line, written_script_of}
+use Rattle.link_script.specs.ReplayScript.{AreEventLines, AreSayable, IsEventKind, IsHead, IsHexIn, IsHexOf, commit_words, ended, event_line, event_words, gate_line, gate_lines, group_line, head_lines, hex_of, hex_word, node_line, quantum_line, quantum_words, start_words, timeline_words, to_line, version_line, written_script_of}
 
 -- no byte is a line feed or below it
 abbrev pub AreAbove : List ℕ → Type 0

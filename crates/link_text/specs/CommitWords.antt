@@ -2,7 +2,7 @@
 use Rattle.std.specs.Prelude.{◌≡◌, ℕ, ℤ, List, ◌++◌, Option}
 use Rattle.lk_base.specs.declared.start.ClientStart.{ClientStart}
 use Rattle.lk_base.specs.declared.timeline.Timeline.{Timeline}
-use Rattle.link_text.specs.ReplayScript.{quantum_words, start_words, timeline_words}
+use Rattle.link_script.specs.ReplayScript.{quantum_words, start_words, timeline_words}
 
 -- where the words are those of a commit, the words of its start and of its quantum are left
 abbrev pub LeavesStart : List (List ℕ) → List (List ℕ) → Type 0

@@ -2,7 +2,7 @@
 use Rattle.std.specs.Prelude.{◌≡◌, ◌≤◌, ℕ, List, [], ◌∷◌, length, codes, Option, Some, None}
 use Rattle.std.specs.Fmt.{signed_decimal}
 use Rattle.lk_base.specs.Ranges.{IsWithinLimit}
-use Rattle.link_text.specs.LiveScript.{IsTempo}
+use Rattle.link_script.specs.LiveScript.{IsTempo}
 use Rattle.link_lines.specs.Words.{joined}
 use Rattle.link_text.specs.declared.control_line.ControlLine.{ControlLine}
 use Rattle.link_text.specs.declared.control_line.ControlLine.TheVariants.{Status, Tempo, Play, Stop, Beat, Time}

@@ -3,7 +3,7 @@ use Rattle.std.specs.Prelude.{◌≡◌, ℕ, ℤ, List, [], ◌∷◌, codes}
 use Rattle.std.specs.Fmt.{decimal}
 use Rattle.link_node.specs.Event.{EventValue, Rx, Tick, App, Audio, End, moment_of}
 use Rattle.link_lines.specs.Words.{endpoint_text_of}
-use Rattle.link_text.specs.ReplayScript.{commit_words, IsEventKind, IsHexIn}
+use Rattle.link_script.specs.ReplayScript.{commit_words, IsEventKind, IsHexIn}
 
 -- the word of a kind
 abbrev pub kind_of : EventValue → List ℕ

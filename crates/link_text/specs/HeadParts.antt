@@ -7,7 +7,7 @@ use Rattle.lk_base.specs.declared.endpoint.Endpoint.{Endpoint}
 use Rattle.link_node.specs.Config.{ConfigValue, GateValue}
 use Rattle.link_lines.specs.Lines.{lines_of, counting_in}
 use Rattle.link_text.specs.Places.{IsAhead, counting_from}
-use Rattle.link_text.specs.ReplayScript.{IsVisibleId, IsGate, IsVersion, gate_line, gate_lines, node_line, profile_lines, to_line, version_line}
+use Rattle.link_script.specs.ReplayScript.{IsVisibleId, IsGate, IsVersion, gate_line, gate_lines, node_line, profile_lines, to_line, version_line}
 use Rattle.link_text.specs.declared.head_read.Node.{Node}
 use Rattle.link_text.specs.declared.place.Place.{Place}
 

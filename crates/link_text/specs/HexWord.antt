@@ -3,7 +3,7 @@ use Rattle.std.specs.Prelude.{◌≤◌, ℕ, List, [], length}
 use Rattle.std.specs.Result.{result_unwrap_or}
 use Rattle.hex.specs.Hex.{decode_of}
 use Rattle.link_payload.specs.Entries.{AreBytes}
-use Rattle.link_text.specs.ReplayScript.{IsHexOf}
+use Rattle.link_script.specs.ReplayScript.{IsHexOf}
 
 -- the bytes that hex digits say, and none for a hyphen
 unfoldable pub hex_bytes : List ℕ → List ℕ

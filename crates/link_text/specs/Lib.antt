@@ -1,9 +1,6 @@
 pub mod PairLine
 pub mod Spaced
 pub mod ReadingLine
-pub mod FirstFault
-pub mod ReplayScript
-pub mod LiveScript
 pub mod LiveHead
 pub mod ControlLine
 pub mod HexWord

@@ -1,9 +1,9 @@
 -- Heads of live scripts, which say how a link is set up, and no command.
 use Rattle.std.specs.Prelude.{ℕ, ℤ, Bool, List, []}
 use Rattle.link_node.specs.Config.{GateValue}
-use Rattle.link_text.specs.FirstFault as faults
+use Rattle.link_script.specs.FirstFault as faults
 use Rattle.link_lines.specs.Lines.{lines_of}
-use Rattle.link_text.specs.LiveScript.{IsLiveScript}
+use Rattle.link_script.specs.LiveScript.{IsLiveScript}
 
 -- the lines that count are those of a live script without commands
 abbrev pub IsHeadScript : List (List ℕ) → ℤ → Bool → List GateValue → Type 0

@@ -5,9 +5,9 @@ use Rattle.link_lines.specs.Lines.{lines_of, counting_in}
 use Rattle.link_text.specs.HeadParts.{AreFull, LacksGate}
 use Rattle.link_text.specs.Places.{IsAhead, HasLine, counting_from}
 use Rattle.link_text.specs.LiveHead.{IsHeadLineFault}
-use Rattle.link_text.specs.LiveScript.{Command, IsCommand, IsLiveHead, IsLiveLineFault, apps_in, blocks_in, begins_command, command_line, live_head_lines}
-use Rattle.link_text.specs.declared.live_script.AppCommand.{AppCommand}
-use Rattle.link_text.specs.declared.live_script.BlockCommand.{BlockCommand}
+use Rattle.link_script.specs.LiveScript.{Command, IsCommand, IsLiveHead, IsLiveLineFault, apps_in, blocks_in, begins_command, command_line, live_head_lines}
+use Rattle.link_script.specs.declared.live_script.AppCommand.{AppCommand}
+use Rattle.link_script.specs.declared.live_script.BlockCommand.{BlockCommand}
 use Rattle.link_text.specs.declared.place.Place.{Place}
 
 -- the lines that count are those of a head with all its gates and destinations, and then those from a place on

@@ -3,7 +3,7 @@ use Rattle.std.specs.Prelude.{◌≡◌, ◌≤◌, ◌<◌, ◌+◌, ℕ, false
 use Rattle.std.specs.List.{AllByRecursion}
 use Rattle.link_node.specs.Event.{EventValue, audio_after}
 use Rattle.link_lines.specs.Lines.{lines_of, is_passed, counting_in}
-use Rattle.link_text.specs.ReplayScript.{AreEventLines, IsEventLine, IsWithoutQuantum}
+use Rattle.link_script.specs.ReplayScript.{AreEventLines, IsEventLine, IsWithoutQuantum}
 use Rattle.link_text.specs.declared.place.Place.{Place}
 
 -- the lines that count from a place on

@@ -12,7 +12,7 @@ use Rattle.link_node.specs.Opening.{opened}
 use Rattle.link_node.specs.Runs.{shown_by, published_of, sent_of}
 use Rattle.link_node.specs.Step.{step_of, sends_of, change_of}
 use Rattle.link_lines.specs.Line.{line_of}
-use Rattle.link_text.specs.ReplayScript.{hex_word}
+use Rattle.link_script.specs.ReplayScript.{hex_word}
 use Rattle.link_lines.specs.Words.{truth_text_of, endpoint_text_of}
 
 -- the session, in 16 hex digits, and the quantum: version 1 tells neither

@@ -11,7 +11,7 @@ ghost use Rattle.client_state.specs.Commit.{IsTidyCommit, IsTidyStart};
 ghost use Rattle.client_state.specs.declared.commit.Commit.{Commit};
 ghost use Rattle.link_text.specs.CommitWords.{LeavesQuantum, LeavesStart};
 ghost use Rattle.link_lines.specs.LineWords.{words_left};
-ghost use Rattle.link_text.specs.ReplayScript.{commit_words, quantum_words, start_words, timeline_words};
+ghost use Rattle.link_script.specs.ReplayScript.{commit_words, quantum_words, start_words, timeline_words};
 ghost use Rattle.link_lines.specs.Words.{truth_text_of};
 
 use crate::values::{quantum_in, signed_in, tempo_in, truth_in};

@@ -5,7 +5,7 @@ ghost use Rattle.std.specs.Fmt.{signed_decimal};
 ghost use Rattle.lk_base.specs.Ranges.{IsWithinLimit};
 ghost use Rattle.link_text.specs.ControlLine.{IsAsked, IsControlLine, control_words};
 ghost use Rattle.link_lines.specs.LineWords.{words_left, words_of};
-ghost use Rattle.link_text.specs.LiveScript.{IsTempo};
+ghost use Rattle.link_script.specs.LiveScript.{IsTempo};
 
 use crate::live_read::{signed_left, tempo_left};
 use link_lines::{first_word, is_end, is_word};

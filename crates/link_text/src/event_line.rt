@@ -4,7 +4,7 @@ ghost use Rattle.std.specs.Prelude.{◌≡◌, ◌≤◌, ◌+◌, ◌++◌, ◌
 ghost use Rattle.std.specs.Fmt.{signed_decimal};
 ghost use Rattle.arrayvec.specs.ArrayVec.{array_vec_len};
 ghost use Rattle.link_node.specs.Event.{Audio, Rx, event_value};
-ghost use Rattle.link_text.specs.ReplayScript.{commit_words, event_line, ended, hex_word, quantum_words, start_words, timeline_words};
+ghost use Rattle.link_script.specs.ReplayScript.{commit_words, event_line, ended, hex_word, quantum_words, start_words, timeline_words};
 ghost use Rattle.link_text.specs.Spaced.{spaced};
 ghost use Rattle.link_lines.specs.Words.{joined};
 

@@ -4,7 +4,7 @@ ghost use Rattle.std.specs.Prelude.{◌≤◌, ◌<◌, ℕ, codes, IfSome, IfNo
 ghost use Rattle.link_node.specs.Event.{EventValue};
 ghost use Rattle.link_text.specs.EventDetails.{SaysDetails};
 ghost use Rattle.link_lines.specs.LineWords.{words_left};
-ghost use Rattle.link_text.specs.ReplayScript.{IsEventLine};
+ghost use Rattle.link_script.specs.ReplayScript.{IsEventLine};
 ghost use Rattle.link_text.specs.SaidEvent.{HasHex, said_value};
 
 use crate::commit_read::commit_of;

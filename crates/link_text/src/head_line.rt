@@ -6,7 +6,7 @@ ghost use Rattle.std.specs.List.{flat_map};
 ghost use Rattle.arrayvec.specs.ArrayVec.{array_vec_len};
 ghost use Rattle.link_lines.specs.Words.{truth_text_of};
 ghost use Rattle.link_node.specs.Config.{config_value, gate_value};
-ghost use Rattle.link_text.specs.ReplayScript.{ended, gate_line, gate_lines, group_line, head_lines, node_line, quantum_line, to_line, version_line};
+ghost use Rattle.link_script.specs.ReplayScript.{ended, gate_line, gate_lines, group_line, head_lines, node_line, quantum_line, to_line, version_line};
 
 use link_lines::{LineBuf, put, put_decimal, put_endpoint, put_signed, put_truth};
 use link_node::{Config, GateSetup};

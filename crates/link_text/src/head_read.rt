@@ -9,7 +9,7 @@ ghost use Rattle.link_node.specs.Config.{ConfigValue, gate_value};
 ghost use Rattle.link_text.specs.HeadParts.{HasDestinations, HasGates, IsKnownVersion, IsNode, IsNodeLine, LacksGate, LacksTo, plain_of};
 ghost use Rattle.link_lines.specs.LineWords.{words_of};
 ghost use Rattle.link_text.specs.Places.{IsAhead, counting_from};
-ghost use Rattle.link_text.specs.ReplayScript.{gate_line, group_line, node_line, quantum_line, to_line, version_line};
+ghost use Rattle.link_script.specs.ReplayScript.{gate_line, group_line, node_line, quantum_line, to_line, version_line};
 ghost use Rattle.link_lines.specs.Words.{endpoint_text_of, truth_text_of};
 
 use crate::place::{Place, line_from};

@@ -6,7 +6,7 @@ ghost use Rattle.std.specs.List.{AllPass};
 ghost use Rattle.hex.specs.Hex.{decode_of, hex_digit_value, is_hex_digit};
 ghost use Rattle.link_text.specs.HexWord.{IsHexWord, hex_bytes};
 ghost use Rattle.link_lines.specs.LineWords.{words_left};
-ghost use Rattle.link_text.specs.ReplayScript.{IsHexOf};
+ghost use Rattle.link_script.specs.ReplayScript.{IsHexOf};
 
 use arrayvec::ArrayVec;
 use link_lines::is_word;

@@ -7,12 +7,12 @@ ghost use Rattle.link_node.specs.Runs.{AreFitting};
 ghost use Rattle.link_text.specs.ControlLine.{AreControlLines};
 ghost use Rattle.link_lines.specs.Lines.{lines_of};
 ghost use Rattle.link_text.specs.LiveHead.{IsFirstHeadFault, IsHeadText};
-ghost use Rattle.link_text.specs.LiveScript.{Command, IsFirstLiveFault, IsLiveScript, IsLiveText, SaysOneSetup};
+ghost use Rattle.link_script.specs.LiveScript.{Command, IsFirstLiveFault, IsLiveScript, IsLiveText, SaysOneSetup};
 ghost use Rattle.link_text.specs.Load.{HasOneLoadText};
 ghost use Rattle.link_text.specs.PairLine.{IsPairLine};
-ghost use Rattle.link_text.specs.ReplayScript.{IsHead, IsScriptOf, IsFirstFault, IsNoScript, AreSayable, SaysFrom, written_script_of};
-ghost use Rattle.link_text.specs.declared.live_script.AppCommand.{AppCommand};
-ghost use Rattle.link_text.specs.declared.live_script.BlockCommand.{BlockCommand};
+ghost use Rattle.link_script.specs.ReplayScript.{IsHead, IsScriptOf, IsFirstFault, IsNoScript, AreSayable, SaysFrom, written_script_of};
+ghost use Rattle.link_script.specs.declared.live_script.AppCommand.{AppCommand};
+ghost use Rattle.link_script.specs.declared.live_script.BlockCommand.{BlockCommand};
 
 /// What is written for a node and its events is a script of version 2, of just that node and those events.
 pub fn written_scripts_are_read()

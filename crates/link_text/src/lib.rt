@@ -46,7 +46,7 @@ pub use link_lines::{
     put_truth,
 };
 pub use live_head::{HeadFault, LiveHead, read_live_head};
-pub use live_script::{Act, AppCommand, BlockCommand, LiveFault, LiveScript, read_live};
+pub use live_script::{LiveFault, read_live};
 pub use load::LoadEvents;
 pub use pair::pair_of;
 pub use reading_line::write_reading;

@@ -3,7 +3,7 @@
 ghost use Rattle.std.specs.Prelude.{◌≤◌, ◌<◌, ◌-◌, ◌^◌, length, map, IfOk, IfErr, IsErrOf};
 ghost use Rattle.link_node.specs.Config.{gate_value};
 ghost use Rattle.link_text.specs.LiveHead.{IsHeadLineFault, IsHeadText};
-ghost use Rattle.link_text.specs.LiveScript.{commands_told};
+ghost use Rattle.link_script.specs.LiveScript.{commands_told};
 
 use crate::fault::BadLine;
 use crate::live_script::{MOST_COMMANDS, Start, commands_in, start_of};

@@ -4,15 +4,15 @@ ghost use Rattle.std.specs.Prelude.{◌≡◌, ◌≤◌, ◌∷◌, [], ◌↔�
 ghost use Rattle.std.specs.Fmt.{signed_decimal};
 ghost use Rattle.lk_base.specs.Ranges.{IsQuantum, IsWithinLimit};
 ghost use Rattle.link_lines.specs.LineWords.{words_left, words_of};
-ghost use Rattle.link_text.specs.LiveScript.{IsAct, IsBlockAct, IsCommand, IsTempo, act_words, app, begins_command, block, command_line, command_words, live_version_line, setup_line};
+ghost use Rattle.link_script.specs.LiveScript.{IsAct, IsBlockAct, IsCommand, IsTempo, act_words, app, begins_command, block, command_line, command_words, live_version_line, setup_line};
 ghost use Rattle.link_lines.specs.Words.{truth_text_of};
-ghost use Rattle.link_text.specs.declared.live_script.Act.{Act};
-ghost use Rattle.link_text.specs.declared.live_script.AppCommand.{AppCommand};
-ghost use Rattle.link_text.specs.declared.live_script.BlockCommand.{BlockCommand};
+ghost use Rattle.link_script.specs.declared.live_script.Act.{Act};
+ghost use Rattle.link_script.specs.declared.live_script.AppCommand.{AppCommand};
+ghost use Rattle.link_script.specs.declared.live_script.BlockCommand.{BlockCommand};
 
-use crate::live_script::{Act, AppCommand, BlockCommand};
 use crate::values::{moment_in, number_in, quantum_in, signed_in, tempo_in, truth_in};
 use link_lines::{first_word, is_end, is_word, next_word};
+use link_script::{Act, AppCommand, BlockCommand};
 
 /// The greatest number of a block.
 pub(crate) const BLOCK_MAX: u64 = 524_288;

@@ -3,7 +3,7 @@
 ghost use Rattle.std.specs.Prelude.{◌≡◌, ◌≤◌, ◌<◌, ◌+◌, ◌-◌, ◌^◌, ◌∷◌, [], ℕ, ℤ, Bool, true, false, List, length, map, vec_len, vec_capacity, IsTrue, IfOk, IfErr, IsErrOf, IfSome, IfNone};
 ghost use Rattle.link_node.specs.Config.{gate_value};
 ghost use Rattle.link_text.specs.LiveParts.{HasBadCommand, HasCommands, IsLiveStart, IsStartFault, TakesCommand, lines_told};
-ghost use Rattle.link_text.specs.LiveScript.{Command, IsCommand, IsLiveLineFault, IsLiveText, IsTempo, begins_command, command_line, commands_told, live_version_line, setup_line};
+ghost use Rattle.link_script.specs.LiveScript.{Command, IsCommand, IsLiveLineFault, IsLiveText, IsTempo, begins_command, command_line, commands_told, live_version_line, setup_line};
 ghost use Rattle.link_text.specs.Places.{IsAhead, counting_from};
 
 use crate::fault::BadLine;
@@ -15,58 +15,11 @@ use crate::place::{Place, first_place, line_from};
 use arrayvec::ArrayVec;
 use link_lines::line_at;
 use link_node::GateSetup;
+use link_script::{AppCommand, BlockCommand, LiveScript};
 use std::alloc::{AllocError, Global};
 
 /// How many commands a script may have.
 pub(crate) const MOST_COMMANDS: usize = 4_096;
-
-/// What is done.
-#[derive(Clone, Copy, Debug, PartialEq, Eq)]
-pub enum Act {
-    /// Another tempo, in microseconds per beat.
-    Tempo(i64),
-    /// A beat is forced to be the present one, in microbeats.
-    Force(i64),
-    /// A beat is asked for, in microbeats.
-    Request(i64),
-    /// Another quantum, in microbeats: 0..=2^40.
-    Quantum(i64),
-    Play,
-    Stop,
-    /// The state is captured, and nothing changes.
-    Look,
-}
-
-/// What an application does.
-#[derive(Clone, Copy, Debug, PartialEq, Eq)]
-pub struct AppCommand {
-    /// The moment, in microseconds.
-    pub at: i64,
-    pub act: Act,
-}
-
-/// What an audio thread does.
-#[derive(Clone, Copy, Debug, PartialEq, Eq)]
-pub struct BlockCommand {
-    /// The number of the block, from 1 to 524,288.
-    pub block: u64,
-    /// Neither a beat nor a look.
-    pub act: Act,
-}
-
-/// A live script, read to its end.
-#[derive(Debug, Drop)]
-pub struct LiveScript {
-    /// The tempo of the first session, in microseconds per beat.
-    pub mpb: i64,
-    /// Whether starts are shared with the session.
-    pub sync: bool,
-    pub gates: ArrayVec<GateSetup, 4>,
-    /// In the order of their lines.
-    pub apps: Vec<AppCommand>,
-    /// In the order of their lines.
-    pub blocks: Vec<BlockCommand>,
-}
 
 /// Why a text was not read.
 #[derive(Clone, Copy, Debug, PartialEq, Eq)]

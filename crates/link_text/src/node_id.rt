@@ -2,7 +2,7 @@
 
 ghost use Rattle.std.specs.Prelude.{◌≡◌, IfSome, IfNone};
 ghost use Rattle.lk_base.specs.declared.ids.NodeId.{NodeId};
-ghost use Rattle.link_text.specs.ReplayScript.{IsVisibleId};
+ghost use Rattle.link_script.specs.ReplayScript.{IsVisibleId};
 
 use lk_base::NodeId;
 

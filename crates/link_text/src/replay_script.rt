@@ -6,7 +6,7 @@ ghost use Rattle.link_node.specs.Config.{ConfigValue, config_value};
 ghost use Rattle.link_node.specs.Event.{EventValue, event_value, audio_after};
 ghost use Rattle.link_text.specs.HeadParts.{IsFront, IsKnownVersion, IsNode, config_of, plain_of};
 ghost use Rattle.link_text.specs.Places.{AreOfVersion, HasBadEvent, IsAhead, IsOfVersion, counting_from};
-ghost use Rattle.link_text.specs.ReplayScript.{AreEventLines, IsBehindLine, IsChecked, IsEventLine, IsLineFault, IsNextEvent, IsWithoutQuantum, SaysFrom, SaysSome, group_line, node_line, quantum_line, version_line};
+ghost use Rattle.link_script.specs.ReplayScript.{AreEventLines, IsBehindLine, IsChecked, IsEventLine, IsLineFault, IsNextEvent, IsWithoutQuantum, SaysFrom, SaysSome, group_line, node_line, quantum_line, version_line};
 ghost use Rattle.link_text.specs.SaidEvent.{said_value};
 
 use crate::event_read::said_of;

@@ -5,8 +5,8 @@ ghost use Rattle.std.specs.Fmt.{decimal, signed_decimal};
 ghost use Rattle.lk_base.specs.Endpoint.{IsEndpoint};
 ghost use Rattle.lk_base.specs.Ranges.{IsMoment, IsQuantum, IsWithinLimit};
 ghost use Rattle.link_lines.specs.LineWords.{ReadsWord, words_left};
-ghost use Rattle.link_text.specs.LiveScript.{IsTempo};
-ghost use Rattle.link_text.specs.ReplayScript.{IsVisibleId};
+ghost use Rattle.link_script.specs.LiveScript.{IsTempo};
+ghost use Rattle.link_script.specs.ReplayScript.{IsVisibleId};
 ghost use Rattle.link_lines.specs.Words.{endpoint_text_of, truth_text_of};
 
 use crate::node_id::id_of;

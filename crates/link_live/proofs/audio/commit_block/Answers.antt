@@ -1,6 +1,6 @@
 use Rattle.std.proofs.Common.{refl, ◌∙◌, pos, w64, arith}
 use Rattle.std.proofs.lemmas.Int.{to_z-of_z}
-use Rattle.link_text.specs.declared.live_script.Act.TheVariants.{Tempo}
+use Rattle.link_script.specs.declared.live_script.Act.TheVariants.{Tempo}
 use Rattle.link_live.proofs.CommitLemmas.{committed_none, committed_more, committed_all, room_at}
 use Rattle.link_live.proofs.audio.commit_block.Goals as goal
 

@@ -1,5 +1,5 @@
 use Rattle.std.proofs.Common.{refl}
-use Rattle.link_text.specs.LiveScript.{IsLiveLineFault}
+use Rattle.link_script.specs.LiveScript.{IsLiveLineFault}
 use Rattle.link_commands.specs.declared.status.Grammar.TheVariants as grammar
 use Rattle.link_live_command.proofs.InputLemmas.{fault_read, unread_of_any}
 use Rattle.link_live_command.proofs.input.read_script.Goals as goal

@@ -3,9 +3,9 @@ use Rattle.std.proofs.lemmas.Int.{to_z-of_z}
 use Rattle.std.specs.Prelude.{All}
 use Rattle.std.proofs.lemmas.List.{length-map}
 use Rattle.link_node.specs.Config.{config_value}
-use Rattle.link_text.specs.LiveScript.{IsCommand, app, block}
-use Rattle.link_text.specs.declared.live_script.AppCommand.{AppCommand}
-use Rattle.link_text.specs.declared.live_script.BlockCommand.{BlockCommand}
+use Rattle.link_script.specs.LiveScript.{IsCommand, app, block}
+use Rattle.link_script.specs.declared.live_script.AppCommand.{AppCommand}
+use Rattle.link_script.specs.declared.live_script.BlockCommand.{BlockCommand}
 use Rattle.link_live.specs.LiveRun.{told_of}
 use Rattle.link_live.specs.Report.{ReportValue, report_value}
 use Rattle.link_live_command.proofs.LiveLemmas.{replays, run_of_script}

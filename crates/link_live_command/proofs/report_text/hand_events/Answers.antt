@@ -1,7 +1,7 @@
 use Rattle.std.proofs.Common.{◌∙◌, arith}
 use Rattle.std.proofs.lemmas.List.Folds.{flat_map-map}
 use Rattle.link_node.specs.Event.{event_value}
-use Rattle.link_text.specs.ReplayScript.{ended, event_line}
+use Rattle.link_script.specs.ReplayScript.{ended, event_line}
 use Rattle.link_commands.proofs.OutletLemmas.{on_failure}
 use Rattle.link_commands.proofs.ReplayLemmas.{each_next, each_part, each_whole}
 use Rattle.link_live_command.proofs.report_text.hand_events.Goals as goal

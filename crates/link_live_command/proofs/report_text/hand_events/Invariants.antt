@@ -1,7 +1,7 @@
 -- The events so far are handed over.
 use Rattle.std.proofs.Common.{◌≡◌}
 use Rattle.link_node.specs.Event.{event_value}
-use Rattle.link_text.specs.ReplayScript.{ended, event_line}
+use Rattle.link_script.specs.ReplayScript.{ended, event_line}
 use Rattle.link_commands.proofs.ReplayLemmas.{HasHandedEach}
 use Rattle.link_live_command.proofs.report_text.hand_events.Given as goal
 

@@ -2,7 +2,7 @@ use Rattle.std.proofs.Common.{◌<◌, ◌∙◌, length, subst, ℤ, arith, w64
 use Rattle.std.specs.List.{flat_map}
 use Rattle.std.proofs.lemmas.Int.{to_z-of_z}
 use Rattle.link_node.specs.Config.{config_value}
-use Rattle.link_text.specs.ReplayScript.{ended, head_lines}
+use Rattle.link_script.specs.ReplayScript.{ended, head_lines}
 use Rattle.link_commands.specs.Outlet.{HandsPart}
 use Rattle.link_commands.proofs.OutletLemmas.{on_failure}
 use Rattle.link_live_command.proofs.ReportLemmas.{head_next, head_part}

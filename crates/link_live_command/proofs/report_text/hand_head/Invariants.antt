@@ -1,7 +1,7 @@
 -- The lines so far are handed over.
 use Rattle.std.proofs.Common.{◌≡◌}
 use Rattle.link_node.specs.Config.{config_value}
-use Rattle.link_text.specs.ReplayScript.{ended, head_lines}
+use Rattle.link_script.specs.ReplayScript.{ended, head_lines}
 use Rattle.link_commands.proofs.ReplayLemmas.{HasHandedEach}
 use Rattle.link_live_command.proofs.report_text.hand_head.Given as goal
 

@@ -1,7 +1,7 @@
 -- The lines of the gates so far are counted, at most 33 for each.
 use Rattle.std.proofs.Common.{◌≡◌, ◌≤◌, ◌+◌, ◌*◌}
 use Rattle.link_node.specs.Config.{gate_value}
-use Rattle.link_text.specs.ReplayScript.{gate_lines}
+use Rattle.link_script.specs.ReplayScript.{gate_lines}
 use Rattle.link_live_command.proofs.ReportLemmas.{count_of}
 use Rattle.link_live_command.proofs.report_text.head_length.Given as goal
 

@@ -1,7 +1,7 @@
 use Rattle.std.proofs.Common.{rules, FitsSigned, w64}
 use Rattle.std.specs.Fmt.{signed_decimal}
 use Rattle.std.proofs.lemmas.Int.{to_z-of_z}
-use Rattle.link_text.specs.ReplayScript.{quantum_words, start_words, timeline_words}
+use Rattle.link_script.specs.ReplayScript.{quantum_words, start_words, timeline_words}
 use Rattle.link_text.proofs.JoinLemmas.{commit_pieces}
 use Rattle.link_text.proofs.event_line.put_commit.Goals as goal
 

@@ -1,7 +1,7 @@
 use Rattle.std.proofs.Common.{rules, codes, FitsSigned, w64}
 use Rattle.std.specs.Fmt.{decimal, signed_decimal}
 use Rattle.std.proofs.lemmas.Int.{to_z-of_z}
-use Rattle.link_text.specs.ReplayScript.{event_words, hex_word}
+use Rattle.link_script.specs.ReplayScript.{event_words, hex_word}
 use Rattle.link_lines.specs.Words.{endpoint_text_of}
 use Rattle.link_text.proofs.JoinLemmas.{arrival_pieces}
 use Rattle.link_text.proofs.event_line.write_arrival.Goals as goal

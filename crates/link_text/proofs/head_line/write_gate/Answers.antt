@@ -1,5 +1,5 @@
 use Rattle.std.proofs.Common.{◌≤◌, ◌∙◌, ap, arith}
-use Rattle.link_text.specs.ReplayScript.{ended}
+use Rattle.link_script.specs.ReplayScript.{ended}
 use Rattle.link_text.proofs.WrittenHeadLemmas.{destination_there}
 use Rattle.link_text.proofs.head_line.write_gate.Goals as goal
 

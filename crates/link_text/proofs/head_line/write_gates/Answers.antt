@@ -1,6 +1,6 @@
 use Rattle.std.proofs.Common.{◌≡◌, ◌<◌, ◌+◌, ◌∙◌, sym, arith, refl, length}
 use Rattle.link_node.specs.Config.{gate_value}
-use Rattle.link_text.specs.ReplayScript.{gate_lines}
+use Rattle.link_script.specs.ReplayScript.{gate_lines}
 use Rattle.link_text.proofs.WrittenHeadLemmas.{gate_here, length-gate_lines, gate_past, no_gate_past}
 use Rattle.link_text.proofs.head_line.write_gates.Goals as goal
 

@@ -3,7 +3,7 @@ use Rattle.std.proofs.Common.{◌≡◌, map}
 use Rattle.std.specs.Prelude.{slice_get}
 use Rattle.std.specs.List.{flat_map}
 use Rattle.link_node.specs.Config.{gate_value}
-use Rattle.link_text.specs.ReplayScript.{gate_lines}
+use Rattle.link_script.specs.ReplayScript.{gate_lines}
 use Rattle.link_text.proofs.WrittenHeadLemmas.{lines_from}
 use Rattle.link_text.proofs.head_line.write_gates.Given as goal
 

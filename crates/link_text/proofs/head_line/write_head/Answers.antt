@@ -3,7 +3,7 @@ use Rattle.std.specs.Prelude.{slice_get}
 use Rattle.std.specs.List.{flat_map}
 use Rattle.link_node.specs.Config.{gate_value}
 use Rattle.link_node.specs.declared.config.GateSetup.{GateSetup}
-use Rattle.link_text.specs.ReplayScript.{gate_lines, head_lines}
+use Rattle.link_script.specs.ReplayScript.{gate_lines, head_lines}
 use Rattle.link_text.proofs.WrittenHeadLemmas.{slice_get_fifth}
 use Rattle.link_text.proofs.head_line.write_head.Goals as goal
 

@@ -1,7 +1,7 @@
 use Rattle.std.proofs.Common.{List, ℕ, [], ◌∷◌, ap, arith, codes, sym}
 use Rattle.std.proofs.lemmas.Fmt.{decimal_digit}
 use Rattle.link_lines.specs.Words.{joined}
-use Rattle.link_text.specs.ReplayScript.{ended}
+use Rattle.link_script.specs.ReplayScript.{ended}
 use Rattle.link_text.proofs.head_line.write_version.Goals as goal
 
 pub returns : goal.returns

@@ -1,6 +1,6 @@
 use Rattle.std.proofs.Common.{arith, sym, ◌∙◌, subst, ℕ, ◌-◌, ◌<◌, List, length, take, drop}
 use Rattle.std.proofs.lemmas.Bool.{eqb-false}
-use Rattle.link_text.specs.ReplayScript.{IsHexOf}
+use Rattle.link_script.specs.ReplayScript.{IsHexOf}
 use Rattle.link_text.proofs.HexWordLemmas.{only_hex, only_word, words_behind}
 use Rattle.link_text.proofs.hex_word.hex_left.Goals as goal
 

@@ -1,5 +1,5 @@
 use Rattle.link_lines.specs.Lines.{lines_of}
-use Rattle.link_text.specs.LiveScript.{IsSomeLiveScript}
+use Rattle.link_script.specs.LiveScript.{IsSomeLiveScript}
 use Rattle.link_text.proofs.FirstFaultLemmas.{no_text, one_fault}
 use Rattle.link_text.proofs.LiveLemmas.{one_script, one_text}
 use Rattle.link_text.proofs.laws.one_live_script.Goals as goal

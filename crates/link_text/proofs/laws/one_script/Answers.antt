@@ -1,4 +1,4 @@
-use Rattle.link_text.specs.ReplayScript.{IsSomeScript}
+use Rattle.link_script.specs.ReplayScript.{IsSomeScript}
 use Rattle.link_text.proofs.FirstFaultLemmas.{no_text, one_fault}
 use Rattle.link_text.proofs.OneScriptLemmas.{one_config}
 use Rattle.link_text.proofs.laws.one_script.Goals as goal

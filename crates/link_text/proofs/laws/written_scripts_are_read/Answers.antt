@@ -1,5 +1,5 @@
 use Rattle.std.proofs.Common.{arith, inr, length, map, refl}
-use Rattle.link_text.specs.ReplayScript.{event_line}
+use Rattle.link_script.specs.ReplayScript.{event_line}
 use Rattle.link_text.proofs.WrittenScriptLemmas.{events_are_said, script_is_read}
 use Rattle.link_text.proofs.laws.written_scripts_are_read.Goals as goal
 

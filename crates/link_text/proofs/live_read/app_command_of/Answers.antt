@@ -1,4 +1,4 @@
-use Rattle.link_text.specs.LiveScript.{app}
+use Rattle.link_script.specs.LiveScript.{app}
 use Rattle.link_text.proofs.LiveLineLemmas.{some_command, none_command}
 use Rattle.link_text.proofs.live_read.app_command_of.Goals as goal
 

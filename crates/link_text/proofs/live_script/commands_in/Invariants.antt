@@ -1,6 +1,6 @@
 use Rattle.std.proofs.Common.{◌≡◌, ◌+◌, ◌-◌, ◌≤◌, length, drop}
 use Rattle.link_lines.specs.Lines.{lines_of}
-use Rattle.link_text.specs.LiveScript.{commands_told}
+use Rattle.link_script.specs.LiveScript.{commands_told}
 use Rattle.link_text.specs.LiveParts.{lines_told}
 use Rattle.link_text.proofs.live_script.commands_in.Given as goal
 

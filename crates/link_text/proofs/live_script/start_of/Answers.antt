@@ -7,8 +7,8 @@ use Rattle.link_node.specs.Config.{GateValue, gate_value}
 use Rattle.link_node.specs.declared.config.GateSetup.{GateSetup}
 use Rattle.link_text.specs.HeadParts.{LacksGate}
 use Rattle.link_text.specs.Places.{counting_from}
-use Rattle.link_text.specs.ReplayScript.{gate_lines}
-use Rattle.link_text.specs.LiveScript.{live_version_line, setup_line}
+use Rattle.link_script.specs.ReplayScript.{gate_lines}
+use Rattle.link_script.specs.LiveScript.{live_version_line, setup_line}
 use Rattle.link_lines.proofs.NumberLemmas.{stored}
 use Rattle.link_text.proofs.LiveLemmas.{no_version, no_setup, no_gate, start_said}
 use Rattle.link_text.proofs.LiveHeadLemmas.{start_fault, starts_none, starts_version, starts_setup}

@@ -1,6 +1,6 @@
 use Rattle.std.proofs.Common.{arith, ap, ◌∙◌, inr, [], ◌∷◌, pos, ℕ, ◌^◌, List}
 use Rattle.link_text.specs.HeadParts.{config_of, plain_of}
-use Rattle.link_text.specs.ReplayScript.{version_line, node_line, group_line}
+use Rattle.link_script.specs.ReplayScript.{version_line, node_line, group_line}
 use Rattle.link_lines.proofs.NumberLemmas.{stored}
 use Rattle.link_text.proofs.ScriptLemmas.{fault_here, starts_none, starts_version, starts_node, starts_group, no_version, no_node, no_group, no_quantum, plain_opening, group_opening, front_of_first, front_of_second, known_second}
 use Rattle.link_text.proofs.replay_script.front_of.Goals as goal

@@ -1,6 +1,6 @@
 use Rattle.std.proofs.Common.{arith, subst, sym}
 use Rattle.link_node.specs.Event.{EventValue, event_value}
-use Rattle.link_text.specs.ReplayScript.{IsEventLine}
+use Rattle.link_script.specs.ReplayScript.{IsEventLine}
 use Rattle.link_text.proofs.NextLemmas.{behind_line, here_lines, next_end, next_bad, next_some}
 use Rattle.link_text.proofs.replay_script.next_event.Goals as goal
 

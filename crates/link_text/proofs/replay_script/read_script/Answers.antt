@@ -7,7 +7,7 @@ use Rattle.link_node.specs.Config.{GateValue, gate_value}
 use Rattle.link_node.specs.declared.config.GateSetup.{GateSetup}
 use Rattle.link_text.specs.HeadParts.{config_of, LacksGate}
 use Rattle.link_text.specs.Places.{counting_from}
-use Rattle.link_text.specs.ReplayScript.{AreEventLines, gate_lines}
+use Rattle.link_script.specs.ReplayScript.{AreEventLines, gate_lines}
 use Rattle.link_lines.proofs.NumberLemmas.{stored}
 use Rattle.link_text.proofs.ScriptLemmas.{no_first_gate, head_is, head_said, checked, bad_event, with_gates}
 use Rattle.link_text.proofs.replay_script.read_script.Goals as goal

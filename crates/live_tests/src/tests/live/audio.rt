@@ -7,7 +7,7 @@ mod rows;
 mod told;
 
 ghost use Rattle.std.specs.Prelude.{◌≡◌, ◌≤◌, [], All, length};
-ghost use Rattle.link_text.specs.LiveScript.{IsCommand, app as app_command, block as block_command};
+ghost use Rattle.link_script.specs.LiveScript.{IsCommand, app as app_command, block as block_command};
 ghost use Rattle.link_live.specs.LiveRun.{IsReady};
 
 use super::devices::{Blocks, device_of};
@@ -17,8 +17,8 @@ use super::scripts::script_of;
 use audio_handoff::StateCell;
 use client_state::Commit;
 use link_live::{Room, audio_loop};
+use link_script::LiveScript;
 use link_shared::{AudioPass, Link, LinkName, Opened, Parts};
-use link_text::LiveScript;
 use lk_base::ClientStart;
 use lk_outside::ListAudio;
 use rows::{ROWS, Row};

@@ -1,11 +1,12 @@
 //! Live scripts.
 
 ghost use Rattle.std.specs.Prelude.{◌≤◌, All, IfOk, length};
-ghost use Rattle.link_text.specs.LiveScript.{IsCommand, app as app_command, block as block_command};
+ghost use Rattle.link_script.specs.LiveScript.{IsCommand, app as app_command, block as block_command};
 
 use arrayvec::ArrayVec;
 use link_live::scripts_have_commands;
-use link_text::{LiveFault, LiveScript, read_live};
+use link_script::LiveScript;
+use link_text::{LiveFault, read_live};
 use std::alloc::Global;
 
 /// What a script says before its commands.

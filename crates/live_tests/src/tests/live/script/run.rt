@@ -1,7 +1,7 @@
 //! A link on which a script is run.
 
 ghost use Rattle.std.specs.Prelude.{◌≡◌, ◌≤◌, All, length};
-ghost use Rattle.link_text.specs.LiveScript.{IsCommand, app as app_command, block as block_command};
+ghost use Rattle.link_script.specs.LiveScript.{IsCommand, app as app_command, block as block_command};
 ghost use Rattle.link_live.specs.LiveRun.{IsReady};
 
 use super::super::lines::{Text, put};
@@ -11,8 +11,9 @@ use audio_handoff::StateCell;
 use client_state::Commit;
 use link_live::{Room, ScriptReport, script_loop};
 use link_node::{Event, Sends};
+use link_script::LiveScript;
 use link_shared::{AppPass, Got, Hub, Link, LinkName, Opened, Parts};
-use link_text::{LineBuf, LiveScript, write_event, write_state_line};
+use link_text::{LineBuf, write_event, write_state_line};
 use lk_base::MOMENT_MAX;
 use lk_outside::ListPace;
 use std::alloc::Global;

@@ -1,7 +1,8 @@
 //! What is read of live scripts.
 
 use crate::tests::machine::{expect, fail};
-use link_text::{Act, AppCommand, BlockCommand, read_live};
+use link_script::{Act, AppCommand, BlockCommand};
+use link_text::read_live;
 use std::process::Abort;
 
 const APPS: &[AppCommand] = &[

@@ -1,5 +1,5 @@
-use Rattle.link_daemon.proofs.ValidInputLemmas.{complete_valid}
-use Rattle.link_daemon.proofs.laws.valid_is_done.Goals as goal
+use Rattle.daemon_laws.proofs.ValidInputLemmas.{complete_valid}
+use Rattle.daemon_laws.proofs.laws.valid_is_done.Goals as goal
 
 pub returns : goal.returns
 returns c =

@@ -3,13 +3,13 @@ use Rattle.std.proofs.Common.{◌≡◌, sym, ◌∙◌, arith, ℕ, ◌<◌, Li
 use Rattle.std.proofs.lemmas.List.{append_assoc}
 use Rattle.std.proofs.lemmas.List.Elements.{All-head, All-same}
 use Rattle.link_text.specs.LiveHead.{IsFirstHeadFault}
-use Rattle.link_text.specs.LiveScript.{IsFirstLiveFault}
-use Rattle.link_text.specs.ReplayScript.{IsFirstFault}
+use Rattle.link_script.specs.LiveScript.{IsFirstLiveFault}
+use Rattle.link_script.specs.ReplayScript.{IsFirstFault}
 use Rattle.link_commands.specs.BadLines.{IsFirstBad}
 use Rattle.link_commands.specs.HexLines.{IsHexLine, IsBadLine}
 use Rattle.link_commands.specs.PairLines.{IsSomePair, IsNoPair}
 use Rattle.link_commands.specs.Statuses.{replay_command, decode_command, filter_command}
-use Rattle.link_daemon.specs.OneStatus.{HasOneFaultLine, HasOneHeadFaultLine, HasOneLiveFaultLine}
+use Rattle.daemon_laws.specs.OneStatus.{HasOneFaultLine, HasOneHeadFaultLine, HasOneLiveFaultLine}
 use Rattle.link_commands.proofs.HexLineLemmas.{bad_line}
 use Rattle.link_commands.proofs.DecodeLemmas.{all_back}
 

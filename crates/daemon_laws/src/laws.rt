@@ -1,7 +1,7 @@
-//! Laws of the program, each the contract of a function that does nothing.
+//! The laws: one status for one run, one line at fault for one text, and a valid input is done with.
 
-ghost use Rattle.link_daemon.specs.OneStatus.{HasOneStatus, HaveOneFaultLine};
-ghost use Rattle.link_daemon.specs.ValidInput.{CompleteValid};
+ghost use Rattle.daemon_laws.specs.OneStatus.{HasOneStatus, HaveOneFaultLine};
+ghost use Rattle.daemon_laws.specs.ValidInput.{CompleteValid};
 
 use link_control::control_ends_tell;
 use link_live::ends_tell_courses;

@@ -6,8 +6,8 @@ use Rattle.lk_outside.specs.Faults.{Rose}
 use Rattle.link_live.specs.Journal.{has_ended}
 use Rattle.link_lines.specs.Lines.{lines_of}
 use Rattle.link_text.specs.LiveHead.{IsSomeHead}
-use Rattle.link_text.specs.LiveScript.{IsSomeLiveScript, commands_told}
-use Rattle.link_text.specs.ReplayScript.{IsSomeScript}
+use Rattle.link_script.specs.LiveScript.{IsSomeLiveScript, commands_told}
+use Rattle.link_script.specs.ReplayScript.{IsSomeScript}
 use Rattle.link_control.specs.Lines.{whole_lines_of}
 use Rattle.link_control.specs.Serving.{TalkSeen}
 use Rattle.link_words.specs.ControlWords.{IsControl}

@@ -2,14 +2,14 @@
 use Rattle.std.proofs.Common.{◌≡◌, ◌≢◌, ◌≤◌, List, ℕ, Some, None, IsSome, refl, ap, subst, arith}
 use Rattle.lk_outside.specs.Faults.{Rose}
 use Rattle.lk_outside.specs.Transfer.{TakesOver}
-use Rattle.link_text.specs.LiveScript.{commands_told}
+use Rattle.link_script.specs.LiveScript.{commands_told}
 use Rattle.link_commands.specs.declared.status.Grammar.{Grammar}
 use Rattle.link_commands.specs.declared.status.Status.{Status}
 use Rattle.link_commands.specs.declared.status.Status.TheVariants as status
 use Rattle.link_commands.specs.Statuses.{Stream, WasRead}
-use Rattle.link_daemon.specs.OneStatus.{End, end_of, IsTold}
+use Rattle.daemon_laws.specs.OneStatus.{End, end_of, IsTold}
 use Rattle.link_live_command.specs.ScriptRead.{EndsReadOf, ReadsScriptFault, ReadsTooMany}
-use Rattle.link_daemon.proofs.CauseLemmas.{First, here, later, IsOne, first_is_one, rose_and_quiet, one_read, more_and_whole}
+use Rattle.daemon_laws.proofs.CauseLemmas.{First, here, later, IsOne, first_is_one, rose_and_quiet, one_read, more_and_whole}
 
 -- one line of a text outside a grammar is the first at fault, where these are
 abbrev pub HasOneFault : (List ℕ → ℕ → Type 0) → Type 0

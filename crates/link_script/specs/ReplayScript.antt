@@ -15,7 +15,7 @@ use Rattle.client_state.specs.declared.commit.Commit.{Commit}
 use Rattle.link_node.specs.Config.{ConfigValue, GateValue, IsConfig}
 use Rattle.link_node.specs.Event.{EventValue, Rx, Tick, App, Audio, End, moment_of, audio_after}
 use Rattle.link_lines.specs.Lines.{lines_of, is_passed, counting_in}
-use Rattle.link_text.specs.FirstFault as faults
+use Rattle.link_script.specs.FirstFault as faults
 use Rattle.link_lines.specs.Words.{joined, truth_text_of, endpoint_text_of}
 
 -- ---- the head

@@ -17,7 +17,7 @@ use Rattle.link_control.specs.declared.log.LineLog.{LineLog}
 use Rattle.link_control.specs.declared.run.ControlEnd.TheVariants as end
 use Rattle.link_control.specs.declared.server.Served.{Served}
 use Rattle.link_control.specs.declared.server.Served.TheVariants as served
-use Rattle.link_daemon.proofs.CauseLemmas.{one_text}
+use Rattle.daemon_laws.proofs.CauseLemmas.{one_text}
 
 -- ---- what the client sent
 

@@ -3,7 +3,7 @@ use Rattle.std.proofs.Common.{◌≡◌, ◌≢◌, Bool, false, List, ℕ, refl
 use Rattle.std.specs.declared.alloc.Global.{Global}
 use Rattle.std.specs.declared.string.String.{String}
 use Rattle.lk_outside.specs.Faults.{Rose}
-use Rattle.link_text.specs.LiveScript.{IsLiveLineFault}
+use Rattle.link_script.specs.LiveScript.{IsLiveLineFault}
 use Rattle.link_live.specs.Headline.{LiveSetup}
 use Rattle.link_live.specs.Journal.{has_ended}
 use Rattle.link_live_command.specs.LiveEnds.{EndsLive, EndsRun, Runs}
@@ -15,10 +15,10 @@ use Rattle.link_commands.specs.declared.status.Grammar.TheVariants as grammar
 use Rattle.link_commands.specs.declared.status.Status.{Status}
 use Rattle.link_commands.specs.declared.status.Status.TheVariants as status
 use Rattle.link_commands.specs.Statuses.{Stream}
-use Rattle.link_daemon.specs.OneStatus.{CanFail, End, end_of, IsTold, HasOneLiveFaultLine}
-use Rattle.link_daemon.proofs.CourseLemmas.{CourseLaws, audio_met, events_met, port_met, well_met}
-use Rattle.link_daemon.proofs.CauseLemmas.{First, here, later, IsOne, first_is_one, rose_and_quiet, ended_and_not}
-use Rattle.link_daemon.proofs.ScriptStatusLemmas.{ScriptCauses, one_script_end, script_so, unread_cause}
+use Rattle.daemon_laws.specs.OneStatus.{CanFail, End, end_of, IsTold, HasOneLiveFaultLine}
+use Rattle.daemon_laws.proofs.CourseLemmas.{CourseLaws, audio_met, events_met, port_met, well_met}
+use Rattle.daemon_laws.proofs.CauseLemmas.{First, here, later, IsOne, first_is_one, rose_and_quiet, ended_and_not}
+use Rattle.daemon_laws.proofs.ScriptStatusLemmas.{ScriptCauses, one_script_end, script_so, unread_cause}
 
 -- ---- the causes in their order
 

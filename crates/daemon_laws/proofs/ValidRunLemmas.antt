@@ -5,7 +5,7 @@ use Rattle.std.specs.declared.string.String.{String}
 use Rattle.lk_outside.specs.Faults.{Rose}
 use Rattle.lk_outside.specs.Source.{Takes}
 use Rattle.link_text.specs.LiveHead.{IsHeadLineFault}
-use Rattle.link_text.specs.LiveScript.{IsLiveLineFault, commands_told}
+use Rattle.link_script.specs.LiveScript.{IsLiveLineFault, commands_told}
 use Rattle.link_live.specs.Journal.{has_ended}
 use Rattle.link_control.specs.ControlRun.{EndsTell}
 use Rattle.link_control.specs.Lines.{onto_whole, whole_lines_of}
@@ -23,11 +23,11 @@ use Rattle.link_daemon.specs.Ends.{control_seen}
 use Rattle.link_live_command.specs.LiveEnds.{EndsLive}
 use Rattle.link_daemon.specs.AllSeen.{AllSeen}
 use Rattle.link_live_command.specs.ScriptRead.{EndsHeadRead, EndsRead, EndsReadOf, ReadsScriptFault, ReadsTooMany}
-use Rattle.link_daemon.specs.ValidInput.{IsValidHead, IsValidLive, IsValidTalk, CompletesControl, CompletesLive}
-use Rattle.link_daemon.proofs.CauseLemmas.{told_is_read, within_and_over}
-use Rattle.link_daemon.proofs.ControlCourseLemmas as control
-use Rattle.link_daemon.proofs.ControlCourseLemmas.{SendsMany}
-use Rattle.link_daemon.proofs.CourseLemmas.{CourseLaws, audio_met, events_met, port_met}
+use Rattle.daemon_laws.specs.ValidInput.{IsValidHead, IsValidLive, IsValidTalk, CompletesControl, CompletesLive}
+use Rattle.daemon_laws.proofs.CauseLemmas.{told_is_read, within_and_over}
+use Rattle.daemon_laws.proofs.ControlCourseLemmas as control
+use Rattle.daemon_laws.proofs.ControlCourseLemmas.{SendsMany}
+use Rattle.daemon_laws.proofs.CourseLemmas.{CourseLaws, audio_met, events_met, port_met}
 use Rattle.link_daemon.proofs.StatusLemmas.{as_named}
 
 -- ---- a script that is read

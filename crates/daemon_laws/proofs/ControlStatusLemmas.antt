@@ -13,12 +13,12 @@ use Rattle.link_commands.specs.declared.status.Status.TheVariants as status
 use Rattle.link_commands.specs.Statuses.{Stream}
 use Rattle.link_daemon.specs.ControlEnds.{EndsControl, EndsControlled, RunsControl}
 use Rattle.link_daemon.specs.Ends.{control_seen}
-use Rattle.link_daemon.specs.OneStatus.{CanFail, End, end_of, IsTold, HasOneHeadFaultLine, TellsTalk}
+use Rattle.daemon_laws.specs.OneStatus.{CanFail, End, end_of, IsTold, HasOneHeadFaultLine, TellsTalk}
 use Rattle.link_daemon.specs.AllSeen.{AllSeen}
 use Rattle.link_live_command.specs.ScriptRead.{EndsHeadRead}
-use Rattle.link_daemon.proofs.CauseLemmas.{First, here, later, IsOne, first_is_one, rose_and_quiet, ended_and_not}
-use Rattle.link_daemon.proofs.ControlCourseLemmas.{SendsMany, sent_many_and_few, events_met, many_met, port_met, talk_met, well_met}
-use Rattle.link_daemon.proofs.ScriptStatusLemmas.{ScriptCauses, one_script_end, script_so, unread_cause}
+use Rattle.daemon_laws.proofs.CauseLemmas.{First, here, later, IsOne, first_is_one, rose_and_quiet, ended_and_not}
+use Rattle.daemon_laws.proofs.ControlCourseLemmas.{SendsMany, sent_many_and_few, events_met, many_met, port_met, talk_met, well_met}
+use Rattle.daemon_laws.proofs.ScriptStatusLemmas.{ScriptCauses, one_script_end, script_so, unread_cause}
 
 -- ---- the causes in their order
 

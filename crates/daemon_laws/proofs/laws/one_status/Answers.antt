@@ -1,6 +1,6 @@
-use Rattle.link_daemon.proofs.FaultLineLemmas.{one_live_fault, one_head_fault}
-use Rattle.link_daemon.proofs.OneStatusLemmas.{one_status}
-use Rattle.link_daemon.proofs.laws.one_status.Goals as goal
+use Rattle.daemon_laws.proofs.FaultLineLemmas.{one_live_fault, one_head_fault}
+use Rattle.daemon_laws.proofs.OneStatusLemmas.{one_status}
+use Rattle.daemon_laws.proofs.laws.one_status.Goals as goal
 
 pub returns : goal.returns
 returns c =

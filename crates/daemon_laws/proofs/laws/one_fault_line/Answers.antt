@@ -1,5 +1,5 @@
-use Rattle.link_daemon.proofs.FaultLineLemmas.{one_script_fault, one_bad_line, one_no_pair, one_live_fault, one_head_fault}
-use Rattle.link_daemon.proofs.laws.one_fault_line.Goals as goal
+use Rattle.daemon_laws.proofs.FaultLineLemmas.{one_script_fault, one_bad_line, one_no_pair, one_live_fault, one_head_fault}
+use Rattle.daemon_laws.proofs.laws.one_fault_line.Goals as goal
 
 pub returns : goal.returns
 returns c = (

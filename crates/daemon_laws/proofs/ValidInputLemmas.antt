@@ -19,11 +19,11 @@ use Rattle.link_commands.proofs.HexLineLemmas.{bad_line}
 use Rattle.link_words.specs.CommandNames.{Names}
 use Rattle.link_words.specs.declared.command_name.CommandName.{CommandName}
 use Rattle.link_words.specs.declared.command_name.CommandName.TheVariants as name
-use Rattle.link_daemon.specs.ValidInput.{IsScriptText, IsValidFor, CompletesLoad, CompletesMidi, CompletesValid, CompleteValid}
-use Rattle.link_daemon.proofs.CauseLemmas.{told_is_read, within_and_over}
-use Rattle.link_daemon.proofs.CourseLemmas.{CourseLaws}
+use Rattle.daemon_laws.specs.ValidInput.{IsScriptText, IsValidFor, CompletesLoad, CompletesMidi, CompletesValid, CompleteValid}
+use Rattle.daemon_laws.proofs.CauseLemmas.{told_is_read, within_and_over}
+use Rattle.daemon_laws.proofs.CourseLemmas.{CourseLaws}
 use Rattle.link_daemon.proofs.StatusLemmas.{as_named}
-use Rattle.link_daemon.proofs.ValidRunLemmas.{completes_control, completes_live}
+use Rattle.daemon_laws.proofs.ValidRunLemmas.{completes_control, completes_live}
 
 -- ---- texts of a grammar
 

@@ -5,13 +5,13 @@ use Rattle.std.specs.Fmt.{decimal, signed_decimal}
 use Rattle.lk_base.specs.Ranges.{IsMoment, IsQuantum, IsWithinLimit}
 use Rattle.link_node.specs.Config.{GateValue}
 use Rattle.link_lines.specs.Lines.{lines_of, counting_in}
-use Rattle.link_text.specs.FirstFault as faults
-use Rattle.link_text.specs.ReplayScript.{IsGate, gate_lines}
+use Rattle.link_script.specs.FirstFault as faults
+use Rattle.link_script.specs.ReplayScript.{IsGate, gate_lines}
 use Rattle.link_lines.specs.Words.{joined, truth_text_of}
-use Rattle.link_text.specs.declared.live_script.Act.{Act}
-use Rattle.link_text.specs.declared.live_script.Act.TheVariants.{Tempo, Force, Request, Quantum, Play, Stop, Look}
-use Rattle.link_text.specs.declared.live_script.AppCommand.{AppCommand}
-use Rattle.link_text.specs.declared.live_script.BlockCommand.{BlockCommand}
+use Rattle.link_script.specs.declared.live_script.Act.{Act}
+use Rattle.link_script.specs.declared.live_script.Act.TheVariants.{Tempo, Force, Request, Quantum, Play, Stop, Look}
+use Rattle.link_script.specs.declared.live_script.AppCommand.{AppCommand}
+use Rattle.link_script.specs.declared.live_script.BlockCommand.{BlockCommand}
 
 -- ---- the head
 

@@ -3,7 +3,7 @@ use Rattle.std.specs.Prelude.{◌≡◌, ◌≢◌, ◌<◌, ◌^◌, ◌-◌, �
 use Rattle.std.specs.declared.alloc.Global.{Global}
 use Rattle.std.specs.declared.string.String.{String}
 use Rattle.link_text.specs.LiveHead.{IsHeadLineFault}
-use Rattle.link_text.specs.LiveScript.{IsLiveLineFault}
+use Rattle.link_script.specs.LiveScript.{IsLiveLineFault}
 use Rattle.link_words.specs.ControlWords.{BeginsControl}
 use Rattle.link_commands.specs.declared.status.Grammar.{Grammar}
 use Rattle.link_commands.specs.declared.status.Status.{Status}

@@ -19,14 +19,14 @@ use Rattle.link_commands.specs.declared.status.Grammar.{Grammar}
 use Rattle.link_commands.specs.declared.status.Status.{Status}
 use Rattle.link_commands.specs.declared.status.Status.TheVariants as status
 use Rattle.link_commands.specs.Statuses.{Command, Stream, ReadsText, ReadsFault, EndsBy, EndsInput, EndsLoad, EndsMidi, replay_command, decode_command, filter_command, midi_command}
-use Rattle.link_daemon.specs.OneStatus.{CanFail, End, end_of, IsTold, TellsTalk, HasOneStatus, HasOneFaultLine, HasOneHeadFaultLine, HasOneLiveFaultLine}
-use Rattle.link_daemon.proofs.CourseLemmas.{CourseLaws}
-use Rattle.link_daemon.proofs.CauseLemmas.{First, here, later, IsOne, first_is_one, rose_and_quiet, one_read, more_and_whole}
+use Rattle.daemon_laws.specs.OneStatus.{CanFail, End, end_of, IsTold, TellsTalk, HasOneStatus, HasOneFaultLine, HasOneHeadFaultLine, HasOneLiveFaultLine}
+use Rattle.daemon_laws.proofs.CourseLemmas.{CourseLaws}
+use Rattle.daemon_laws.proofs.CauseLemmas.{First, here, later, IsOne, first_is_one, rose_and_quiet, one_read, more_and_whole}
 use Rattle.link_commands.proofs.HexLineLemmas.{bad_and_decoded}
 use Rattle.link_commands.proofs.FilterLemmas.{bad_and_filtered}
-use Rattle.link_daemon.proofs.FaultLineLemmas.{IsFaultOnce, one_script_fault, one_bad_line, one_no_pair}
-use Rattle.link_daemon.proofs.ControlStatusLemmas.{one_control}
-use Rattle.link_daemon.proofs.LiveStatusLemmas.{one_live}
+use Rattle.daemon_laws.proofs.FaultLineLemmas.{IsFaultOnce, one_script_fault, one_bad_line, one_no_pair}
+use Rattle.daemon_laws.proofs.ControlStatusLemmas.{one_control}
+use Rattle.daemon_laws.proofs.LiveStatusLemmas.{one_live}
 
 -- a text for which a command gives an output has no fault
 abbrev pub AreExclusive : Command → Type 0

@@ -4,7 +4,7 @@ use Rattle.std.proofs.lemmas.List.{append-nil}
 use Rattle.lk_outside.specs.Faults.{Rose}
 use Rattle.lk_outside.specs.Source.{Takes, IsAtEnd}
 use Rattle.lk_outside.specs.Transfer.{TakesOver}
-use Rattle.link_daemon.specs.OneStatus.{End}
+use Rattle.daemon_laws.specs.OneStatus.{End}
 use Rattle.link_commands.specs.Statuses.{Stream, WasRead}
 
 -- ---- the first cause

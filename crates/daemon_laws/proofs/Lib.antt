@@ -1,0 +1,10 @@
+mod FaultLineLemmas
+mod CauseLemmas
+mod CourseLemmas
+mod ControlCourseLemmas
+mod ScriptStatusLemmas
+mod LiveStatusLemmas
+mod ControlStatusLemmas
+mod OneStatusLemmas
+mod ValidRunLemmas
+mod ValidInputLemmas

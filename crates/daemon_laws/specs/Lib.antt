@@ -1,0 +1,2 @@
+pub mod OneStatus
+pub mod ValidInput
