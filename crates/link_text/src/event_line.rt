@@ -17,7 +17,7 @@ use lk_base::{ClientStart, Endpoint, Gate, Timeline};
 
 /// Puts the line of an event in place of what the buffer held. The bytes of a datagram are hex digits of lower case, and a
 /// hyphen where there are none. Memory: none.
-#[tactic(auto, unfolding(crate::specs::ReplayScript::event_words))]
+#[tactic(auto, unfolding(link_script::specs::ReplayScript::event_words))]
 pub fn write_event(line: &mut LineBuf, event: &Event)
     ensures { line.new.items ≡ ended (event_line (event_value event.now)) }
 {
@@ -57,7 +57,7 @@ pub fn write_event(line: &mut LineBuf, event: &Event)
 }
 
 // Puts the line of a datagram that came in place of what the buffer held.
-#[tactic(auto, unfolding(crate::specs::ReplayScript::event_words))]
+#[tactic(auto, unfolding(link_script::specs::ReplayScript::event_words))]
 fn write_arrival(line: &mut LineBuf, gate: Gate, from: Endpoint, bytes: &[u8], now: i64)
     requires { length bytes.now ≤ 513 }
     ensures { line.new.items ≡ ended (event_line (Rx gate from bytes.now now)) }
@@ -75,7 +75,7 @@ fn write_arrival(line: &mut LineBuf, gate: Gate, from: Endpoint, bytes: &[u8], n
 }
 
 // Puts the line of a commit of the audio thread in place of what the buffer held.
-#[tactic(auto, unfolding(crate::specs::ReplayScript::event_words))]
+#[tactic(auto, unfolding(link_script::specs::ReplayScript::event_words))]
 fn write_audio(line: &mut LineBuf, number: u64, commit: &Commit, now: i64)
     ensures { line.new.items ≡ ended (event_line (Audio number commit.now now)) }
 {

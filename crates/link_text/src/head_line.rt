@@ -14,7 +14,7 @@ use lk_base::{Endpoint, NodeId};
 
 /// Puts the k-th line of the head of a script of version 2, from 0, in place of what the buffer held. False past the last one; nothing
 /// changes then. Memory: none.
-#[tactic(auto, unfolding(crate::specs::ReplayScript::head_lines))]
+#[tactic(auto, unfolding(link_script::specs::ReplayScript::head_lines))]
 pub fn write_head(line: &mut LineBuf, config: &Config, now: i64, k: u32) -> bool
     ensures there { (l : List ℕ) → slice_get (head_lines 2 (config_value config.now) now) k ≡ Some l
         → (result ≡ true) × (line.new.items ≡ ended l) }
