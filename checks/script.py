@@ -98,13 +98,14 @@ PASSING = """case $1 in
   *) exit 1 ;;
 esac
 """
-# A run of one crate notes when it begins, and is at work for three seconds.
+# A run of some crates notes when it begins, and is at work on the first for three seconds.
 WORKING = PASSING.replace(
     "  ci)\n",
     """  ci)
-    if [ $# -eq 2 ]; then
-      echo "$2 $(date +%s.%N)" >>"$NOTES"
-      exec bash -c 'exec -a /kit/rattle bash -c "sleep 3; :" --crate-name "$1"' here "$2"
+    if [ $# -ge 2 ]; then
+      shift
+      for name; do echo "$name $(date +%s.%N)" >>"$NOTES"; done
+      exec bash -c 'exec -a /kit/rattle bash -c "sleep 3; :" --crate-name "$1"' here "$1"
     fi
     mv "$NOTES" "$NOTES.begun"
 """,
@@ -188,10 +189,10 @@ def first_builds(folder):
         asked = copy.was_asked() or []
         yield f"jorazhil {' '.join(words)}, where rt ci passes", why or (None if ("ci" in asked) == (number == 0) else f"rt was called, with {asked!r}")
         if number == 0:
-            # Where several runs are made, each of one crate, that of all comes last.
+            # Where several runs are made, each of crates of its own, that of all comes last.
             runs = [call.split()[1:] for call in asked if call.split()[0] == "ci"]
             named = [name for run in runs[:-1] for name in run]
-            is_well = runs[-1] == [] and len(runs) == len(set(named)) + 1 and all(len(run) == 1 for run in runs[:-1])
+            is_well = runs[-1] == [] and len(named) == len(set(named)) and all(runs[:-1])
             yield "the runs of a first build", None if is_well and "jorazhil" not in named else f"rt was called, with {asked!r}"
     with open(copy.notes, encoding="utf-8") as file:
         seen = file.read().split()
@@ -199,7 +200,8 @@ def first_builds(folder):
     lacking = [name for name in ("HANDLES", "crates.txt", "lk_base", "src") if name not in seen]
     yield "the copy that is proved", f"it has {wrong} and lacks {lacking}" if wrong or lacking else None
     copy = Copy(folders[1], REFUSING)
-    yield "jorazhil replay, where rt ci fails", differs(["replay"], 125, [], ["it could not be built", "src/main.rt:7:1: error"], copy.run(["replay"]))
+    told = ["it could not be built; rt says what is wrong", "src/main.rt:7:1: error"]
+    yield "jorazhil replay, where rt ci fails", differs(["replay"], 125, [], told, copy.run(["replay"]))
     # What is proved can't be kept beside a kit that lies nowhere.
     copy = Copy(folders[2], PASSING.replace("$KIT", "/nowhere/kit"))
     copy.run(["replay"])

@@ -7,9 +7,9 @@ ghost use Rattle.link_live_command.specs.LiveSetup.{IsRead};
 ghost use Rattle.link_live_command.specs.ScriptRead.{EndsHeadRead, EndsRead, EndsReadOf};
 
 use link_commands::{Grammar, Reason, Status};
+use link_script::LiveScript;
 use link_text::{
-    HeadFault, LiveFault, LiveHead, LiveScript, explain_head, explain_live, read_live,
-    read_live_head,
+    HeadFault, LiveFault, LiveHead, explain_head, explain_live, read_live, read_live_head,
 };
 use lk_outside::{InputFault, Source, read_all};
 use std::alloc::Global;
