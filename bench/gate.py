@@ -458,11 +458,14 @@ def refuse_kept(sums, names):
         raise Failed(f"this wasn't from nothing, since what an earlier run had passed was kept: {', '.join(kept)}")
 
 
-def first_measured(processors, yardstick):
-    """Runs the first command, and returns its row among the first commands."""
+def first_measured(processors, old, yardstick):
+    """Runs the first command, and returns its row among the first commands. `old` has the figures of the page."""
     watch, took, worked, *_ = watched(processors, FIRST, FIRST_INPUT)
     refuse_kept(watch.sums(), below(PROGRAM))
     slow = slowness_around(watch, watched(processors, ["rt", "ci", "--anew", *yardstick])[0], yardstick)
+    by_page = slowness_by_page({name: taken for name, taken in watch.sums().items() if name not in watch.shared}, old, ("proof",))
+    if by_page is not None:
+        print(f"gate: by the figures that docs/GATE.md has of all proofs in it that had one job it would be {by_page:.2f} times as slow")
     print(f"gate: the first command took {took:.0f} s, on a machine {slow:.2f} times as slow as the yardstick's")
     return row_of(processors, took, slow, worked, f"{watch.most / 2**30:.1f} GB")
 
@@ -538,11 +541,11 @@ def main():
         between(page, RUNS, RUNS_END)
         between(page, FIRSTS, FIRSTS_END)
         yardstick = yardstick_of(page[start:stop])
+        old, budgets = figures_of(page[begin:end]), budgets_of(page[first:last])
         if is_first:
-            write(with_row(page, FIRSTS, FIRSTS_END, FIRSTS_HEAD, first_measured(processors, yardstick)))
+            write(with_row(page, FIRSTS, FIRSTS_END, FIRSTS_HEAD, first_measured(processors, old, yardstick)))
             print("gate: docs/GATE.md has the row")
             return 0
-        old, budgets = figures_of(page[begin:end]), budgets_of(page[first:last])
         lines, row, over, status = measured(processors, words, is_anew, old, *budgets, yardstick)
     except Failed as error:
         print(f"gate: {error}", file=sys.stderr)
