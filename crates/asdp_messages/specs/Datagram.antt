@@ -99,11 +99,13 @@ abbrev pub IsAnswer : {A : Type 0} → (List EntryValue → Option ℕ → Resul
 IsAnswer answer_of payload answer =
     (es : List EntryValue) × (cut : Option ℕ) × AreEntriesIn payload es cut × (answer ≡ answer_of es cut)
 
+-- Rule: An alive or a response has to have a state as its payload, and a pong a pong's; the payload's fault is the datagram's.
 -- a message of the payload's answer, or the payload's fault
 abbrev pub IsMessage : {A : Type 0} → (List EntryValue → Option ℕ → Result A PayloadFault) → (A → MessageValue) → List ℕ → Result MessageValue WireFault → Type 0
 IsMessage {A} answer_of message_of payload answer =
     (read : Result A PayloadFault) × IsAnswer answer_of payload read × (answer ≡ result_map_both message_of (λ fault. Payload fault) read)
 
+-- Rule: Of discovery datagrams the kind 1 is an alive, 2 a response and 3 a bye; another kind is read without its payload.
 -- a discovery datagram of at least 20 bytes, by its kind
 unfoldable pub IsDiscoveryReadAs : List ℕ → Result MessageValue WireFault → Type 0
 IsDiscoveryReadAs bytes answer =
@@ -112,6 +114,7 @@ IsDiscoveryReadAs bytes answer =
     (MatchBool (kind_in bytes == 3) (answer ≡ Ok (Bye (sender_in bytes) (ttl_in bytes) (group_in bytes)))
     (answer ≡ Ok (OtherDiscovery (kind_in bytes)))))
 
+-- Rule: Of measurement datagrams the kind 1 is a ping and 2 a pong; the payload of a ping is all behind its nine bytes of header.
 -- a measurement datagram, by its kind
 unfoldable pub IsLinkReadAs : List ℕ → Result MessageValue WireFault → Type 0
 IsLinkReadAs bytes answer =
@@ -119,8 +122,8 @@ IsLinkReadAs bytes answer =
     (MatchBool (kind_in bytes == 2) (IsMessage pong_answer_of (λ fields. Pong fields) (drop 9 bytes) answer)
     (answer ≡ Ok (OtherLink (kind_in bytes))))
 
--- Fewer than 9 bytes are short. What begins with neither protocol is none of Link. More than 512 bytes are too
--- long. A discovery datagram of fewer than 20 bytes is short. Any other is read by its kind.
+-- Rule: Of a datagram's faults the first is told: under 9 bytes, neither protocol's, over 512 bytes, a discovery datagram under 20, its
+-- payload's fault.
 unfoldable pub IsReadAs : List ℕ → Result MessageValue WireFault → Type 0
 IsReadAs bytes answer =
     MatchBool (nat_lt (length bytes) 9) (answer ≡ Err (Short (length bytes)))
@@ -130,7 +133,7 @@ IsReadAs bytes answer =
     (MatchBool (nat_lt (length bytes) 20) (answer ≡ Err (Short (length bytes)))
     (IsDiscoveryReadAs bytes answer)))))
 
--- bytes are read as something
+-- Rule: Every datagram is read as one message or has one fault.
 abbrev pub AreAllRead : Type 0
 AreAllRead =
     (bytes : List ℕ) → AreBytes bytes → length bytes < 2 ^ 32 → (reading : Result MessageValue WireFault) × IsReadAs bytes reading

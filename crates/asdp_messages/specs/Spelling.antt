@@ -7,12 +7,13 @@ use Rattle.link_payload.specs.declared.fields.PingFields.{PingFields}
 use Rattle.link_payload.specs.Spelling.{spelled_state_of, spelled_ping_of, spelled_pong_of}
 use Rattle.asdp_messages.specs.declared.message.StateMsg.{StateMsg}
 
--- `_asdp_v`, 1, the kind, the time to live, the group in two bytes, the sender's id: 20 bytes
+-- Rule: A discovery datagram begins with 20 bytes: `_asdp_v`, 1, the kind, the time to live in seconds, the group in two bytes and the
+-- sender's id.
 unfoldable pub spelled_header_of : ℕ → ℕ → ℕ → NodeId → List ℕ
 spelled_header_of kind ttl group from =
     codes "_asdp_v" ++ 1 ∷ kind ∷ ttl ∷ (big_bytes 2 group ++ from.0)
 
--- `_link_v`, 1, the kind: 9 bytes
+-- Rule: A measurement datagram begins with 9 bytes: `_link_v`, 1 and the kind.
 unfoldable pub spelled_link_header_of : ℕ → List ℕ
 spelled_link_header_of kind = codes "_link_v" ++ 1 ∷ kind ∷ []
 
@@ -32,6 +33,6 @@ spelled_of (Bye from ttl group) = spelled_header_of 3 ttl group from
 spelled_of (Ping ping) = spelled_link_header_of 1 ++ spelled_ping_of ping
 spelled_of (Pong session ghost_time echo) = spelled_link_header_of 2 ++ spelled_pong_of session ghost_time echo
 
--- a state that is sent counts for 5 seconds
+-- Rule: An alive and a response are written with a time to live of 5 seconds, and a bye with 0.
 abbrev pub sent : NodeId → ℕ → PeerFields → StateMsg
 sent from group fields = record { from = from; ttl = 5; group = group; fields = fields }

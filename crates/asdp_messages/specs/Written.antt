@@ -26,6 +26,7 @@ IsTidyWritten (written.Bye from ttl group) = (ttl < 256) × (group < 2 ^ 16) × 
 IsTidyWritten (written.Ping ping) = Unit {0}
 IsTidyWritten (written.Pong session ghost_time echo) = (length session.0 ≡ 8) × IsWithinLimit ghost_time
 
+-- Rule: A datagram that was written from tidy fields is read as the message that was written.
 -- the same message, a ping as its payload, and a pong where it echoes a tidy ping, with that ping's times
 abbrev pub Says : Written → MessageValue → Type 0
 Says (written.Alive m) read = read ≡ message.Alive m

@@ -8,6 +8,7 @@ use Rattle.atomic_table.specs.Seated.{TableId}
 abbrev pub Pair : Type 0
 Pair = ℕ × List ℕ
 
+-- Rule: A cell hands rows from one writer to one reader; rows are numbered from 0, the opening row.
 -- A writer: its cell, all rows made, the opening row first, and the atomic steps that it took
 pub record WriterView : Type 0 where
   pub cell : TableId
@@ -24,6 +25,7 @@ pub record ReaderView : Type 0 where
   pub told : ℕ
   pub steps : ℕ
 
+-- Rule: A note carries the number of a row from one thread to another, so that the reader reads nothing older from then on.
 -- A note: its cell, its number, and the pairs that the reader had read when it was made, or none for a writer's note
 pub record NoteView : Type 0 where
   pub cell : TableId
@@ -38,12 +40,12 @@ Grows {A} before after = (rest : List A) × (after ≡ before ++ rest)
 abbrev pub IsMade : List (List ℕ) → ℕ → List ℕ → Type 0
 IsMade made number row = get_elem? made number ≡ some row
 
--- it is the last row made, and its number
+-- Rule: At its end a cell answers the row made last.
 pub record IsLast (made : List (List ℕ)) (number : ℕ) (row : List ℕ) : Type 0 where
   pub is_made : IsMade made number row
   pub nothing_later : length made ≡ number + 1
 
--- each pair read was made as it was read
+-- Rule: Each row that was read from a cell was made, whole and under its number.
 abbrev pub WereMade : List (List ℕ) → List Pair → Type 0
 WereMade made seen = (k : ℕ) (pair : Pair) → get_elem? seen k ≡ some pair → IsMade made pair.0 pair.1
 
@@ -85,6 +87,7 @@ IsNoteOfWriter cell writer note = (note.cell ≡ cell) × (note.number + 1 ≡ l
 abbrev pub IsNoteOfReader : TableId → ReaderView → NoteView → Type 0
 IsNoteOfReader cell reader note = (note.cell ≡ cell) × (note.number ≡ reader.number) × (note.seen ≡ reader.seen)
 
+-- Rule: A read of a cell answers one row with its number, no older than the row made last when it looked.
 -- What one read adds: the pair that it answers, and its look. The look is no older than the row last read and than each row told of
 -- before, and the pair's number is no older than the look. That the look is the number of the last row made at the step that looked is
 -- what each cell's own rule keeps of that step; it isn't said here, where the rows made aren't known

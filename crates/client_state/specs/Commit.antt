@@ -46,6 +46,7 @@ start_between old shown new now =
 abbrev pub quantum_between : ℤ → ℤ → ℤ → Option ℤ
 quantum_between old shown new = if int_eq new old && int_eq new shown then None else Some new
 
+-- Rule: A commit carries what was edited: of timeline, start and quantum those that differ from the captured or the shown state.
 unfoldable pub commit_between : State → State → State → ℤ → Commit
 commit_between old shown new now = record {
   timeline = timeline_between old.timeline shown.timeline new.timeline;

@@ -12,7 +12,7 @@ use Rattle.timeline_math.specs.Tidying.{clamped_of}
 abbrev pub timeline_at : ℤ → ℤ → ℤ → Timeline
 timeline_at mpb beat time = record { mpb = mpb; beat = beat; time = time }
 
--- the clamped tempo, through the beat that was there at that time, with the same beat origin
+-- Rule: Setting a tempo (`set_tempo`) clamps it and keeps the beat at the time given and the beat origin.
 unfoldable pub tempo_set_of : Timeline → ℤ → ℤ → Timeline
 tempo_set_of tl mpb at =
     let there = timeline_at (clamped_of mpb) (beat_at tl at) at in
@@ -30,6 +30,8 @@ shift_of tl beat at q = match_of tl beat at q -ℤ encoded_beat tl at q
 unfoldable pub advance_of : Timeline → ℤ → ℤ
 advance_of tl shift = time_at tl (clipped_of shift) -ℤ time_at tl (pos 0)
 
+-- Rule: A forced beat (`force_beat`, in scripts `force`) is at the time given: the time origin moves back by the way to its closest match,
+-- and the beat origin by whole quanta, unless clipped.
 -- the time origin moves by the shift, and then the beat origin so that the match becomes the forced beat
 unfoldable pub forced_of : Timeline → ℤ → ℤ → ℤ → Timeline
 forced_of tl beat at q =
@@ -42,14 +44,16 @@ forced_of tl beat at q =
 unfoldable pub next_time_of : Timeline → ℤ → ℤ → ℤ → ℤ
 next_time_of tl beat at q = encoded_time tl (clipped_of (next_match_of (encoded_beat tl at q) beat q)) q
 
--- with peers the beat is forced at that time, and without at the time given
+-- Rule: A requested beat (`request_beat`, in scripts `request`) is forced at the time given without peers, and with peers at the time of
+-- the next beat that has its phase.
 unfoldable pub requested_of : ℕ → Timeline → ℤ → ℤ → ℤ → Timeline
 requested_of peers tl beat at q =
     if nat_lt 0 peers then forced_of tl beat (next_time_of tl beat at q) q else forced_of tl beat at q
 
--- the nearest length that a quantum may have
+-- Rule: Setting a quantum takes the nearest number from 0 to 2^40 and leaves the rest of the state.
 abbrev pub quantum_set_of : ℤ → ℤ
 quantum_set_of quantum = int_max (pos 0) (int_min quantum (pos (2 ^ 40)))
 
+-- Rule: Playing or stopping sets whether the state plays and since when.
 abbrev pub played_of : ClientStart → Bool → ℤ → ClientStart
 played_of start playing time = record start { playing = playing; time = time }

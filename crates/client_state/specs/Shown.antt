@@ -11,6 +11,7 @@ laid_over commit state = record state {
   quantum = unwrap_or commit.quantum state.quantum;
 }
 
+-- Rule: A client's own last commit is shown over the captured state until the node has taken it.
 unfoldable pub shown_over : Option (ℕ × Commit) → ℕ → State → State
 shown_over (Some (number, commit)) taken state = if nat_lt taken number then laid_over commit state else state
 shown_over None taken state = state

@@ -20,7 +20,7 @@ pub record IsTidyState (state : State) : Type 0 where
   pub moment : IsWithinLimit state.moment
   pub quantum : IsQuantum state.quantum
 
--- none where it isn't playing, else those for its quantum at or after the start
+-- Rule: A state clicks only while it plays and only from its start time on.
 unfoldable pub clicks_in : State → Block → List Click
 clicks_in state block =
     if state.start.playing

@@ -15,6 +15,7 @@ zero_time_of session offset = host_of offset (time_at session (pos 0))
 abbrev pub going_on : Timeline → Timeline → ℤ → Timeline
 going_on client session now = timeline_at session.mpb (beat_at client now) now
 
+-- Rule: A client's timeline has the session's tempo, goes on from its beat now, and has its time origin at the session's beat 0.
 -- the same line, with its origins at the session's beat 0
 unfoldable pub client_from_session_of : Timeline → Timeline → ℤ → ℤ → Timeline
 client_from_session_of client session now offset =
@@ -35,13 +36,14 @@ keeps_beat session client offset =
 unfoldable pub new_origin_of : Timeline → ℤ → ℤ → ℤ
 new_origin_of session at offset = int_max (beat_at session (ghost_of offset at)) (session.beat +ℤ pos 1)
 
+-- Rule: A client's change gives the session its tempo, and a beat origin that is greater than the session's before.
 -- the client's tempo, with beat 0 at the client's time origin, through the new beat origin
 unfoldable pub renewed_of : Timeline → Timeline → ℤ → ℤ → Timeline
 renewed_of session client at offset =
     let origin = new_origin_of session at offset in
     timeline_at client.mpb origin (time_at (timeline_at client.mpb (pos 0) (ghost_of offset client.time)) origin)
 
--- none where a change has no greater origin to go to
+-- Rule: A client's change is refused (`OriginSpent`) where the session's beat origin is 2^60 already, unless it changes nothing.
 unfoldable pub session_from_client_of : Timeline → Timeline → ℤ → ℤ → Option Timeline
 session_from_client_of session client at offset =
     if keeps_beat session client offset then Some session

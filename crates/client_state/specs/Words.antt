@@ -49,6 +49,7 @@ flag_in word weight = word / weight % 2 == 1
 abbrev pub state_flags_of : State → ℕ
 state_flags_of state = flag_of state.start.playing 1 + flag_of state.sync 2 + 4 * state.peers
 
+-- Rule: A state is a row of eleven words, with the flags 1 for playing, 2 for sync and 4 for each peer.
 unfoldable pub words_of_state : State → List ℕ
 words_of_state state =
     word_of state.timeline.mpb
@@ -64,6 +65,7 @@ words_of_state state =
     ∷ word_of state.quantum
     ∷ []
 
+-- Rule: Any row of words is read as a tidy state, as any row is as a tidy commit: what is out of range is clamped or clipped.
 unfoldable pub state_of_words : List ℕ → State
 state_of_words words = record {
   timeline = timeline_of_words (slice_index words 0) (slice_index words 1) (slice_index words 2);
@@ -101,6 +103,8 @@ abbrev pub word_if : {A : Type 0} → (A → ℤ) → Option A → ℕ
 word_if number None = 0
 word_if number (Some a) = word_of (number a)
 
+-- Rule: A commit is a row of eleven words: flags, tempo, beat origin, time origin, start time, stamp, its own time, three zeros, and the
+-- quantum.
 unfoldable pub words_of_commit : Commit → List ℕ
 words_of_commit commit =
     (timeline_flag_of commit.timeline + start_flags_of commit.start + quantum_flag_of commit.quantum)

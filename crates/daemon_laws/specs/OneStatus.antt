@@ -40,6 +40,7 @@ pub record CanFail (all : AllSeen) : Type 0 where
 abbrev pub TellsTalk : List (String Global) → AllSeen → Type 0
 TellsTalk words all = BeginsControl words → IsSome all.talk.left
 
+-- Rule: A run has one status: two that fit the same run are equal, want of memory apart.
 -- One run over an input that tells, and a talk that does, has one status, its line at fault and its limit among it, want of memory apart.
 -- The words that say to people why a line is at fault are left out.
 abbrev pub HasOneStatus : Type 0

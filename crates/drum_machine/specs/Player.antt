@@ -44,6 +44,8 @@ pub record HasGiven (count : ℕ) (before after : AudioContents) : Type 0 where
 abbrev pub HasAsked : ℕ → Option AudioContents → Option AudioContents → Type 0
 HasAsked count before after = BothTell (HasGiven count) before after
 
+-- Rule: The drum machine starts to play, from beat 0, in the middle of frame 0 of its first block, if the state that it is shown plays
+-- nothing.
 -- Where it starts whose first block begins at a moment: ten microseconds later, which is in the middle of frame 0, or at the last moment.
 abbrev pub start_from : ℤ → ℤ
 start_from begins = int_min (begins +ℤ pos 10) (pos (2 ^ 55))

@@ -18,6 +18,8 @@ status_number_of (status.Pattern line) = 8
 status_number_of status.TooLong = 8
 status_number_of status.Memory = 9
 
+-- Rule: The drum machine ends with 7 for a failed write, 4 for a device that failed or ended, 3 for a failed port, 6 for a full journal,
+-- and else 0.
 -- the first cause that holds: an end before the last block, a port that failed, a journal that was full
 abbrev pub ended_as : PlayEnd → Bool → Bool → Status
 ended_as play_end.Output failed full = status.Output

@@ -10,6 +10,7 @@ pub record SaysNumber (bytes : List ℕ) (n : ℕ) : Type 0 where
   pub numeral : IsNumeral 10 (without_leading_plus bytes)
   pub value : n ≡ digits_value 10 (without_leading_plus bytes)
 
+-- Rule: The drum machine takes a number of blocks, a tempo, its own endpoint and up to 32 endpoints of peers; without words it rehearses.
 pub record AsksForSession (words : List (List ℕ)) (blocks mpb : ℕ) (local : Endpoint) (peers : List Endpoint) : Type 0 where
   pub first : List ℕ
   pub second : List ℕ

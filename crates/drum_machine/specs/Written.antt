@@ -60,6 +60,7 @@ pub record AreWritten (pattern : Pattern) (origin : ℤ) (ages : Ages) (running 
 abbrev pub shown_of : List Commit → Pair → State
 shown_of made pair = shown_over (last_of made) (state_of_words pair.1).audio (state_of_words pair.1)
 
+-- Rule: The drum machine writes one WAV, of each block the sound of the state that its read showed, and its MIDI events a line each.
 -- so many blocks were written, each by the state that its read of the pass showed; these reads are the pass's last
 pub record AreWrittenByReads (blocks : ℕ) (pattern : Pattern) (origin : ℤ) (ages : Ages) (running : Bool) (after : AudioView) (sound sound_then midi midi_then : Option (List ℕ)) : Type 0 where
   pub earlier : List Pair

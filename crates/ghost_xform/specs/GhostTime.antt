@@ -2,10 +2,10 @@
 use Rattle.std.specs.Prelude.{ℤ, ◌+ℤ◌, ◌-ℤ◌}
 use Rattle.lk_base.specs.Rounding.{clipped_of}
 
--- the ghost time at a host time
+-- Rule: The ghost time, the clock of a session, is the host time plus the offset, clipped.
 unfoldable pub ghost_of : ℤ → ℤ → ℤ
 ghost_of offset host = clipped_of (host +ℤ offset)
 
--- the host time at a ghost time
+-- Rule: The host time is the ghost time less the offset, clipped.
 unfoldable pub host_of : ℤ → ℤ → ℤ
 host_of offset ghost_time = clipped_of (ghost_time -ℤ offset)

@@ -16,6 +16,7 @@ has_rank xs r x = nat_le (count_by (λ e. int_lt e x) xs) r && nat_lt r (count_b
 unfoldable pub ranked_in : List ℤ → ℕ → ℤ
 ranked_in xs r = unwrap_or (find (has_rank xs r) xs) (pos 0)
 
+-- Rule: Of an even number of points the median is the mean of the two middle ones.
 -- the middle ranks of so many elements: an odd number has one
 abbrev pub lower_middle : ℕ → ℕ
 lower_middle n = (n - 1) / 2
@@ -23,6 +24,7 @@ lower_middle n = (n - 1) / 2
 abbrev pub upper_middle : ℕ → ℕ
 upper_middle n = n / 2
 
+-- Rule: The offset of a session is the median of the points of its measurement, which are in half microseconds; it is rounded and clipped.
 -- The two middle points are twice twice the offset: a quarter of their sum, rounded and clipped.
 unfoldable pub offset_of : List ℤ → ℤ
 offset_of xs =

@@ -49,7 +49,7 @@ known_of known (Some stream) = known stream
 
 -- ---- the clock
 
--- the microseconds since the start, in whole ones, and at most the last moment
+-- Rule: A moment of the host's clock is the whole microseconds from its start, and at most 2^55.
 abbrev pub moment_at : Instant → Instant → ℤ
 moment_at start now = pos (min ((instant_nanos now - instant_nanos start) / 1_000) (2 ^ 55))
 
@@ -59,7 +59,7 @@ IsMomentFrom moment now = IsMoment now × (moment ≤ℤ now)
 
 -- ---- the click
 
--- the line that tells of a click
+-- Rule: A click is written as a line `click`, its moment, and `accent` or `plain`.
 unfoldable pub click_line_of : Click → List ℕ
 click_line_of click = codes "click " ++ signed_decimal click.at ++ (if click.accent then codes " accent" else codes " plain") ++ 10 ∷ []
 
@@ -67,6 +67,7 @@ click_line_of click = codes "click " ++ signed_decimal click.at ++ (if click.acc
 abbrev pub click_lines_of : List Click → List ℕ
 click_lines_of clicks = flat_map click_line_of clicks
 
+-- Rule: The audio blocks of a live run have 20 milliseconds and follow on each other.
 -- A block begins where the last one ended and has 20 milliseconds. None is left only where the next one would end after the last moment.
 abbrev pub IsInTurn : ℤ → ℤ → Next → Type 0
 IsInTurn before after (next.Block block) = (block.start ≡ before) × (block.length ≡ pos 20_000) × (after ≡ (before +ℤ pos 20_000))

@@ -17,6 +17,7 @@ first_of to error = record { to = to; count = 1; last = error }
 abbrev pub again_of : Error → Refused → Refused
 again_of error row = record row { count = one_more row.count; last = error }
 
+-- Rule: Datagrams that the system refused are counted by destination, with the last error, for the first 32 destinations.
 -- The rows after one more to an endpoint, which has a row at that place, or none. There are at most 32.
 abbrev pub rows_after : Option ℕ → List Refused → Endpoint → Error → List Refused
 rows_after (Some place) rows to error = slice_set rows place (again_of error (slice_index_or rows place (first_of to error)))

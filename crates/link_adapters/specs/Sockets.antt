@@ -41,6 +41,7 @@ codes_of_gone = pos 9 ∷ pos 88 ∷ []
 abbrev pub codes_of_before : List ℤ
 codes_of_before = pos 4 ∷ pos 101 ∷ pos 104 ∷ pos 111 ∷ pos 113 ∷ []
 
+-- Rule: A send fails only where the socket is gone; at any other error that datagram is dropped.
 -- What a send made of a datagram. The system refuses it alone for any reason but that the socket is gone: no permission, no room, no way
 -- there from here, a filter, a key that is wanting, or any other.
 abbrev pub posted_at : Result ℕ Error → Posted
@@ -52,6 +53,7 @@ abbrev pub taken_from : ℕ → Option Endpoint → Taken
 taken_from count (Some from) = taken.Datagram from count
 taken_from count None = taken.Passed
 
+-- Rule: A receive passes over interruptions and errors of earlier sends, and fails where the socket is gone.
 -- what is taken of what a receive gave: an error of something before is passed over, and at any other that leaves the socket there is
 -- nothing until it is asked again
 abbrev pub IsTakenAt : Result (ℕ × SocketAddr) Error → Result Taken Error → Type 0
@@ -85,6 +87,7 @@ IsTurnAfter before after (arrival.Idle now) = after ≡ before
 IsTurnAfter before after arrival.Closed = after ≡ before
 IsTurnAfter before after arrival.Failed = after ≡ before
 
+-- Rule: A datagram is read with at most 513 bytes, so that a longer one is known as too long.
 -- the bytes that came are the first ones of the buffer
 abbrev pub IsInBuffer : List ℕ → Arrival → Type 0
 IsInBuffer buffer (arrival.Datagram gate from bytes now) = take (length bytes.items) buffer ≡ bytes.items

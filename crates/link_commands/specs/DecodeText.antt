@@ -22,6 +22,7 @@ AreDecodedLines (line ∷ lines) (reading_line ∷ rest) = IsDecodedLine line re
 AreDecodedLines [] (reading_line ∷ rest) = ⊥
 AreDecodedLines (line ∷ lines) [] = ⊥
 
+-- Rule: `decode` writes for each line of its input, in order, how its bytes are read.
 pub record IsDecodeText (text output : List ℕ) : Type 0 where
   pub reading_lines : List (List ℕ)
   pub lines : AreDecodedLines (lines_of text) reading_lines

@@ -48,6 +48,7 @@ AreAnswers accepted (pair ∷ pairs) (line ∷ lines) refused =
 AreAnswers accepted [] (line ∷ lines) refused = ⊥
 AreAnswers accepted (pair ∷ pairs) [] refused = ⊥
 
+-- Rule: `filter` writes for each pair, in order, its filtered host time or why it is refused.
 pub record IsFilterText (text output : List ℕ) : Type 0 where
   pub pairs : List Pair
   pub lines : SayPairs (lines_of text) pairs

@@ -8,6 +8,7 @@ use Rattle.link_commands.specs.BadLines.{IsFirstBad}
 abbrev pub IsHexLine : List ℕ → Type 0
 IsHexLine line = (bytes : List ℕ) × (decode_of line ≡ Ok bytes)
 
+-- Rule: A text for `decode` is lines of an even number of hex digits and nothing else.
 abbrev pub IsDecodable : List ℕ → Type 0
 IsDecodable text = All IsHexLine (lines_of text)
 

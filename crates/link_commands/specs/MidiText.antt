@@ -48,6 +48,7 @@ midi_events_of run blocks = all_events_of false (parts_from run 0 blocks)
 
 -- ---- the text
 
+-- Rule: A line of `midi` tells a MIDI event by its time and its bytes in hex.
 -- a MIDI event, with its bytes in hex
 unfoldable pub midi_line_of : MidiEvent → List ℕ
 midi_line_of event = line_of (codes "midi" ∷ signed_decimal event.at ∷ encode_lower (bytes_of event.message) ∷ [])
@@ -56,6 +57,7 @@ midi_line_of event = line_of (codes "midi" ∷ signed_decimal event.at ∷ encod
 unfoldable pub blocks_line_of : ℕ → ℕ → List ℕ
 blocks_line_of blocks events = line_of (codes "done" ∷ decimal blocks ∷ decimal events ∷ [])
 
+-- Rule: `midi` writes the MIDI events of adjoining blocks, the first begun at the moment of opening, for the replay script that it reads.
 unfoldable pub midi_text_of : MidiRun → ℕ → List ℕ
 midi_text_of run blocks =
     flat_map midi_line_of (midi_events_of run blocks) ++ blocks_line_of blocks (length (midi_events_of run blocks))

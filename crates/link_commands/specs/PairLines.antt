@@ -17,6 +17,7 @@ IsSomePair line = (pair : Pair) × SaysPair line pair
 abbrev pub IsNoPair : List ℕ → Type 0
 IsNoPair line = IsSomePair line → ⊥
 
+-- Rule: A text for `filter` is lines of a sample count and a host time and nothing else.
 -- a text whose lines all say pairs
 abbrev pub IsPairText : List ℕ → Type 0
 IsPairText text = All IsSomePair (lines_of text)

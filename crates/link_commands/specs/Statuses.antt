@@ -34,7 +34,11 @@ pub record Stream : Type 0 where
 abbrev pub seen : {S : Type 0} → (S → Option (List ℕ)) → (S → ℕ) → S → Stream
 seen told faults s = record { told = told s; faults = faults s }
 
--- the number that goes with a status, which is the program's exit status
+-- Rule: The exit status is 0 where all is done, 2 for wrong words, 3 for a failed port, 4 for a failed audio device, and 5 for a failed
+-- input.
+-- Rule: Status 6 means a full journal: an event of the run found no room in it.
+-- Rule: Status 7 means a failed output, 8 a text at fault, 9 want of memory, and 10 too long an input or too many commands.
+-- Rule: Of `control` alone, status 11 means a failed talk, and 12 a line more than the 4,096 that are answered.
 abbrev pub status_number_of : Status → ℕ
 status_number_of status.Done = 0
 status_number_of status.Words = 2
@@ -50,7 +54,7 @@ status_number_of (status.TooMany limit) = 10
 status_number_of status.Talk = 11
 status_number_of status.Lines = 12
 
--- what holds where the status is one of those that write nothing
+-- Rule: With the statuses 2, 5, 8, 9 and 10 a command other than `live` and `control` has written nothing.
 abbrev pub IfNothingWritten : Status → Type 0 → Type 0
 IfNothingWritten status.Done P = Unit {0}
 IfNothingWritten status.Sink P = Unit {0}
@@ -75,6 +79,7 @@ GivesReplay text output =
     (version : ℕ) × (config : ConfigValue) × (now : ℤ) × (es : List EventValue)
     × IsScriptOf text version config now es × (output ≡ replay_text_of version config now es)
 
+-- Rule: `replay` takes at most 1,073,741,824 bytes of input, and so does `midi`.
 abbrev pub replay_command : Command
 replay_command = record {
   limit = 1_073_741_824;
@@ -83,6 +88,7 @@ replay_command = record {
   FaultsAt = λ text line. IsFirstFault text line × IsNoScript text;
 }
 
+-- Rule: `decode` takes at most 16,777,216 bytes of input, and so does `filter`.
 abbrev pub decode_command : Command
 decode_command = record {
   limit = 16_777_216;
@@ -126,7 +132,7 @@ pub record ReadsText (command : Command) (before after : Stream) (output : List 
   pub read : WasRead command.limit before after bytes
   pub gives : command.Gives bytes output
 
--- a text outside the command's grammar was read to its end, and this is its first line at fault
+-- Rule: With status 8 the whole input was read, and the first line at fault is told.
 pub record ReadsFault (command : Command) (before after : Stream) (line : ℕ) : Type 0 where
   pub bytes : List ℕ
   pub read : WasRead command.limit before after bytes
@@ -137,7 +143,7 @@ pub record WritesWhole (before after : Stream) (output : List ℕ) : Type 0 wher
   pub whole : Appends before.told output after.told
   pub quiet : after.faults ≡ before.faults
 
--- the sink failed, and what was written till then is the front of the output
+-- Rule: With status 7, a failed sink, a front of the output was written.
 pub record WritesPart (before after : Stream) (output : List ℕ) : Type 0 where
   pub part : AppendsPrefix before.told output after.told
   pub rose : Rose before.faults after.faults

@@ -10,7 +10,7 @@ use Rattle.link_text.specs.declared.control_line.ControlLine.TheVariants.{Status
 use Rattle.link_control.specs.Log.{Answered}
 use Rattle.link_control.specs.declared.log.LineLog.{LineLog}
 
--- the state that is shown: its timeline, whether it plays, and how many peers there are
+-- Rule: `status` is answered by the tempo, beat origin, time origin, playing as `1` or `0`, and the number of peers.
 unfoldable pub status_text_of : State → List ℕ
 status_text_of shown =
     line_of (
@@ -18,13 +18,16 @@ status_text_of shown =
     ∷ truth_text_of shown.start.playing ∷ decimal shown.peers ∷ []
     )
 
--- the number of the commit that was made
+-- Rule: `tempo`, `play` and `stop` are answered by `ok` and the number of the commit.
 unfoldable pub ok_text_of : ℕ → List ℕ
 ok_text_of number = line_of (codes "ok" ∷ decimal number ∷ [])
 
+-- Rule: A line that asks for nothing that there is, such as any line of more than 25 bytes (65 bytes, say), is answered by `bad` and
+-- changes nothing.
 unfoldable pub bad_text : List ℕ
 bad_text = line_of (codes "bad" ∷ [])
 
+-- Rule: `beat` is answered by the beat at the time asked for, and `time` by the time of the beat asked for.
 -- what a line is answered that asks for this, where this state is shown and its commit has this number
 unfoldable pub answer_of : Option ControlLine → ℕ → State → List ℕ
 answer_of None number shown = bad_text

@@ -49,8 +49,8 @@ pub record IsReady (room : ControlRoom) (session : SessionLog) : Type 0 where
   pub commits : (room.commits.items ≡ []) × (4_096 ≤ vec_capacity room.commits)
   pub log : (session.lines.items ≡ []) × (4_096 ≤ vec_capacity session.lines)
 
--- the first cause that holds: memory was wanting for a capture, the port failed, the talk did, the journal was full, or the client sent too
--- many lines
+-- Rule: A run under control ends by the first cause that holds: no memory for a capture, the port, the talk, a full journal, too many
+-- lines.
 abbrev pub first_of : Served → Bool → Bool → ControlEnd
 first_of (served.Memory error) failed full = end.Memory
 first_of served.Failed failed full = if failed then end.Port else end.Talk
@@ -61,13 +61,14 @@ first_of served.Lines failed full = if failed then end.Port else (if full then e
 abbrev pub only_pass : AppView
 only_pass = record { seen = []; pushed = []; made = 0; own = None; room = 65_535; sole = true }
 
--- the talk was opened at the endpoint and the client served there; or it couldn't be, and nothing was heard, written or logged
+-- Rule: The talk of `control` is opened at the endpoint given; where it can't be, nothing is heard, written or logged.
 abbrev pub IsTalked : Endpoint → Option ℤ → TalkSeen → TalkSeen → AppView → List LineLog → Served → Type 0
 IsTalked at late talk talk_then pass log ended =
     HasServed late (record talk { opened = Some at }) talk_then only_pass pass log ended
     ⊎ ((ended ≡ served.Failed) × Rose talk.faults talk_then.faults × (talk_then ≡ record talk { faults = talk_then.faults })
     × (log ≡ []) × (pass ≡ only_pass))
 
+-- Rule: The client's commits count from 1 and stand in the journal each once and in order.
 -- What was captured and committed for the client, and answered: the report tells just what the log does. Each capture is a state that was
 -- published; of the commits, numbered from 1, the first stand in the journal, each once and in order; all do, unless an event found no
 -- room.
@@ -90,6 +91,7 @@ pub record HasNoAudio (report : ReportValue) : Type 0 where
 
 -- ---- the whole
 
+-- Rule: A run under control is recorded, published and sent as a live run is, however it ends.
 -- A run under control sends and publishes what replay gives for its journal, its events in the one order taken; however the threads step,
 -- every capture is one whole published state, never older than one already told of; the client's commits stand in the journal once and in
 -- order, and its lines are answered by what was captured and committed for them.

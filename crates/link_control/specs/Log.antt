@@ -34,10 +34,12 @@ act_of Stop = Some act.Stop
 act_of (Beat time) = None
 act_of (Time beat) = None
 
+-- Rule: The lines `tempo`, `play` and `stop` make one commit each, and other lines make none.
 abbrev pub act_asked : Option ControlLine → Option Act
 act_asked None = None
 act_asked (Some asked) = act_of asked
 
+-- Rule: A line is shown the captured state with the client's own last commit over it, until that is taken.
 -- the pair as it is captured by a pass with this last commit of its own, which is laid over the state until it is taken
 unfoldable pub captured_over : Option Numbered → Pair → Capture
 captured_over own pair = record {

@@ -89,6 +89,7 @@ pub record IsAnswered (before after : TalkSeen) (answered : List Answered) (log 
   pub written : Appends before.written (answers_of answered log) after.written
   pub quiet : after.faults ≡ before.faults
 
+-- Rule: Serving ends well where the client has ended, and else with a failed talk, with more than 4,096 lines, or for want of memory.
 -- Where the bytes that were taken have these whole lines: the client ended, and each was answered.
 abbrev pub EndsServing : Served → List (List ℕ) → TalkSeen → TalkSeen → List Answered → List LineLog → Type 0
 EndsServing served.Ended lines before after answered log =
@@ -107,6 +108,7 @@ EndsServing (served.Memory error) lines before after answered log =
 
 -- ---- the whole
 
+-- Rule: A client's lines are answered each once and in order, whatever pieces they come in, and at most 4,096 of them.
 -- From an empty log: these bytes were taken, however they were cut, and the first of their whole lines were answered, each once and in
 -- order, by what was captured and committed for it.
 pub record HasServed (late : Option ℤ) (talk talk_then : TalkSeen) (before after : AppView) (log : List LineLog) (end : Served) : Type 0 where

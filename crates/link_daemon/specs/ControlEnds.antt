@@ -67,6 +67,7 @@ pub record IsControlSetUp (words : List (String Global)) (seed : ℕ) (input inp
   pub quantum : setup.config.quantum ≡ options.quantum
   pub group : setup.config.group ≡ options.group
 
+-- Rule: The summary of `control` has the two lines of a report of `live` without a record.
 -- A run ended so, which holds to all that is promised of a run under control whatever it met, and so much of its summary was written.
 pub record HasEndedControl (setup : ControlSetup) (before after : ControlSeen) (ended : ControlEnd) (Writes : Stream → Stream → List ℕ → Type 0) : Type 0 where
   pub run : EndsControlRun setup before.late before.port.told after.port.told after.port.gates before.port.faults after.port.faults before.talk after.talk after.report after.log ended

@@ -12,6 +12,7 @@ use Rattle.link_words.specs.declared.control_words.ControlOptions.{ControlOption
 use Rattle.link_commands.specs.declared.status.Status.{Status}
 use Rattle.link_commands.specs.declared.status.Status.TheVariants as status
 
+-- Rule: The node of `control` has the first id drawn from its seed, the head's tempo, sync and gates, and the options' group and quantum.
 -- the node's config: its id is the first that the seed gives
 abbrev pub controlled_config_from : ℕ → ControlOptions → LiveHead → ConfigValue
 controlled_config_from seed options head = record {

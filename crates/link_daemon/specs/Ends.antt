@@ -12,13 +12,13 @@ use Rattle.link_daemon.specs.ControlEnds.{ControlSeen, EndsControl}
 use Rattle.link_live_command.specs.LiveEnds.{EndsLive}
 use Rattle.link_daemon.specs.AllSeen.{AllSeen}
 
--- the words name no command, and no object was called
+-- Rule: Words that name no command end with status 2, and nothing is read or written.
 pub record EndsUnnamed (input input' : Stream) (before after : AllSeen) (end : Status) : Type 0 where
   pub words_at_fault : end ≡ status.Words
   pub unread : input' ≡ input
   pub untouched : after ≡ before
 
--- what only `live` and `control` are given stays
+-- Rule: Commands other than `live` and `control` leave the network, the audio device, the talk and the report alone.
 pub record IsAside (before after : AllSeen) : Type 0 where
   pub port_stays : after.outside.port ≡ before.outside.port
   pub audio_stays : after.outside.audio ≡ before.outside.audio
@@ -43,7 +43,7 @@ control_seen all = record {
   log = all.log;
 }
 
--- a run is that of the command that the first of its words names, and of none where it names none
+-- Rule: A run is that of the command that its first word names.
 abbrev pub EndsNamed : Option CommandName → List (String Global) → ℕ → Stream → Stream → AllSeen → AllSeen → Status → Type 0
 EndsNamed (Some name.Replay) words seed input input' before after end =
     EndsReplay words input input' before.outside.out after.outside.out end × IsAside before after

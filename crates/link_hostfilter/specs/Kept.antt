@@ -10,7 +10,7 @@ use Rattle.link_hostfilter.specs.declared.fault.FilterFault.TheVariants.{NotLate
 unfoldable pub last : {A : Type 0} → ℕ → List A → List A
 last n xs = drop (length xs - n) xs
 
--- the new sample is more than 2^31 above the pair's, or the host times differ by more than 2^31
+-- Rule: The filter refuses a pair as too far where its sample count or host time is more than 2^31 from that of a kept pair.
 unfoldable pub is_far : Pair → Pair → Bool
 is_far new pair =
     int_lt (pos (2 ^ 31)) (new.sample -ℤ pair.sample) || nat_lt (2 ^ 31) (unsigned_abs (new.host -ℤ pair.host))
@@ -25,7 +25,7 @@ abbrev pub far_fault : Option Pair → Option FilterFault
 far_fault None = None
 far_fault (Some pair) = Some (TooFar pair.sample pair.host)
 
--- it isn't later than the newest pair
+-- Rule: The filter refuses a pair as late where its sample count isn't greater than that of the newest pair.
 unfoldable pub is_late : Pair → List Pair → Bool
 is_late new [] = false
 is_late new (pair ∷ pairs) = int_le new.sample (newest_of (pair ∷ pairs)).sample
@@ -35,7 +35,7 @@ unfoldable pub fault_of : Pair → List Pair → Option FilterFault
 fault_of new pairs =
     if is_late new pairs then Some (NotLater (newest_of pairs).sample) else far_fault (first_far new (last 511 pairs))
 
--- the pairs after a new one
+-- Rule: An accepted pair goes last, and of more than 512 pairs the oldest goes.
 unfoldable pub with_new : Pair → List Pair → List Pair
 with_new new pairs = last 512 (pairs ++ new ∷ [])
 

@@ -3,6 +3,7 @@ use Rattle.std.specs.Prelude.{◌≡◌, ℕ, ◌==◌, if◌then◌else◌, Lis
 use Rattle.std.specs.List.{onto_first}
 use Rattle.std.specs.Borrow.{Bor}
 
+-- Rule: The words of a line are parted by exactly one space, with none at either end.
 unfoldable pub words_of : List ℕ → List (List ℕ)
 words_of [] = [] ∷ []
 words_of (b ∷ bs) = if b == 32 then [] ∷ words_of bs else onto_first b (words_of bs)

@@ -20,6 +20,7 @@ unfoldable pub dotted : ℕ → ℕ → ℕ → ℕ → ℕ → List ℕ
 dotted a b c d port =
     decimal a ++ 46 ∷ (decimal b ++ 46 ∷ (decimal c ++ 46 ∷ (decimal d ++ 58 ∷ decimal port)))
 
+-- Rule: An endpoint is written as four numbers parted by dots, a colon and a port, as in `127.0.0.1:20808`.
 -- an address goes by its four bytes, the highest first
 unfoldable pub endpoint_text_of : Endpoint → List ℕ
 endpoint_text_of e =

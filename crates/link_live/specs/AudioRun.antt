@@ -35,6 +35,7 @@ act_commits start pair made (act ∷ acts) =
     let commit = commit_of_act act start (capture_of audio_taken made pair) in
     commit ∷ act_commits start pair (made ++ commit ∷ []) acts
 
+-- Rule: A block's commands are committed after it was played, as of its start and in the order of the script.
 -- the commits that are made in the block of this number, where these were made before
 unfoldable pub block_commits : List BlockCommand → List Commit → ℕ → BlockRead → List Commit
 block_commits commands made number read = act_commits read.block.start read.pair made (acts_in number commands)
@@ -53,6 +54,7 @@ blocks_captures commands made number (read ∷ reads) =
     capture_of audio_taken made read.pair
     ∷ blocks_captures commands (made ++ block_commits commands made number read) (number + 1) reads
 
+-- Rule: The clicks of a block are those of the state shown for it, none where it isn't playing.
 -- the clicks of each block, by the state that was shown for it and its quantum
 abbrev pub clicks_of_blocks : List Capture → List BlockRead → List (List Click)
 clicks_of_blocks [] reads = []

@@ -12,6 +12,7 @@ use Rattle.link_shared.specs.declared.capture.Capture.{Capture}
 use Rattle.link_script.specs.declared.live_script.Act.{Act}
 use Rattle.link_script.specs.declared.live_script.Act.TheVariants.{Tempo, Force, Request, Quantum, Play, Stop, Look}
 
+-- Rule: The commands `tempo`, `force`, `request`, `quantum`, `play` and `stop` edit the shown state at the moment of their commit.
 -- what an act makes of a state at a moment: beats go by the state's own quantum
 unfoldable pub edited_of : Act → ℤ → State → State
 edited_of (Tempo mpb) at state = record state { timeline = tempo_set_of state.timeline mpb at }
@@ -22,6 +23,7 @@ edited_of Play at state = record state { start = played_of state.start true at }
 edited_of Stop at state = record state { start = played_of state.start false at }
 edited_of Look at state = state
 
+-- Rule: An application edits what is shown: the captured state with its own last commit over it, until that is taken.
 -- The pair of number and row that was read, as it is captured: the state is shown with the last of these own commits, unless so many were
 -- taken by then.
 unfoldable pub capture_of : (State → ℕ) → List Commit → Pair → Capture

@@ -48,6 +48,7 @@ pub record Course : Type 0 where
   pub played : Bool
   pub full : Bool
 
+-- Rule: The journal of a run ends with the end, unless an event found no room.
 -- The events are in the one order, begin with a tick as far as they are datagrams and ticks, and end with the end; where an event found no
 -- room, there are as many as may be, and no end.
 pub record IsJournal (opening : Machine) (most : ℕ) (full : Bool) (events : List EventValue) : Type 0 where
@@ -57,6 +58,8 @@ pub record IsJournal (opening : Machine) (most : ℕ) (full : Bool) (events : Li
   pub cut : full ≡ true → (length events ≡ most) × (has_ended events ≡ false)
   pub fits : length events ≤ most
 
+-- Rule: The datagrams that a run heard stand in its journal, and it posted what a replay of the journal sends, or the first of it where the
+-- port failed.
 -- What came was heard, and all that the machine sends for the events was posted, in order, on the gates of the config; or the first of it
 -- where the port failed, and no less than what was sent for the events before each datagram.
 pub record WasSent (config : ConfigValue) (now : ℤ) (failed full : Bool) (events : List EventValue) (port port_then : Option PortContents) (gates : List Endpoint) : Type 0 where
@@ -69,7 +72,7 @@ pub record WasSent (config : ConfigValue) (now : ℤ) (failed full : Bool) (even
   pub before : ArePostedBefore config now events posts
   pub bound : failed ≡ false → gates ≡ locals_of config
 
--- each state that was captured is the one published under its number
+-- Rule: Each state that a run read or captured was published under its number.
 abbrev pub ArePublished : List State → List Capture → Type 0
 ArePublished published captures = All (λ capture. get_elem? published capture.number ≡ some capture.state) captures
 
@@ -88,7 +91,7 @@ pub record WereCaptured (setup : LiveSetup) (captured : Bool) (late : Option ℤ
   pub run : IsScriptRun late setup.apps pass report.captures report.app_commits captured
   pub published : ArePublished report.published report.captures
 
--- each timeline that is sent is the first of greatest beat origin that its session has taken
+-- Rule: Each timeline sent is the first of greatest beat origin that its session has taken.
 abbrev pub AreBest : Machine → List EventValue → Type 0
 AreBest opening events =
     (before after : List EventValue) (e : EventValue) → events ≡ before ++ e ∷ after
@@ -105,6 +108,7 @@ ShowBest opening events =
 
 -- ---- what is recorded
 
+-- Rule: The states that a run published are those of a replay of its journal.
 -- What is recorded of the node, published and sent, whatever applications there were: the journal has the events in the one order taken,
 -- what was published and sent is what a replay of it gives, and each session's timeline, which clients are shown, is the first of greatest
 -- beat origin taken.
@@ -119,6 +123,7 @@ pub record IsRecorded (given : ConfigValue) (most : ℕ) (late : Option ℤ) (fa
 
 -- ---- what the audio thread and the application did
 
+-- Rule: Each audio commit in the journal is the one made under its number, and the last one made is there, unless an event found no room.
 -- What was read and played. Of the audio thread's commits, those that stand in the journal carry what was made under their numbers, which
 -- rise; the last one made is among them, unless an event found no room.
 pub record IsAudioPart (setup : LiveSetup) (played full : Bool) (audio audio_then : Option AudioContents) (report : ReportValue) : Type 0 where
@@ -126,6 +131,7 @@ pub record IsAudioPart (setup : LiveSetup) (played full : Bool) (audio audio_the
   pub audio_commits : AreCarried report.audio_commits report.events
   pub last_audio_commit : full ≡ false → last_audio_in 0 report.events ≡ length report.audio_commits
 
+-- Rule: The script's commits stand in the journal each once and in order, all of them unless an event found no room.
 -- What was captured. Of the application's commits the first stand in the journal, each once and in order; all of them, unless an event
 -- found no room.
 pub record IsScriptPart (setup : LiveSetup) (captured full : Bool) (late : Option ℤ) (report : ReportValue) : Type 0 where

@@ -52,7 +52,7 @@ pub record IsReady (script : LiveScript) (blocks : ℕ) (room : Room) : Type 0 w
   pub captures : (room.script.captures.items ≡ []) × (length script.apps.items ≤ vec_capacity room.script.captures)
   pub app_commits : (room.script.commits.items ≡ []) × (length script.apps.items ≤ vec_capacity room.script.commits)
 
--- the first cause that holds: memory was wanting for a capture, the port failed, the audio device did, or the journal was full
+-- Rule: A run ends by the first cause that holds: no memory for a capture, the port, the audio device, a full journal.
 abbrev pub first_of : Bool → Bool → Bool → Bool → LiveEnd
 first_of captured failed played full =
     if captured then (if failed then end.Port else (if played then (if full then end.Events else end.Well) else end.Audio)) else end.Memory

@@ -33,7 +33,7 @@ pub record HasGrown (arrivals : List ArrivalValue) (posts : List PostValue) (bef
   pub given : after.given ≡ before.given ++ arrivals
   pub posted : after.posted ≡ before.posted ++ posts
 
--- what was sent for the events before each datagram was posted
+-- Rule: All that was sent for the events before a datagram of the journal was posted before that datagram was taken.
 abbrev pub ArePostedBefore : ConfigValue → ℤ → List EventValue → List PostValue → Type 0
 ArePostedBefore config now events posts =
     (before after : List EventValue) (gate : Gate) (from : Endpoint) (bytes : List ℕ) (at : ℤ)
@@ -80,6 +80,7 @@ pub record IsNetworkRun (before after : HubView) (told told_then : Option PortCo
   pub outnumbered : HasMore told_then → failed ≡ false → full ≡ false
       → length (app_commits_in after.journal) < length arrivals + ticks_in after.journal
 
+-- Rule: A run's port failed exactly where no gate was bound or its count of failures rose.
 -- `failed` is told exactly where no gate was bound or the port's count rose, and where none was bound no call was made
 pub record HasCause (bound : Bool) (faults faults_then : ℕ) (told told_then : Option PortContents) (failed : Bool) : Type 0 where
   pub works : failed ≡ false → (bound ≡ true) × (faults_then ≡ faults)

@@ -30,6 +30,7 @@ unfoldable pub commits_of_command : List Commit → AppCommand → Taken → Lis
 commits_of_command made command taken =
     if is_look command.act then [] else commit_of_act command.act taken.at (capture_of apps_taken made taken.pair) ∷ []
 
+-- Rule: Each command but `look` makes one commit, and commits are pushed in the order of the script.
 -- the commits of commands, where these were made before
 unfoldable pub commands_commits : List Commit → List AppCommand → List Taken → List Commit
 commands_commits made [] taken = []

@@ -15,6 +15,8 @@ use Rattle.link_words.specs.declared.live_words.LiveOptions.{LiveOptions}
 use Rattle.link_commands.specs.declared.status.Status.{Status}
 use Rattle.link_commands.specs.declared.status.Status.TheVariants as status
 
+-- Rule: A live run's node has the first id drawn from its seed, the script's tempo, sync and gates, and the group and quantum of the
+-- options.
 -- the node's config: its id is the first that the seed gives
 abbrev pub config_from : ℕ → LiveOptions → LiveScript → ConfigValue
 config_from seed options script = record {
@@ -37,6 +39,7 @@ pub record IsRead (input input' : Stream) (script : LiveScript) : Type 0 where
   pub few : commands_told bytes ≤ 4_096
   pub text : IsLiveText bytes script.mpb script.sync (map gate_value script.gates.items) script.apps.items script.blocks.items
 
+-- Rule: The status of a live run goes by how it ended, and only where it ended well by whether its text was written.
 -- the status of a run that ended so, and whose report was written or not
 abbrev pub status_from : LiveEnd → Bool → Status
 status_from end.Memory written = status.Memory

@@ -8,6 +8,7 @@ use Rattle.link_script.specs.ReplayScript.{written_script_of}
 use Rattle.link_text.specs.ReplayText.{state_line_of}
 use Rattle.link_live.specs.Report.{ReportValue}
 
+-- Rule: The first line of a report counts events, states, reads, captures, both lists of commits, plays and clicks.
 -- how many of each there were, and how many clicks in all
 unfoldable pub live_line_of : ReportValue → List ℕ
 live_line_of report =
@@ -23,7 +24,7 @@ last_state_text_of number [] = []
 last_state_text_of number (state ∷ []) = codes "# " ++ state_line_of 2 number state
 last_state_text_of number (state ∷ next ∷ states) = last_state_text_of (number + 1) (next ∷ states)
 
--- and, where a record is asked for, the replay script of the node and its events
+-- Rule: A report is a line of counts, the state published last and, with `--record`, the replay script of the run.
 unfoldable pub live_text_of : ReportValue → Bool → List ℕ
 live_text_of report recorded =
     (live_line_of report ++ last_state_text_of 0 report.published)

@@ -18,6 +18,7 @@ pub record ReadsScriptFault (FaultsAt : List ℕ → ℕ → Type 0) (input inpu
   pub few : commands_told bytes ≤ 4_096
   pub fault : FaultsAt bytes line
 
+-- Rule: With status 10 `live` or `control` read more bytes than its limit, or more than 4,096 lines that begin as commands.
 -- a text with too many commands
 pub record ReadsTooMany (input input' : Stream) : Type 0 where
   pub bytes : List ℕ

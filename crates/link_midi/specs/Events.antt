@@ -22,24 +22,26 @@ event time message = record { at = time; message = message }
 unfoldable pub is_sixteenth : ℤ → Bool
 is_sixteenth pulse = int_eq (int_rem_euclid pulse (pos 6)) (pos 0)
 
--- the position of a pulse in sixteenths, which begins again after 16,384 of them
+-- Rule: The MIDI song position is the number of sixteenth notes past the beat origin, modulo 16,384.
 unfoldable pub position_of : ℤ → ℕ
 position_of pulse = unsigned_abs (int_rem_euclid (int_div_euclid pulse (pos 6)) (pos 16_384))
 
--- from the first sixteenth it starts, from another it continues there
+-- Rule: MIDI starts with a start message at song position 0, and else with the song position and a continue message.
 unfoldable pub opening_at : ℤ → ℕ → List MidiEvent
 opening_at time zero = event time Start ∷ []
 opening_at time (suc n) = event time (Position (suc n)) ∷ event time Continue ∷ []
 
+-- Rule: MIDI stops, where it is running, at the first microsecond at which the state doesn't play or is to start later.
 -- It runs and the state doesn't want to, so it stops; it doesn't run, the state wants to, and a sixteenth begins there, so it begins.
 abbrev pub stops_at : State → Bool → ℤ → Bool
 stops_at state running time = running && not (wants_at state time)
 
+-- Rule: MIDI starts with the next sixteenth note at which the state plays, where it isn't running.
 abbrev pub begins_at : State → Bool → ℤ → Bool
 begins_at state running time =
     not running && wants_at state time && pulses_at state.timeline time && is_sixteenth (pulse_of state.timeline time)
 
--- what is sent at a time, where it runs before it or doesn't: a stop, what begins, a clock
+-- Rule: Of one microsecond a MIDI stop comes first, then what starts, then the clock.
 unfoldable pub events_at : State → Bool → ℤ → List MidiEvent
 events_at state running time =
     (if stops_at state running time then event time Stop ∷ [] else [])

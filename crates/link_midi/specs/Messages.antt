@@ -12,6 +12,7 @@ IsMessage Continue = Unit
 IsMessage Stop = Unit
 IsMessage (Position sixteenths) = sixteenths < 16_384
 
+-- Rule: The MIDI bytes are F8 for a clock, FA for a start, FB for a continue, FC for a stop, and F2 with 14 bits for a song position.
 -- a position is sent in two bytes of seven bits, the lower first
 unfoldable pub bytes_of : MidiMessage → List ℕ
 bytes_of Clock = 248 ∷ []

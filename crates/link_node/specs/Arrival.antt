@@ -17,11 +17,12 @@ use Rattle.link_node.specs.Measuring.{pong_heard, pings_after_pong}
 use Rattle.link_node.specs.Taking.{state_taken}
 use Rattle.link_node.specs.Telling.{response_to}
 
--- a peer of the node's own group is heard, and nobody hears itself
+-- Rule: A bye, alive or response of another group, or with the node's own id, isn't heard; pings and pongs have no group.
 abbrev pub is_heard : NodeId → ℕ → Machine → Bool
 is_heard id group m = not (same_id id m.id) && (group == m.config.group)
 
--- a ping is answered where its payload has at most 32 bytes
+-- Rule: A ping with at most 32 bytes of payload is answered by a pong with the session, its ghost time and that payload; a longer ping
+-- isn't answered.
 unfoldable pub pongs_to : Gate → Endpoint → List ℕ → Machine → List SendingValue
 pongs_to gate to payload m =
     if nat_lt 32 (length payload) then []
@@ -31,6 +32,7 @@ pongs_to gate to payload m =
       bytes = spelled_of (written.Pong (session_in m) (ghost_of (offset_in m) m.moment) payload);
     } ∷ []
 
+-- Rule: A response that is heard is taken as an alive is.
 -- what it changes: what isn't read changes nothing
 abbrev pub arrived : Gate → Endpoint → Result MessageValue WireFault → Machine → Machine
 arrived gate from (Ok (message.Alive msg)) m = if is_heard msg.from msg.group m then state_taken gate msg m else m

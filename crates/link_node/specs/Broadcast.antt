@@ -4,7 +4,7 @@ use Rattle.link_node.specs.Event.{SendingValue}
 use Rattle.link_node.specs.Machine.{Machine}
 use Rattle.link_node.specs.Telling.{alives_in}
 
--- a first one, a quarter of a second after the last, or 50,000 microseconds after it where there is something new
+-- Rule: A broadcast is due at first, 250,000 microseconds after the last, and 50,000 after it where there is news to tell.
 abbrev pub is_due_after : Option ℤ → Bool → ℤ → Bool
 is_due_after None changed now = true
 is_due_after (Some last) changed now = int_le (last +ℤ pos 250_000) now || (changed && int_le (last +ℤ pos 50_000) now)

@@ -12,7 +12,7 @@ use Rattle.link_node.specs.Machine.{Machine, timeline_in, offset_in, start_in}
 
 -- ---- the start
 
--- with sync, a start that is later than the session's is the session's too
+-- Rule: A commit's start reaches the session only with sync, and only where its stamp is greater than that of the session's start.
 abbrev pub reaches_session : ClientStart → Machine → Bool
 reaches_session start m = m.config.sync && int_lt (start_in m).stamp (ghost_of (offset_in m) start.stamp)
 
@@ -31,6 +31,7 @@ start_committed (Some start) m = if int_lt m.client_start.stamp start.stamp then
 
 -- ---- the quantum
 
+-- Rule: A commit's quantum becomes the node's.
 abbrev pub quantum_committed : Option ℤ → Machine → Machine
 quantum_committed quantum m = record m { quantum = unwrap_or quantum m.quantum }
 
@@ -49,10 +50,12 @@ abbrev pub client_taken : Option Timeline → Timeline → Machine → Machine
 client_taken None client m = m
 client_taken (Some session) client m = with_client_timeline client session m
 
+-- Rule: Where a commit would need a greater beat origin than there is, nothing of the commit is taken, but it is counted.
 abbrev pub committed_by : Option Timeline → Timeline → Commit → Machine → Machine
 committed_by session client commit m =
     if is_some session then rest_committed commit (client_taken session client m) else m
 
+-- Rule: A commit's timeline becomes the client's, and the session's as of the commit's own time.
 abbrev pub timeline_committed : Option Timeline → Commit → Machine → Machine
 timeline_committed None commit m = rest_committed commit m
 timeline_committed (Some client) commit m =

@@ -34,7 +34,7 @@ config_value config = record {
   gates = map gate_value config.gates.items;
 }
 
--- what a node can be opened with: one to four gates, and a tempo and a quantum in their ranges
+-- Rule: A node opens with one to four gates, a tempo from 60,060 to 3,000,000 microseconds per beat, and a quantum from 0 to 2^40.
 pub record IsConfig (config : ConfigValue) : Type 0 where
   pub some_gate : 1 ≤ length config.gates
   pub few_gates : length config.gates ≤ 4

@@ -27,8 +27,8 @@ abbrev pub earliest_of : ℤ → List (Option ℤ) → ℤ
 earliest_of at [] = at
 earliest_of at (other ∷ others) = earliest_of (earlier_of at other) others
 
--- the next broadcast, the first row that ends, the deadline of the measurement that runs, the measuring anew, and a session
--- that waits
+-- Rule: A tick is due at the next broadcast, a row's limit, the measurement's deadline or the measuring anew, or now where a session waits
+-- and none is measured.
 unfoldable pub due_of : Machine → ℤ
 due_of m =
     earliest_of

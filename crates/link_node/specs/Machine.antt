@@ -52,7 +52,7 @@ still = record { playing = false; beats = pos 0; stamp = pos 0 }
 abbrev pub session_in : Machine → NodeId
 session_in m = m.sessions.current.session
 
--- the first of greatest beat origin that the current session has taken
+-- Rule: The current session's timeline is the first of greatest beat origin that it has taken.
 abbrev pub timeline_in : Machine → Timeline
 timeline_in m = best_in m.sessions.current
 

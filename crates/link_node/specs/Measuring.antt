@@ -19,7 +19,7 @@ use Rattle.link_node.specs.Client.{renewed}
 use Rattle.link_node.specs.Event.{SendingValue}
 use Rattle.link_node.specs.Machine.{Machine, session_in}
 
--- the current session is measured anew 30 seconds from now
+-- Rule: The current session is measured anew 30 seconds after its last measurement.
 abbrev pub remeasured_later : Machine → Machine
 remeasured_later m = record m { remeasure_at = Some (m.moment +ℤ pos 30_000_000) }
 
@@ -32,6 +32,7 @@ chosen Remeasured m = remeasured_later (renewed m)
 chosen Stayed m = m
 chosen Unknown m = m
 
+-- Rule: Another session that was measured is joined exactly where it wins over the current one.
 unfoldable pub measured : NodeId → ℤ → Machine → Machine
 measured session offset m =
     chosen
@@ -40,7 +41,7 @@ measured session offset m =
 
 -- ---- or it couldn't be
 
--- another session is forgotten, and the rows of its peers stay
+-- Rule: Another session that can't be measured is forgotten, and the rows of its peers stay.
 unfoldable pub unmeasured : NodeId → Machine → Machine
 unmeasured session m =
     if same_id session (session_in m) then remeasured_later m
@@ -74,6 +75,7 @@ pong_by (Some life) gate from pong m =
     life.session
     (record m { measuring = Some (pong_after life gate from pong m.moment) })
 
+-- Rule: A pong goes to the measurement that runs, and is passed over where none runs.
 unfoldable pub pong_heard : Gate → Endpoint → PongFields → Machine → Machine
 pong_heard gate from pong m = pong_by m.measuring gate from pong m
 

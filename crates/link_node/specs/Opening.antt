@@ -24,6 +24,7 @@ opening_state_of config now = record {
   quantum = config.quantum;
 }
 
+-- Rule: A node opens alone in a session of its own id, with the config's tempo, at beat 0 and ghost time 0.
 unfoldable pub opened : ConfigValue → ℤ → Machine
 opened config now = record {
   config = config;

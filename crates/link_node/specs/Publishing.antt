@@ -9,6 +9,7 @@ use Rattle.link_node.specs.Machine.{Machine, session_in}
 use Rattle.link_node.specs.declared.event.Change.{Change}
 use Rattle.link_node.specs.declared.event.Change.TheVariants.{Same, Published}
 
+-- Rule: A published state tells timeline, start, sync, number of peers, moment, the commits taken, session and quantum.
 abbrev pub state_in : Machine → State
 state_in m = record {
   timeline = m.client;
@@ -25,7 +26,7 @@ state_in m = record {
 abbrev pub same_client_start : ClientStart → ClientStart → Bool
 same_client_start a b = same_playing a b && int_eq a.stamp b.stamp
 
--- the same in all but the moment
+-- Rule: A state is published exactly where it differs from the last one published in more than its moment.
 unfoldable pub alike : State → State → Bool
 alike a b =
     same_timeline a.timeline b.timeline

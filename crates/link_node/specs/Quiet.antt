@@ -11,6 +11,7 @@ use Rattle.link_node.specs.Arrival.{is_heard}
 use Rattle.link_node.specs.Event.{EventValue, Rx, Tick, App, Audio, End}
 use Rattle.link_node.specs.Machine.{Machine}
 
+-- Rule: A datagram that isn't read, isn't heard or is of an unknown kind changes nothing but the moment, and isn't answered.
 -- It is no message, or of a kind that nobody takes; it is the node's own or of another group; it is a ping that is too long to be
 -- answered, or a pong while nothing is measured
 abbrev pub IsPassedOver : Machine → Result MessageValue WireFault → Type 0
@@ -34,7 +35,7 @@ IsFrom (Ok (message.OtherDiscovery kind)) id = ⊥
 IsFrom (Ok (message.OtherLink kind)) id = ⊥
 IsFrom (Err fault) id = ⊥
 
--- its peer is seen anew or says goodbye on the row's gate, or a tick comes at or after its limit
+-- Rule: A node's row of a peer ends when the peer is heard anew or says bye on that gate, or at a tick at or after the row's limit.
 abbrev pub EndsRow : Machine → EventValue → PeerRow → Type 0
 EndsRow m (Rx gate from bytes now) row = (gate ≡ row.gate) × IsFrom (reading_of bytes) row.id
 EndsRow m (Tick now) row = row.limit ≤ℤ int_max m.moment now

@@ -18,11 +18,12 @@ use Rattle.link_node.specs.Client.{renewed}
 use Rattle.link_node.specs.Machine.{Machine, session_in, timeline_in, offset_in, start_in}
 use Rattle.link_node.specs.declared.node.settling.Held.{Held}
 
+-- Rule: A session that is founded has the next id drawn from the config's seed, which is the node's from then on.
 -- the id that is drawn after so many from the seed; each takes eight words
 unfoldable pub id_drawn : ℕ → ℕ → NodeId
 id_drawn seed drawn = drawn_id (source_after (8 * drawn) (started 64 multiplier_64 seed (increment_of 64 0)))
 
--- the tempo and the beat of the session before, at ghost time 0
+-- Rule: A session that is founded goes on with the tempo and the beat of the one before, at ghost time 0.
 unfoldable pub founding_timeline_in : Machine → Timeline
 founding_timeline_in m =
     timeline_at (timeline_in m).mpb (beat_at (timeline_in m) (ghost_of (offset_in m) m.moment)) (pos 0)
@@ -43,6 +44,7 @@ founded m = renewed (record m {
 abbrev pub counted : Machine → Machine
 counted m = record m { peers = peers_in (session_in m) m.life }
 
+-- Rule: A node that had peers in its session and has none any more founds a session, alone.
 -- there were peers at the end of the event before, and there are none
 abbrev pub is_left : Machine → Bool
 is_left m = nat_lt 0 m.peers && (peers_in (session_in m) m.life == 0)
@@ -63,6 +65,7 @@ abbrev pub same_held : Held → Held → Bool
 same_held a b =
     same_id a.id b.id && (same_id a.session b.session && (same_timeline a.timeline b.timeline && same_start a.start b.start))
 
+-- Rule: What an event changes of id, session, timeline or start is news, to be told by the next broadcast.
 -- it differs from what was held before the event
 unfoldable pub noted : Held → Machine → Machine
 noted before m = record m { changed = m.changed || not (same_held before (held_in m)) }

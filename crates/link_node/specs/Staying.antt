@@ -37,7 +37,7 @@ last_of first (next ∷ later) = last_of next later
 abbrev pub IsKnownIn : Machine → NodeId → Type 0
 IsKnownIn m session = (taking : Taking) × Has (m.sessions.current ∷ m.sessions.others) taking × (taking.session ≡ session)
 
--- the client's tempo is the session's, and its time origin is the host time of the session's beat 0
+-- Rule: A client has its session's tempo, and its time origin is the host time of the session's beat 0.
 pub record IsFollowing (m : Machine) : Type 0 where
   pub tempo : m.client.mpb ≡ (timeline_in m).mpb
   pub time : m.client.time ≡ zero_time_of (timeline_in m) (offset_in m)

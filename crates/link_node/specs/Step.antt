@@ -13,7 +13,7 @@ use Rattle.link_node.specs.Telling.{byes_in}
 use Rattle.link_node.specs.Tick.{ticked, pings_of_tick}
 use Rattle.link_node.specs.declared.event.Change.{Change}
 
--- the moment never falls
+-- Rule: The moment of a node never falls: an event of an earlier time is taken at the moment before.
 abbrev pub at_moment : ℤ → Machine → Machine
 at_moment now m = record m { moment = int_max m.moment now }
 
@@ -26,6 +26,7 @@ taken (App commit now) m = app_taken commit m
 taken (Audio number commit now) m = audio_taken number commit m
 taken (End now) m = m
 
+-- Rule: A commit sends nothing at once.
 -- the end says goodbye to all destinations
 abbrev pub answers : EventValue → Machine → List SendingValue
 answers (Rx gate from bytes now) m = answers_to gate from (reading_of bytes) m
@@ -48,6 +49,7 @@ broadcast_by (App commit now) m = m
 broadcast_by (Audio number commit now) m = m
 broadcast_by (End now) m = m
 
+-- Rule: Alives go out in ticks alone.
 abbrev pub alives_by : EventValue → Machine → List SendingValue
 alives_by (Tick now) m = broadcast_in m
 alives_by (Rx gate from bytes now) m = []
@@ -60,6 +62,7 @@ before_shown e m = broadcast_by e (before_broadcast e m)
 
 -- ---- the step
 
+-- Rule: What a node becomes, sends and publishes follows from its config, its opening moment and its events alone.
 unfoldable pub step_of : Machine → EventValue → Machine
 step_of m e = shown (before_shown e m)
 

@@ -25,6 +25,7 @@ use Rattle.link_node.specs.Machine.{Machine, session_in, timeline_in, offset_in,
 abbrev pub is_current : NodeId → Machine → Bool
 is_current session m = same_id session (session_in m)
 
+-- Rule: A session that is heard of for the first time waits, last in the list, to be measured.
 -- a new session waits to be measured, and a later timeline of the current one renews the client's
 abbrev pub followed : Saw → NodeId → Machine → Machine
 followed New session m = record m { waiting = m.waiting ++ session ∷ [] }
@@ -32,6 +33,7 @@ followed Taken session m = if is_current session m then renewed m else m
 followed Kept session m = m
 followed Full session m = m
 
+-- Rule: A timeline that is heard is tidied and taken by its session.
 unfoldable pub timeline_taken : PeerFields → Machine → Machine
 timeline_taken fields m =
     followed
@@ -41,7 +43,8 @@ timeline_taken fields m =
 
 -- ---- the start
 
--- with sync, a start that is later than the session's is the client's too
+-- Rule: A peer's start reaches the client only with sync (start and stop shared), and only where its stamp is greater than that of the
+-- session's start.
 abbrev pub reaches_client : SessionStart → Machine → Bool
 reaches_client start m = int_lt (start_in m).stamp start.stamp && m.config.sync
 
@@ -52,7 +55,7 @@ with_start start m = record m {
       if reaches_client start m then start_to_client_of start (timeline_in m) (offset_in m) else m.client_start;
 }
 
--- a start counts in the current session alone
+-- Rule: A start that is heard counts in the current session alone.
 unfoldable pub start_taken : PeerFields → Machine → Machine
 start_taken fields m = if is_current fields.session m then with_start fields.start m else m
 
@@ -65,7 +68,7 @@ row_of gate msg m = row_seen gate msg.from msg.ttl msg.fields.session msg.fields
 unfoldable pub sighted : Gate → StateMsg → Machine → Machine
 sighted gate msg m = record m { life = life_after (seen_of gate msg.from m.life) (row_of gate msg m) m.life }
 
--- where there was no room for the row, nothing more is taken
+-- Rule: Of a state that is heard nothing is taken where its gate has no room for the peer's row.
 abbrev pub listened : Seen → PeerFields → Machine → Machine
 listened seen.TableFull fields m = m
 listened seen.New fields m = start_taken fields (timeline_taken fields m)

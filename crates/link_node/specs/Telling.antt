@@ -16,6 +16,7 @@ fields_in endpoint m = record { timeline = timeline_in m; session = session_in m
 abbrev pub local_of : Gate → Machine → Option Endpoint
 local_of gate m = option_map (λ g. g.local) (slice_get m.config.gates gate.0)
 
+-- Rule: An alive that is heard is answered by one response, on its gate and to its sender, with the node's state before the alive is taken.
 -- the response that goes out on a gate
 unfoldable pub response_to : Gate → Endpoint → Machine → SendingValue
 response_to gate to m =
@@ -37,8 +38,10 @@ sent_from spelled k (gate ∷ gates) =
     map (λ to. record { gate = record { 0 = k }; to = to; bytes = spelled gate }) gate.destinations
     ++ sent_from spelled (k + 1) gates
 
+-- Rule: A broadcast sends an alive from each gate to each of its destinations, with that gate's endpoint.
 unfoldable pub alives_in : Machine → List SendingValue
 alives_in m = sent_from (alive_of m) 0 m.config.gates
 
+-- Rule: At the end a bye goes from each gate to each of its destinations.
 unfoldable pub byes_in : Machine → List SendingValue
 byes_in m = sent_from (bye_of m) 0 m.config.gates

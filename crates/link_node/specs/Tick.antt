@@ -25,6 +25,7 @@ is_measured session (Some life) = same_id life.session session
 abbrev pub is_waiting : NodeId → List NodeId → Bool
 is_waiting session waiting = list_any (λ id. same_id id session) waiting
 
+-- Rule: A tick forgets each other session that has no peer, isn't measured and doesn't wait.
 abbrev pub is_needed : Machine → Taking → Bool
 is_needed m taking =
     has_peers taking.session m.life || (is_measured taking.session m.measuring || is_waiting taking.session m.waiting)
@@ -69,6 +70,7 @@ begun_from [] m = m
 begun_from (session ∷ rest) m =
     if is_some m.measuring then m else begun_from rest (begun_one session (record m { waiting = rest }))
 
+-- Rule: A tick begins the measurement of the first session that waits and has a target, where none runs.
 unfoldable pub begun : Machine → Machine
 begun m = begun_from m.waiting m
 
@@ -87,6 +89,7 @@ pings_begun m = pings_from m.waiting m
 unfoldable pub cleared : Machine → Machine
 cleared m = idle_forgotten (pruned m)
 
+-- Rule: A tick ends rows, forgets idle sessions, ticks the measurement, queues the measuring anew and begins the next one, in this order.
 unfoldable pub ticked : Machine → Machine
 ticked m = begun (remeasure_queued (measurement_ticked (cleared m)))
 

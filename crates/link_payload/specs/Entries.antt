@@ -25,11 +25,13 @@ IsEntry e = (e.key < 2 ^ 32) × (length e.value < 2 ^ 32)
 unfoldable pub spelled_entries_of : List EntryValue → List ℕ
 spelled_entries_of es = flat_map (λ e. spelled_entry_of e.key e.value) es
 
+-- Rule: A payload is entries back to back, each a key of four bytes, the size of its value in four bytes, and the value.
 -- the bytes are these entries
 pub record Spells (bytes : List ℕ) (es : List EntryValue) : Type 0 where
   pub each : AllByRecursion IsEntry es
   pub spelled : bytes ≡ spelled_entries_of es
 
+-- Rule: A payload is cut where the header or the value of an entry passes its end.
 -- The first n bytes are these entries. More bytes follow, and no entry begins with them.
 pub record IsCutAt (bytes : List ℕ) (n : ℕ) (es : List EntryValue) : Type 0 where
   pub each : AllByRecursion IsEntry es

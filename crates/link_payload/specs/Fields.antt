@@ -38,11 +38,11 @@ pub record AreTimesInRange (f : PongFields) : Type 0 where
 abbrev pub number_in : List ℕ → ℤ
 number_in bytes = cast_signed w64 (big_number 8 bytes)
 
--- the microseconds per beat, the beat origin, the time origin
+-- Rule: The entry `tmln` has the microseconds per beat, the beat origin and the time origin.
 unfoldable pub timeline_in : List ℕ → Timeline
 timeline_in value = record { mpb = number_in value; beat = number_in (drop 8 value); time = number_in (drop 16 value) }
 
--- playing where the first byte isn't 0, the beats, the stamp
+-- Rule: The entry `stst` has the playing byte, of which any but 0 means playing, the beats and the stamp.
 unfoldable pub start_in : List ℕ → SessionStart
 start_in value = record { playing = not (slice_index value 0 == 0); beats = number_in (drop 1 value); stamp = number_in (drop 9 value) }
 
@@ -52,13 +52,13 @@ endpoint_in value = record { addr = big_number 4 value; port = big_number 2 (dro
 
 -- ---- the first fault that applies
 
--- an answer, unless there is a fault: then the first
+-- Rule: Of a payload's faults the first is told: a known key of another size, a cut, a missing key, a number out of range.
 abbrev pub answer_of : {A : Type 0} → List (Option PayloadFault) → A → Result A PayloadFault
 answer_of [] answer = Ok answer
 answer_of (None ∷ faults) answer = answer_of faults answer
 answer_of (Some fault ∷ faults) answer = Err fault
 
--- the value of the last entry of a key
+-- Rule: Of several entries of one key the last counts.
 abbrev pub last_value_of : ℕ → List EntryValue → Option (List ℕ)
 last_value_of key es = last_or None (map (λ e. e.value) (filter (λ e. e.key == key) es))
 
@@ -73,26 +73,26 @@ size_fault_of known es = option_map (λ e. WrongSize e.key (length e.value)) (fi
 abbrev pub cut_fault_of : Option ℕ → Option PayloadFault
 cut_fault_of cut = option_map (λ n. Cut n) cut
 
--- no value of a key that has to be there
+-- Rule: A state needs `tmln` and `sess`, and a pong needs `sess` and `__gt`; a missing key is a fault.
 abbrev pub missing_fault_of : ℕ → Option (List ℕ) → Option PayloadFault
 missing_fault_of key None = Some (Missing key)
 missing_fault_of key (Some value) = None
 
--- a tempo outside 1..=2^31
+-- Rule: A tempo on the wire is from 1 to 2^31 microseconds per beat; another is a fault.
 abbrev pub mpb_fault_of : ℕ → ℤ → Option PayloadFault
 mpb_fault_of key z = if int_le (pos 1) z && int_le z (pos (2 ^ 31)) then None else Some (OutOfRange key z)
 
--- any other number more than 2^60 away from 0
+-- Rule: A beat, time or stamp on the wire that is not within 2^60 of 0 is a fault.
 abbrev pub limit_fault_of : ℕ → ℤ → Option PayloadFault
 limit_fault_of key z = if nat_le (unsigned_abs z) (2 ^ 60) then None else Some (OutOfRange key z)
 
 -- ---- a state
 
--- `tmln`, `sess`, `stst` and `mep4` are known
+-- Rule: A state has the entries `tmln` of 24 bytes, `sess` of 8, `stst` of 17 and `mep4` of 6.
 abbrev pub state_keys : List (ℕ × ℕ)
 state_keys = (0x746d6c6e, 24) ∷ (0x73657373, 8) ∷ (0x73747374, 17) ∷ (0x6d657034, 6) ∷ []
 
--- what a missing `stst` means
+-- Rule: A state without the entry `stst` is stopped, with zeros; one without `mep4` has no endpoint.
 abbrev pub no_start : SessionStart
 no_start = record { playing = false; beats = pos 0; stamp = pos 0 }
 
@@ -115,6 +115,7 @@ state_range_faults_of f =
     ∷ limit_fault_of 0x73747374 f.start.stamp
     ∷ []
 
+-- Rule: The entries of a state stand in any order, as those of a pong do, and entries of unknown keys are passed over.
 -- what complete entries, and perhaps a cut at a place, answer as a state
 unfoldable pub state_answer_of : List EntryValue → Option ℕ → Result PeerFields PayloadFault
 state_answer_of es cut =
@@ -131,10 +132,12 @@ state_answer_of es cut =
 
 -- ---- a pong
 
--- `sess`, `__gt`, `__ht` and `_pgt` are known
+-- Rule: A pong has the entries `sess`, `__gt`, `__ht` and `_pgt`, of 8 bytes each.
 abbrev pub pong_keys : List (ℕ × ℕ)
 pong_keys = (0x73657373, 8) ∷ (0x5f5f6774, 8) ∷ (0x5f5f6874, 8) ∷ (0x5f706774, 8) ∷ []
 
+-- Rule: A pong carries the responder's ghost time, the host time of its ping and the ping's ghost time; either of the last two is 0 where
+-- it is missing.
 -- the fields by the values of `sess`, `__gt`, `__ht` and `_pgt`
 abbrev pub pong_of : Option (List ℕ) → Option (List ℕ) → Option (List ℕ) → Option (List ℕ) → PongFields
 pong_of session ghost_time host previous = record {

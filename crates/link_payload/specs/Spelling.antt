@@ -26,7 +26,7 @@ unfoldable pub spelled_endpoint_entry_of : Option Endpoint → List ℕ
 spelled_endpoint_entry_of None = []
 spelled_endpoint_entry_of (Some e) = spelled_entry_of 0x6d657034 (spelled_endpoint_of e)
 
--- the entries `tmln`, `sess` and `stst`, and `mep4` where there is an endpoint
+-- Rule: A state is written as `tmln`, `sess`, `stst` and, where there is an endpoint, `mep4`, in this order.
 unfoldable pub spelled_state_of : PeerFields → List ℕ
 spelled_state_of f =
     spelled_entry_of 0x746d6c6e (spelled_timeline_of f.timeline)

@@ -17,12 +17,14 @@ pub record IsFaultAt (IsText : List (List ℕ) → Type 0) (lines : List (List �
   pub begins : Begins IsText before
   pub fault : Begins IsText (before ++ line ∷ []) → ⊥
 
+-- Rule: Where a line is missing at the end of a text, the line at fault is the one after the last.
 -- the lines begin a text, and a line that it needs is absent
 pub record IsCutShort (IsText : List (List ℕ) → Type 0) (lines : List (List ℕ)) (k : ℕ) : Type 0 where
   pub number : k ≡ length lines + 1
   pub begins : Begins IsText lines
   pub fault : IsText lines → ⊥
 
+-- Rule: The first line at fault is the first with which the lines so far begin no script any more.
 -- the first line at fault, counted from 1, those passed over among them
 abbrev pub IsFirstFault : (List (List ℕ) → Type 0) → List ℕ → ℕ → Type 0
 IsFirstFault IsText text k = IsFaultAt IsText (lines_of text) k ⊎ IsCutShort IsText (lines_of text) k

@@ -52,6 +52,7 @@ blocks_in [] = []
 blocks_in (app command ∷ commands) = blocks_in commands
 blocks_in (block command ∷ commands) = command ∷ blocks_in commands
 
+-- Rule: The acts of a command are `tempo`, `force`, `request`, `quantum`, `play`, `stop` and `look`.
 abbrev pub act_words : Act → List (List ℕ)
 act_words (Tempo mpb) = codes "tempo" ∷ signed_decimal mpb ∷ []
 act_words (Force beat) = codes "force" ∷ signed_decimal beat ∷ []
@@ -70,7 +71,7 @@ IsAct Play = Unit {0}
 IsAct Stop = Unit {0}
 IsAct Look = Unit {0}
 
--- in a block, neither beats nor a look
+-- Rule: The audio thread's command `block` takes `tempo`, `quantum`, `play` and `stop`, but not `force`, `request` and `look`.
 abbrev pub IsBlockAct : Act → Type 0
 IsBlockAct (Tempo mpb) = Unit {0}
 IsBlockAct (Force beat) = ⊥
@@ -93,6 +94,7 @@ IsCommand (block command) = (1 ≤ command.block) × (command.block ≤ 524_288)
 
 -- ---- a script
 
+-- Rule: A live script is `link 1`, `setup` with tempo and sync, the lines of one to four gates, and the commands `at` and `block`.
 -- the lines that count are those of the head and then those of the commands
 pub record IsLiveScript (lines : List (List ℕ)) (mpb : ℤ) (sync : Bool) (gates : List GateValue) (commands : List Command) : Type 0 where
   pub head : IsLiveHead mpb gates
@@ -131,6 +133,7 @@ IsLiveLineFault text k = faults.IsLineFault IsSomeLiveScript text k
 abbrev pub begins_command : List ℕ → Bool
 begins_command line = starts_with nat_eq line (codes "at ") || starts_with nat_eq line (codes "block ")
 
+-- Rule: A live script has at most 4,096 lines that begin with `at` or `block`.
 -- lines at fault are counted too
 abbrev pub commands_told : List ℕ → ℕ
 commands_told text = length (filter begins_command (lines_of text))

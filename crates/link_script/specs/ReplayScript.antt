@@ -57,6 +57,7 @@ quantum_line quantum = joined (codes "quantum" ∷ signed_decimal quantum ∷ []
 abbrev pub profile_lines : ℕ → ConfigValue → List (List ℕ)
 profile_lines version config = if nat_eq version 1 then [] else group_line config.group ∷ quantum_line config.quantum ∷ []
 
+-- Rule: A replay script has the version 2, or 1 for one without lines of group and quantum.
 -- A script is of version 1 or 2. One of version 1 opens a node in the group 0 and with a quantum of four beats.
 abbrev pub IsVersion : ℕ → ConfigValue → Type 0
 IsVersion version config = ((version ≡ 1) × (config.group ≡ 0) × (config.quantum ≡ pos 4_000_000)) ⊎ (version ≡ 2)
@@ -90,10 +91,12 @@ abbrev pub quantum_words : Option ℤ → List (List ℕ)
 quantum_words None = []
 quantum_words (Some quantum) = codes "q" ∷ signed_decimal quantum ∷ []
 
+-- Rule: The line of a commit has its moment, when it was made, and of a timeline, a start and a quantum those that it carries.
 abbrev pub commit_words : Commit → List (List ℕ)
 commit_words commit =
     signed_decimal commit.at ∷ (timeline_words commit.timeline ++ (start_words commit.start ++ quantum_words commit.quantum))
 
+-- Rule: The line of a datagram has its moment, the gate by its place from 0, the sender and the bytes.
 -- the words of an event, with a word for the bytes of a datagram
 unfoldable pub event_words : List ℕ → EventValue → List (List ℕ)
 event_words hex (Rx gate from bytes now) = codes "rx" ∷ signed_decimal now ∷ decimal gate.0 ∷ endpoint_text_of from ∷ hex ∷ []
@@ -147,6 +150,7 @@ IsWithoutQuantum (End now) = Unit {0}
 
 -- ---- a script
 
+-- Rule: A replay script is `replay 2` and then lines of the node, its group, its quantum, its gates and its events, in this order.
 -- the lines that count are those of the head and then those of the events
 pub record IsScript (lines : List (List ℕ)) (version : ℕ) (config : ConfigValue) (now : ℤ) (es : List EventValue) : Type 0 where
   pub known : IsVersion version config
@@ -243,6 +247,7 @@ event_line e = joined (event_words (hex_of e) e)
 abbrev pub ended : List ℕ → List ℕ
 ended line = line ++ 10 ∷ []
 
+-- Rule: A script that is written from a node and its events is read as just these.
 unfoldable pub written_script_of : ConfigValue → ℤ → List EventValue → List ℕ
 written_script_of config now es = flat_map ended (head_lines 2 config now) ++ flat_map (λ e. ended (event_line e)) es
 

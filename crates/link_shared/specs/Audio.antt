@@ -18,6 +18,8 @@ pub record AudioView : Type 0 where
 abbrev pub last_of : List Commit → Option (ℕ × Commit)
 last_of made = option_map (λ commit. (length made, commit)) (slice_get made (length made - 1))
 
+-- Rule: A capture of the audio thread is one read, no older than a read before it, and shows the thread's own last commit until it is
+-- taken.
 -- One read of the cell of states was made: its pair comes last in the list, and no number is less than one before it. What is shown has
 -- the last commit made over the state, unless it was taken
 pub record HasReadAudio (before after : AudioView) (number : ℕ) (state shown : State) : Type 0 where

@@ -13,7 +13,7 @@ use Rattle.link_shared.specs.Hub.{HubView, opening_of, machine_of, read_events}
 use Rattle.link_shared.specs.Journal.{IsOffered, AreCarried, app_commits_in, last_audio_in}
 use Rattle.link_shared.specs.Passes.{AppView}
 
--- each pair that was read is a state published, whole and at its number
+-- Rule: Each state that the audio thread or an application read is one that was published, whole and under its number.
 abbrev pub WerePublished : List State → List Pair → Type 0
 WerePublished published seen =
     (k : ℕ) (pair : Pair) → get_elem? seen k ≡ some pair → get_elem? published pair.0 ≡ some (state_of_words pair.1)
@@ -28,6 +28,7 @@ pub record HasHeard (published : List State) (pushed : List Commit) (pass : AppV
   pub begins : Grows pass.pushed pushed
   pub sole : pass.sole ≡ true → pass.made ≡ length pushed
 
+-- Rule: The last turn offers the last audio commit, each commit left in the queue and then the end, at which the byes are sent.
 -- The last turn offers the last audio commit made, where it wasn't taken, commits that the queue still holds, and the end. Then all is
 -- known of the passes handed in: every commit that one of them knew to be pushed stands in the journal once, in the order of their numbers,
 -- and of the audio commits those that do carry what was made under their numbers, which rise, the last one made among them. Where an event

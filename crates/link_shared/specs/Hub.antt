@@ -46,7 +46,8 @@ item_events now None = []
 item_events now (Some (item.Commit commit)) = App commit now ∷ []
 item_events now (Some item.Quit) = []
 
--- the audio commit that was read, where its number is greater than that of the last one taken
+-- Rule: An audio commit is offered only where it is newer than the last one taken; one overtaken by a later one before a turn is never
+-- offered.
 abbrev pub read_events : ℤ → ℕ → Pair → List EventValue
 read_events now taken pair = if nat_lt taken pair.0 then Audio pair.0 (commit_of_words pair.1) now ∷ [] else []
 
@@ -81,6 +82,7 @@ is_quit None = false
 is_quit (Some (item.Commit commit)) = false
 is_quit (Some item.Quit) = true
 
+-- Rule: A turn of the hub offers to the journal the commit popped from the queue, then the audio commit read, then the datagram or tick.
 -- One item is popped at most, one row of the audio commits' cell is read, and these and what the turn was given are offered, in this order.
 -- `sends` is exactly what the machine sent for the events taken. A quit is told, and no turn tells one that wasn't popped.
 pub record HasTurned (before after : HubView) (now : ℤ) (got : Got) (sends : List SendingValue) (quit full : Bool) : Type 0 where

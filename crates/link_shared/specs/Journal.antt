@@ -7,7 +7,7 @@ use Rattle.link_node.specs.Runs.{machine_after, sent_by}
 
 -- ---- what stands in it
 
--- the commits of applications, in order
+-- Rule: Application commits stand in the journal once each, in the order in which they were pushed.
 abbrev pub app_commits_in : List EventValue → List Commit
 app_commits_in [] = []
 app_commits_in (Rx gate from bytes now ∷ es) = app_commits_in es
@@ -29,6 +29,7 @@ AreCarried made es =
 
 -- ---- what is offered to it
 
+-- Rule: Events go into the journal in the order offered, until it is full; from the first without room on none is taken.
 -- Events that are offered one after the other are taken as long as there is room: each is a step of the machine, stands in the journal,
 -- and has its datagrams appended. From the first one on for which there is none, none is taken, and that is told.
 pub record IsOffered (opening : Machine) (most : ℕ) (events before after : List EventValue) (unsent sent : List SendingValue) (full : Bool) : Type 0 where

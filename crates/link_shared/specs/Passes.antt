@@ -27,6 +27,7 @@ after_passing pass = record pass { room = pass.room - 1; sole = false }
 
 -- ---- a capture
 
+-- Rule: A capture of an application is no older than a capture before it, and shows the pass's own last commit until it is taken.
 -- One read of the cell of states was made since the pass's last note: its pair comes last in the list, others may have come between, and no
 -- number is less than one before it. What is shown has the pass's own last commit over the state, unless it was taken
 pub record HasCaptured (before after : AppView) (number : ℕ) (state shown : State) : Type 0 where
@@ -40,6 +41,7 @@ pub record HasCaptured (before after : AppView) (number : ℕ) (state shown : St
 
 -- ---- a commit
 
+-- Rule: A commit that is pushed stands last in the queue under the next number.
 -- The commit was pushed as that number of all. Others may have been pushed since the pass last knew
 pub record HasCommitted (before after : AppView) (commit : Commit) (number : ℕ) : Type 0 where
   pub between : List Commit

@@ -47,6 +47,7 @@ pub record FitsFlow (flow : Flow) (at : ℕ) (hand : Hand) : Type 0 where
   pub pushed_begins : Grows hand.pushed flow.pushed
   pub heard_begins : Grows hand.heard flow.pushed
 
+-- Rule: What is pushed on the queue is popped in the same order, each once.
 -- what was pushed is what was popped and then what the queue holds; likewise the quits, by number. Every item is tidy
 pub record IsKept (items : List Item) (hands : List Hand) : Type 0 where
   pub flow : Flow

@@ -7,6 +7,7 @@ use Rattle.link_lines.specs.Words.{joined}
 use Rattle.link_text.specs.declared.control_line.ControlLine.{ControlLine}
 use Rattle.link_text.specs.declared.control_line.ControlLine.TheVariants.{Status, Tempo, Play, Stop, Beat, Time}
 
+-- Rule: A control line is `status`, `tempo N`, `play`, `stop`, `beat TIME` or `time BEAT`.
 abbrev pub control_words : ControlLine → List (List ℕ)
 control_words Status = codes "status" ∷ []
 control_words (Tempo mpb) = codes "tempo" ∷ signed_decimal mpb ∷ []
@@ -15,6 +16,7 @@ control_words Stop = codes "stop" ∷ []
 control_words (Beat time) = codes "beat" ∷ signed_decimal time ∷ []
 control_words (Time beat) = codes "time" ∷ signed_decimal beat ∷ []
 
+-- Rule: The tempo in a control line is from 60,060 to 3,000,000 microseconds per beat, and times and beats are within 2^60 of 0.
 abbrev pub IsControlLine : ControlLine → Type 0
 IsControlLine Status = Unit {0}
 IsControlLine (Tempo mpb) = IsTempo mpb
@@ -33,6 +35,7 @@ abbrev pub IsAsked : List ℕ → Option ControlLine → Type 0
 IsAsked line None = (asked : ControlLine) → Asks line asked → ⊥
 IsAsked line (Some asked) = Asks line asked
 
+-- Rule: A control line asks for one thing at most, and a line of more than 25 bytes, as one of 65 bytes, for nothing that there is.
 -- a line asks for one thing at most, and a long one for none
 pub record AreControlLines : Type 0 where
   pub one : (line : List ℕ) (asked other : ControlLine) → Asks line asked → Asks line other → asked ≡ other

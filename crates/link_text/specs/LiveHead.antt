@@ -9,6 +9,7 @@ use Rattle.link_script.specs.LiveScript.{IsLiveScript}
 abbrev pub IsHeadScript : List (List ℕ) → ℤ → Bool → List GateValue → Type 0
 IsHeadScript lines mpb sync gates = IsLiveScript lines mpb sync gates []
 
+-- Rule: The head of a live script, which `control` reads, is `link 1`, `setup` and the lines of its gates, without commands.
 abbrev pub IsHeadText : List ℕ → ℤ → Bool → List GateValue → Type 0
 IsHeadText text mpb sync gates = IsHeadScript (lines_of text) mpb sync gates
 

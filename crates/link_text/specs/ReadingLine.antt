@@ -41,6 +41,7 @@ state_words_of m =
     ∷ truth_text_of m.fields.start.playing ∷ signed_decimal m.fields.start.beats ∷ signed_decimal m.fields.start.stamp
     ∷ maybe_endpoint_text_of m.fields.endpoint ∷ []
 
+-- Rule: A datagram that is decoded is told by the word of its kind and its fields, and `-` for what it lacks.
 abbrev pub message_words_of : MessageValue → List (List ℕ)
 message_words_of (Alive m) = codes "alive" ∷ state_words_of m
 message_words_of (Response m) = codes "response" ∷ state_words_of m
@@ -57,6 +58,7 @@ payload_fault_words_of (payload.WrongSize key size) = codes "size" ∷ key_text_
 payload_fault_words_of (payload.Missing key) = codes "missing" ∷ key_text_of key ∷ []
 payload_fault_words_of (payload.OutOfRange key value) = codes "range" ∷ key_text_of key ∷ signed_decimal value ∷ []
 
+-- Rule: A datagram that isn't read is told by `fault`, the fault's word and its place, key, size or number.
 abbrev pub fault_words_of : WireFault → List (List ℕ)
 fault_words_of (wire.Short len) = codes "short" ∷ decimal len ∷ []
 fault_words_of wire.NotLink = codes "notlink" ∷ []

@@ -20,8 +20,8 @@ abbrev pub profile_words : ℕ → State → List (List ℕ)
 profile_words version state =
     if nat_eq version 1 then [] else encode_lower state.session.0 ∷ signed_decimal state.quantum ∷ []
 
--- a state by its number: the timeline, the start, whether starts are shared, the peers, the moment, both counts, the session and the
--- quantum
+-- Rule: The line `state` tells the number, timeline, start, sync, peers, moment, both counts of commits, and in version 2 session and
+-- quantum.
 unfoldable pub state_line_of : ℕ → ℕ → State → List ℕ
 state_line_of version number state =
     line_of (
@@ -61,6 +61,7 @@ events_text_of version m number [] = []
 events_text_of version m number (e ∷ es) =
     event_text_of version m number e ++ events_text_of version (step_of m e) (number + length (published_in m e)) es
 
+-- Rule: A replay tells the opening state, for each event its datagrams and then its state if one was published, and last the counts.
 unfoldable pub replay_text_of : ℕ → ConfigValue → ℤ → List EventValue → List ℕ
 replay_text_of version config now es =
     state_line_of version 0 (opened config now).published

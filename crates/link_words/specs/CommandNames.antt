@@ -29,12 +29,12 @@ command_of word =
     else if bytes_eq word (word_of name.Control) then Some name.Control
     else None
 
--- the command that the first of the words names; none where there is no word, or another one
+-- Rule: The first word names one of the commands `replay`, `decode`, `load`, `live`, `filter`, `midi` and `control`.
 unfoldable pub named_by : List (String Global) → Option CommandName
 named_by [] = None
 named_by (first ∷ rest) = command_of (string_bytes first)
 
--- the words are the command's one word
+-- Rule: `replay`, `decode` and `filter` take no further words.
 abbrev pub Names : CommandName → List (String Global) → Type 0
 Names named words = map string_bytes words ≡ word_of named ∷ []
 

@@ -18,6 +18,7 @@ use Rattle.link_words.specs.declared.command_name.CommandName.TheVariants as nam
 abbrev pub text_rule : List ℕ → Rule
 text_rule id = record (new_rule id) { action = Some Set; required = true }
 
+-- Rule: `control` takes an endpoint and the options `--events`, `--quantum` and `--group` of `live`.
 abbrev pub control_app : App
 control_app =
     with_rule

@@ -10,6 +10,8 @@ use Rattle.link_words.specs.OptionWords.{flag_rule, option_rule}
 use Rattle.link_words.specs.declared.live_words.LiveOptions.{LiveOptions}
 use Rattle.link_words.specs.declared.command_name.CommandName.TheVariants as name
 
+-- Rule: `live` takes `--events` 1 to 524,288, else 262,144; `--blocks` 0 to 524,288, else 262,144; `--quantum` 0 to 2^40, else 4,000,000;
+-- `--group` 0 to 65,535, else 0.
 abbrev pub live_app : App
 live_app =
     with_rule

@@ -26,7 +26,7 @@ BeginsLoad = BeginsBy name.Load
 abbrev pub IsLoad : List (String Global) → Type 0
 IsLoad words = BeginsLoad words × (fault_of load_app (map string_bytes words) ≡ [])
 
--- the words are of `load`, with this seed and this number of events
+-- Rule: `load` takes a seed from 0 to 2^64 - 1 and a number of events from 1 to 524,288.
 pub record NamesLoad (words : List (String Global)) (seed count : ℕ) : Type 0 where
   pub load : IsLoad words
   pub seed_is : Says load_app words (codes "SEED") seed

@@ -26,7 +26,7 @@ BeginsMidi = BeginsBy name.Midi
 abbrev pub IsMidi : List (String Global) → Type 0
 IsMidi words = BeginsMidi words × (fault_of midi_app (map string_bytes words) ≡ [])
 
--- the words are of `midi`, with this length of a block and this number of blocks
+-- Rule: `midi` takes the length of a block from 1 to 1,000,000 microseconds and a number of blocks from 0 to 524,288.
 pub record NamesMidi (words : List (String Global)) (length blocks : ℕ) : Type 0 where
   pub midi : IsMidi words
   pub length_is : Says midi_app words (codes "LENGTH") length

@@ -16,6 +16,7 @@ option_rule id least most default = record (new_rule id) {
   defaults = default ∷ [];
 }
 
+-- Rule: `live` writes the record of a run only with `--record`.
 -- a flag: `true` where the words give it, and else `false`
 abbrev pub flag_rule : List ℕ → Rule
 flag_rule id = record (new_rule id) { long = Some id; action = Some SetTrue }

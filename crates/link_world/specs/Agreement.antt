@@ -26,7 +26,7 @@ HaveOwnOrigins Among = (a b : Timeline) → Among a → Among b → a.beat ≡ b
 
 -- ---- origin
 
--- Whatever a peer has taken for a session, somebody made for that session; and so is whatever was ever told of a session.
+-- Rule: Whatever a peer has taken for a session, and whatever it has sent of one, some peer made for that session.
 pub record HasOrigins (configs : List ConfigValue) (now : ℤ) (turns : List TurnValue) (world : WorldValue) : Type 0 where
   pub taken : (machine : Machine) → IsPeer world machine → (session : NodeId) (tl : Timeline)
       → IsTakenIn machine session tl → IsMade configs now turns session tl
@@ -37,6 +37,7 @@ pub record HasOrigins (configs : List ConfigValue) (now : ℤ) (turns : List Tur
 
 -- ---- agreement
 
+-- Rule: Two peers in one session that took the same timelines hold the same one, where different timelines differ in beat origin.
 -- Two peers in one session that have taken the same timelines there hold the same one, in whatever order and however often
 -- they took them, where different ones have different beat origins.
 abbrev pub Agrees : WorldValue → Type 0
@@ -47,8 +48,8 @@ Agrees world =
 
 -- ---- convergence
 
--- A peer whose session has taken all that was made for it holds the one of greatest beat origin of these, where different
--- ones have different beat origins.
+-- Rule: A peer whose session took all that was made for it holds the timeline of greatest beat origin, where different timelines differ in
+-- that.
 abbrev pub Converges : List ConfigValue → ℤ → List TurnValue → WorldValue → Type 0
 Converges configs now turns world =
     (machine : Machine) → IsPeer world machine

@@ -42,6 +42,8 @@ unless_datagram (App commit now) = Some (App commit now)
 unless_datagram (Audio number commit now) = Some (Audio number commit now)
 unless_datagram (End now) = Some (End now)
 
+-- Rule: A delivery brings a datagram as it was sent to any peer, on any gate, as often as one likes, so datagrams may be lost, repeated and
+-- reordered.
 -- the event that the turn brings to its peer, if there is one
 abbrev pub brought_by : List SendingValue → TurnValue → Option EventValue
 brought_by sent (Local peer event) = unless_datagram event

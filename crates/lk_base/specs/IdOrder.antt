@@ -13,6 +13,7 @@ same_id a b = pointwise nat_eq a.0 b.0
 abbrev pub id_lt : NodeId → NodeId → Bool
 id_lt a b = is_lt (slice_cmp nat_cmp a.0 b.0)
 
+-- Rule: Of two ids the lesser is the one with the lesser byte at the first place where they differ.
 -- what that order says: the first byte in which they differ is less, or there is none and the first text is shorter
 unfoldable pub bytes_lt : List ℕ → List ℕ → Bool
 bytes_lt bytes [] = false

@@ -14,6 +14,6 @@ source_after (suc count) source = (pcg32 (source_after count source)).1
 unfoldable pub word_at : ℕ → Lcg → ℕ
 word_at k source = (pcg32 (source_after k source)).0
 
--- the id that comes next: its k-th character is given by the k-th word
+-- Rule: An id is drawn from eight words of the PCG generator: its k-th character is 33 plus the remainder by 94 of the k-th word.
 abbrev pub drawn_id : Lcg → NodeId
 drawn_id source = record { 0 = map (λ k. 33 + word_at k source % 94) (range_with_len 0 8) }

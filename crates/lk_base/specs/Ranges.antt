@@ -5,14 +5,14 @@ use Rattle.std.specs.Prelude.{ℕ, ℤ, pos, ◌^◌, ◌≤◌, ◌≤ℤ◌, u
 abbrev pub IsWithin : ℕ → ℤ → Type 0
 IsWithin m z = unsigned_abs z ≤ m
 
--- a beat, a time or a stamp that peers may share
+-- Rule: A beat, time or stamp that peers share is at most 2^60 away from 0.
 abbrev pub IsWithinLimit : ℤ → Type 0
 IsWithinLimit z = IsWithin (2 ^ 60) z
 
--- a host time that an event may carry
+-- Rule: A moment, the host time of an event, is from 0 to 2^55 microseconds.
 abbrev pub IsMoment : ℤ → Type 0
 IsMoment z = (pos 0 ≤ℤ z) × (z ≤ℤ pos (2 ^ 55))
 
--- a length in microbeats that phases are counted in; 0 is none
+-- Rule: A quantum, the length in which phases are counted, is from 0 to 2^40 microbeats; 0 means that there is none.
 abbrev pub IsQuantum : ℤ → Type 0
 IsQuantum z = (pos 0 ≤ℤ z) × (z ≤ℤ pos (2 ^ 40))

@@ -2,7 +2,7 @@
 use Rattle.std.specs.Prelude.{ℕ, ℤ, pos, negsuc, ◌+◌, ◌*◌, ◌/◌, ◌^◌, ◌≤◌, ◌-ℤ◌, ◌*ℤ◌, neg_ℤ, unsigned_abs}
 use Rattle.std.specs.Int.{int_max, int_min}
 
--- n kept from -2^60 to 2^60
+-- Rule: A number above 2^60 or below -2^60 is clipped to that limit; any other number stays as it is.
 abbrev pub clipped_of : ℤ → ℤ
 clipped_of n = int_max (neg_ℤ (pos (2 ^ 60))) (int_min n (pos (2 ^ 60)))
 
@@ -24,6 +24,6 @@ abbrev pub signed_of : ℤ → ℕ → ℤ
 signed_of (pos _) magnitude = pos magnitude
 signed_of (negsuc _) magnitude = neg_ℤ (pos magnitude)
 
--- n / d rounded, halves away from 0
+-- Rule: A quotient is rounded to the nearest whole number, and a half away from 0.
 unfoldable pub nearest_of : ℤ → ℤ → ℤ
 nearest_of n d = signed_of n (rounded_of (unsigned_abs n) (unsigned_abs d))

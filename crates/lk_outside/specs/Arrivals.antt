@@ -29,7 +29,7 @@ abbrev pub arrived_at : ArrivalValue → ℤ
 arrived_at (Came gate from bytes now) = now
 arrived_at (Waited now) = now
 
--- what any port answers: a datagram came on one of so many gates, and moments are moments
+-- Rule: A receive answers a datagram on a bound gate, or time alone, each with a moment.
 abbrev pub IsAnswer : ℕ → Arrival → Type 0
 IsAnswer gates (Datagram gate from bytes now) = (gate.0 < gates) × IsMoment now
 IsAnswer gates (Idle now) = IsMoment now

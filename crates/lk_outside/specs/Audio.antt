@@ -16,7 +16,7 @@ pub record AudioContents : Type 0 where
   pub given : List Block
   pub plays : List (List Click)
 
--- a block begins at a moment and has at most a second
+-- Rule: An audio block begins at a moment and is 1 to 1,000,000 microseconds long.
 pub record IsBlock (block : Block) : Type 0 where
   pub start : IsMoment block.start
   pub some : pos 1 ≤ℤ block.length

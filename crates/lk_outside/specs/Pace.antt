@@ -3,7 +3,7 @@ use Rattle.std.specs.Prelude.{◌≡◌, ℤ, pos, ◌+ℤ◌, ◌^◌, Option, 
 use Rattle.std.specs.Int.{int_min}
 use Rattle.lk_base.specs.Ranges.{IsMoment}
 
--- where the pace tells how late it is, the moment is answered so late, and no later than the last moment
+-- Rule: A pace that tells its lateness answers the moment asked for plus that, and at most 2^55.
 pub record IsPaced (late : Option ℤ) (moment answer : ℤ) : Type 0 where
   pub range : IsMoment answer
   pub lateness : IfSome late IsMoment

@@ -19,7 +19,7 @@ pub record PortContents : Type 0 where
 
 -- ---- bind
 
--- the gates bound are those given, or as they were
+-- Rule: A bind that succeeds replaces the gates bound before, and a bind that fails keeps them.
 abbrev pub Binds : List Endpoint → List Endpoint → List Endpoint → Bound → Type 0
 Binds before after gates bound.Ready = after ≡ gates
 Binds before after gates bound.Failed = after ≡ before

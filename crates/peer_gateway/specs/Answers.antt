@@ -21,10 +21,11 @@ had_row gate id life = list_any (is_row_of gate id) (rows_of life)
 abbrev pub is_on : Gate → PeerRow → Bool
 is_on gate row = row.gate.0 == gate.0
 
--- a gate has room for 128 rows
+-- Rule: A gate is full at 128 rows of peers; a sighting on a full gate that has no row of the peer changes nothing.
 abbrev pub is_full_on : Gate → List Happening → Bool
 is_full_on gate life = nat_le 128 (length (filter (is_on gate) (rows_of life)))
 
+-- Rule: A sighting is answered known where the peer has a row on that gate, else full where the gate is full, else new.
 unfoldable pub seen_of : Gate → NodeId → List Happening → Seen
 seen_of gate id life = if had_row gate id life then Known else if is_full_on gate life then TableFull else New
 
@@ -47,7 +48,7 @@ least_limit_of life = least_in (map (λ row. row.limit) (rows_of life))
 abbrev pub is_in : NodeId → PeerRow → Bool
 is_in session row = same_id row.session session
 
--- how many different ids have a row in the session
+-- Rule: The peers of a session are the ids with a row in it, each counted once on whatever gates it is.
 unfoldable pub peers_in : NodeId → List Happening → ℕ
 peers_in session life = distinct_count same_id (map (λ row. row.id) (filter (is_in session) (rows_of life)))
 
@@ -74,7 +75,8 @@ founder_in session life = filter (λ row. same_id row.id session) (answering_in 
 abbrev pub target_at : PeerRow → Option Target
 target_at row = option_map (λ endpoint. record { gate = row.gate; id = row.id; endpoint = endpoint }) row.endpoint
 
--- the first of the founder's rows that answer, and else the first that answers
+-- Rule: A session is measured at its founder, the peer whose id is the session's, else at the first peer, by id and gate, that tells an
+-- endpoint.
 unfoldable pub target_of : NodeId → List Happening → Option Target
 target_of session life =
     option_and_then target_at

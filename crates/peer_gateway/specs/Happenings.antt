@@ -16,7 +16,7 @@ pub data Happening : Type 0 where
   goodbye : (gate : Gate) → (id : NodeId) → Happening
   pruning : (moment : ℤ) → Happening
 
--- the peer is seen anew or says goodbye on that gate, or the limit is at or before the moment
+-- Rule: A peer's row ends when the peer is seen anew or says goodbye on that gate, or when rows are pruned at or after its limit.
 abbrev pub Ends : Happening → PeerRow → Type 0
 Ends (sighting next) row = (next.gate ≡ row.gate) × (next.id ≡ row.id)
 Ends (goodbye gate id) row = (gate ≡ row.gate) × (id ≡ row.id)
@@ -42,6 +42,7 @@ outlives row (sighting next) = not (is_row_of next.gate next.id row)
 outlives row (goodbye gate id) = not (is_row_of gate id row)
 outlives row (pruning moment) = lives moment row
 
+-- Rule: The table of peers has one row a gate and id, that of the last sighting that nothing has ended.
 -- in order of their sightings
 unfoldable pub rows_of : List Happening → List PeerRow
 rows_of [] = []
@@ -56,7 +57,8 @@ Has (x ∷ xs) row = (x ≡ row) ⊎ Has xs row
 
 -- ---- what the calls make happen
 
--- it ends a second after its time to live
+-- Rule: The limit of a peer's row is a second after its time to live: (ttl + 1) * 1,000,000 microseconds after it was heard, usually 6
+-- seconds.
 abbrev pub row_seen : Gate → NodeId → ℕ → NodeId → Option Endpoint → ℤ → PeerRow
 row_seen gate id ttl session endpoint now =
     record { gate = gate; id = id; session = session; endpoint = endpoint; limit = now +ℤ pos ((ttl + 1) * 1_000_000) }

@@ -25,7 +25,8 @@ IsFair c r (counted pong at) = IsFairPong c r pong at
 IsFair c r (silent at) = Unit {0}
 IsFair c r (strayed session) = Unit {0}
 
--- each pong counted was honest
+-- Rule: Where each pong counted is honest and its round trip takes at most r, the measured offset is within half of r + 1 microseconds of
+-- the true one, unless that is clipped.
 abbrev pub AreFair : ℤ → ℤ → Life → Type 0
 AreFair c r life = AllByRecursion (IsFair c r) life.happened
 

@@ -20,6 +20,7 @@ pub record Life : Type 0 where
   pub begun : ℤ
   pub happened : List Happened
 
+-- Rule: A measurement of a session begins with a ping to its target, which carries the host time alone.
 abbrev pub opening : Target → NodeId → ℤ → Life
 opening target session now = record { target = target; session = session; begun = now; happened = [] }
 
@@ -45,23 +46,25 @@ last_of begun (counted pong at ∷ later) = last_of at later
 last_of begun (silent at ∷ later) = last_of at later
 last_of begun (strayed session ∷ later) = last_of begun later
 
--- 50,000 microseconds after the last ping
+-- Rule: The deadline of a measurement is 50,000 microseconds after its last ping.
 unfoldable pub deadline_of : Life → ℤ
 deadline_of life = last_of life.begun (answered_in life) +ℤ pos 50_000
 
 -- ---- a pong
 
+-- Rule: A pong that comes from another gate or endpoint than the target's is passed over.
 abbrev pub is_from : Target → Gate → Endpoint → Bool
 is_from target gate from =
     (gate.0 == target.gate.0) && (from.addr == target.endpoint.addr) && (from.port == target.endpoint.port)
 
--- the answer to a pong that counts: the offset, where there are more than 100 points with it, else a further ping
+-- Rule: A pong that counts is answered with a further ping, until there are more than 100 points; then the measurement is done.
 abbrev pub counted_outcome : Life → PongFields → ℤ → Outcome
 counted_outcome life pong now =
     let points = points_of life.happened ++ points_in pong now in
     if nat_lt 100 (length points) then Done (record { offset = offset_of points })
     else Again (record { host = now; previous = Some pong.ghost_time })
 
+-- Rule: A pong of another session ends the measurement, which has failed.
 unfoldable pub pong_outcome : Life → Gate → Endpoint → PongFields → ℤ → Outcome
 pong_outcome life gate from pong now =
     if is_over life || not (is_from life.target gate from) then Idle
@@ -78,10 +81,12 @@ pong_after life gate from pong now =
 
 -- ---- a tick
 
+-- Rule: A silence is a tick at or after the deadline; a tick before the deadline changes nothing.
 -- over, or before the deadline
 abbrev pub is_early : Life → ℤ → Bool
 is_early life now = is_over life || int_lt now (deadline_of life)
 
+-- Rule: Each of the first five silences is answered with a further ping, and the sixth ends the measurement, which has failed.
 unfoldable pub tick_outcome : Life → ℤ → Outcome
 tick_outcome life now =
     if is_early life now then Idle

@@ -26,6 +26,7 @@ is_stray (counted pong at) = false
 is_stray (silent at) = false
 is_stray (strayed session) = true
 
+-- Rule: A pong that came at h with the ghost time g to a ping of host time p gives the point 2g - (h + p), in half microseconds.
 -- Twice the offset, in half microseconds, as if the pong was sent half way between ping and arrival: 2g - (h + p) of
 -- the ghost time g, the arrival h and the ping's host time p.
 abbrev pub point_of : PongFields → ℤ → ℤ
@@ -38,7 +39,8 @@ point_before_of pong = pong.ghost_time +ℤ pong.previous -ℤ (pong.host +ℤ p
 abbrev pub is_zero : ℤ → Bool
 is_zero z = int_eq z (pos 0)
 
--- A pong gives none without a ghost time or a host time, one without the ghost time before, and else two.
+-- Rule: A pong gives no point without a ghost time or a host time, one without the ghost time v of the pong before, and else a second one,
+-- (g + v) - 2p.
 unfoldable pub points_in : PongFields → ℤ → List ℤ
 points_in pong at =
     if is_zero pong.ghost_time || is_zero pong.host then []

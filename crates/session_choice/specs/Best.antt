@@ -7,6 +7,7 @@ use Rattle.lk_base.specs.declared.timeline.Timeline.{Timeline}
 abbrev pub is_greatest_in : List Timeline → Timeline → Bool
 is_greatest_in list tl = list_all (λ other. int_le other.beat tl.beat) list
 
+-- Rule: Of the timelines that a session has taken the one of greatest beat origin counts, of equal ones the first.
 -- the first of these, of a list that isn't empty
 unfoldable pub best_of : Timeline → List Timeline → Timeline
 best_of first later = unwrap_or (find (is_greatest_in (first ∷ later)) (first ∷ later)) first

@@ -52,6 +52,8 @@ known_in session h = if is_current session h then Some h.current else other_in s
 
 -- ---- a timeline that was seen
 
+-- Rule: A timeline seen in a known session counts there from then on exactly where its beat origin is greater than that of the one that
+-- counted.
 -- the answer for a session that is known, and for one that isn't
 abbrev pub saw_known : Taking → Timeline → Saw
 saw_known taking timeline = if int_lt (best_in taking).beat timeline.beat then Taken else Kept
@@ -60,6 +62,7 @@ abbrev pub saw_by : Option Taking → History → Timeline → Saw
 saw_by (Some taking) h timeline = saw_known taking timeline
 saw_by None h timeline = if nat_lt (length h.others) 64 then New else Full
 
+-- Rule: At most 64 sessions are known beside the current one, and a further one is refused as full.
 unfoldable pub saw_of : History → NodeId → Timeline → Saw
 saw_of h session timeline = saw_by (known_in session h) h timeline
 
@@ -81,11 +84,12 @@ verdict_by (Some other) h offset now =
     if wins_over other.session offset h.current.session h.offset now then Joined else Stayed
 verdict_by None h offset now = Unknown
 
+-- Rule: A measured offset is the current session's new offset, or joins a session that wins; otherwise it changes nothing.
 unfoldable pub measured_of : History → NodeId → ℤ → ℤ → Verdict
 measured_of h session offset now =
     if is_current session h then Remeasured else verdict_by (other_in session h) h offset now
 
--- the joined session is the current one, and the old one takes its place among the others
+-- Rule: A session that wins becomes the current one, and the session that was left stays known in its place.
 abbrev pub joined : Taking → ℤ → History → History
 joined other offset h =
     record { current = other; offset = offset; others = updated_by session_of other.session (λ _. h.current) h.others }
@@ -101,6 +105,7 @@ measured_after h session offset now =
 
 -- ---- the other calls
 
+-- Rule: A session that is forgotten leaves the list of others; the current session can't be forgotten.
 abbrev pub forgotten : NodeId → History → History
 forgotten session h = record h { others = without_by session_of session h.others }
 

@@ -8,7 +8,8 @@ use Rattle.lk_base.specs.declared.ids.NodeId.{NodeId}
 unfoldable pub lead_of : ℤ → ℤ → ℤ → ℤ
 lead_of offset other now = ghost_of offset now -ℤ ghost_of other now
 
--- more than half a second ahead, or less than half a second apart and first by its id
+-- Rule: A session wins whose ghost time is over 500,000 microseconds ahead; closer than that the lesser id wins; at just half a second and
+-- behind, the current session stays.
 abbrev pub Wins : NodeId → ℤ → NodeId → ℤ → ℤ → Type 0
 Wins new offset current other now =
     (pos 500_000 <ℤ lead_of offset other now)

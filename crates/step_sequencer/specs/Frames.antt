@@ -1,6 +1,7 @@
 -- Frames of audio: 48,000 a second, counted from an origin.
 use Rattle.std.specs.Prelude.{ℕ, ◌+◌, ◌*◌, ◌/◌, ℤ, pos, ◌+ℤ◌, ◌-ℤ◌}
 
+-- Rule: A frame begins at a whole microsecond, rounded down, 48,000 frames a second.
 -- the microsecond at which a frame begins, rounded down: a frame lasts 125/6 of them
 unfoldable pub frame_time : ℤ → ℕ → ℤ
 frame_time origin frame = origin +ℤ pos (frame * 125 / 6)

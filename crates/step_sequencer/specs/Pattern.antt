@@ -29,6 +29,7 @@ snare_name = codes "snare"
 abbrev pub hat_name : List ℕ
 hat_name = codes "hat"
 
+-- Rule: A pattern is three lines, `kick`, `snare` and `hat`, each with 16 marks, `x` for a stroke and `.` for none.
 -- three rows
 unfoldable pub spelled_of : Pattern → List ℕ
 spelled_of pattern = row_of kick_name pattern.kick ++ row_of snare_name pattern.snare ++ row_of hat_name pattern.hat
@@ -65,6 +66,7 @@ IsFaultAt text (suc (suc (suc (suc (suc n))))) = ⊥
 unfoldable pub place_of : ℤ → ℕ
 place_of step = unsigned_abs (int_rem_euclid step (pos 16))
 
+-- Rule: The strokes of a step are those at its place in the pattern, which begins again after 16 steps.
 unfoldable pub strokes_at : Pattern → ℤ → Strokes
 strokes_at pattern step =
     record { kick = slice_index_or pattern.kick (place_of step) false; snare = slice_index_or pattern.snare (place_of step) false; hat = slice_index_or pattern.hat (place_of step) false }

@@ -12,6 +12,7 @@ pub record IsStep (tl : Timeline) (time n : ℤ) : Type 0 where
   pub low : (n *ℤ pos 250_000) ≤ℤ since tl time
   pub high : since tl time <ℤ ((n +ℤ pos 1) *ℤ pos 250_000)
 
+-- Rule: A step of the sequencer is a quarter of a beat, counted from the beat origin.
 -- the same as a number
 unfoldable pub step_at : Timeline → ℤ → ℤ
 step_at tl time = int_div_euclid (since tl time) (pos 250_000)
@@ -20,6 +21,7 @@ step_at tl time = int_div_euclid (since tl time) (pos 250_000)
 unfoldable pub plays_at : State → ℤ → Bool
 plays_at state time = state.start.playing && int_le state.start.time time
 
+-- Rule: A step begins in a frame where it is passed within that frame and the state plays.
 -- the step that begins in a frame of a state that plays: it is there at the frame's end, and wasn't before the frame
 unfoldable pub step_in : State → ℤ → ℕ → Option ℤ
 step_in state origin frame =

@@ -10,6 +10,7 @@ use Rattle.timeline_math.specs.Quantum.{phase_of}
 unfoldable pub since : Timeline → ℤ → ℤ
 since tl time = beat_at tl time -ℤ tl.beat
 
+-- Rule: A click stands at each microsecond at which a whole beat, counted from the beat origin, is passed.
 -- a time clicks where the phase within a beat is less than it was a microsecond before
 unfoldable pub clicks_at : Timeline → ℤ → Bool
 clicks_at tl time =
@@ -17,7 +18,7 @@ clicks_at tl time =
     (phase_of (since tl time) (pos 1_000_000))
     (phase_of (since tl (time -ℤ pos 1)) (pos 1_000_000))
 
--- a time is accented in the first beat of the quantum
+-- Rule: A click is accented in the first beat of the quantum, and always where the quantum is 0.
 unfoldable pub is_accented : Timeline → ℤ → ℤ → Bool
 is_accented tl q time = int_lt (phase_of (since tl time) q) (pos 1_000_000)
 
@@ -32,7 +33,7 @@ clicks_from tl q time (suc n) =
     if clicks_at tl time then click_at tl q time ∷ clicks_from tl q (time +ℤ pos 1) n
     else clicks_from tl q (time +ℤ pos 1) n
 
--- the clicks of a block
+-- Rule: The clicks of a block are those from its start up to but not its end, in order of time.
 abbrev pub clicks_of : Timeline → Block → ℤ → List Click
 clicks_of tl block q = clicks_from tl q block.start (unsigned_abs block.length)
 

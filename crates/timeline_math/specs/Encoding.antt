@@ -5,7 +5,8 @@ use Rattle.lk_base.specs.declared.timeline.Timeline.{Timeline}
 use Rattle.timeline_math.specs.Beats.{beat_at, time_at}
 use Rattle.timeline_math.specs.Quantum.{phase_of, closest_match_of}
 
--- the match closest to the beat at a time, of how far that beat is past the origin
+-- Rule: The encoded beat, which clients see, is the match closest to the beat at a time with the phase of how far that beat is past the
+-- beat origin.
 unfoldable pub encoded_beat : Timeline → ℤ → ℤ → ℤ
 encoded_beat tl time q =
     let beat = beat_at tl time in

@@ -9,7 +9,7 @@ pub record IsPhase (x q p : ℤ) : Type 0 where
   pub within : pos 0 <ℤ q → (pos 0 ≤ℤ p) × (p <ℤ q)
   pub divides : pos 0 <ℤ q → (k : ℤ) × (x ≡ k *ℤ q +ℤ p)
 
--- the phase of x
+-- Rule: The phase of a beat is how far it is past the last multiple of the quantum, for beats below 0 too; with the quantum 0 it is 0.
 unfoldable pub phase_of : ℤ → ℤ → ℤ
 phase_of x (pos zero) = pos 0
 phase_of x (pos (suc q)) = int_rem_euclid x (pos (suc q))
@@ -22,10 +22,10 @@ pub record IsNextMatch (x y q z : ℤ) : Type 0 where
   pub phase : phase_of z q ≡ phase_of y q
   pub least : pos 0 <ℤ q → (w : ℤ) → x ≤ℤ w → phase_of w q ≡ phase_of y q → z ≤ℤ w
 
--- the next match of x
+-- Rule: The next match of a beat is the least beat at or above it that has the phase of the target.
 unfoldable pub next_match_of : ℤ → ℤ → ℤ → ℤ
 next_match_of x y q = x +ℤ phase_of (y -ℤ x) q
 
--- the next match from half of q, rounded up, before x
+-- Rule: The closest match of a beat is the next match of the beat half a quantum, rounded up, before it.
 unfoldable pub closest_match_of : ℤ → ℤ → ℤ → ℤ
 closest_match_of x y q = next_match_of (x -ℤ nearest_of q (pos 2)) y q

@@ -4,7 +4,7 @@ use Rattle.std.specs.Int.{int_max, int_min}
 use Rattle.lk_base.specs.Rounding.{clipped_of}
 use Rattle.lk_base.specs.declared.timeline.Timeline.{Timeline}
 
--- a tempo kept between 999 and 20 beats per minute
+-- Rule: A tempo is clamped to 60,060 to 3,000,000 microseconds per beat, which is 999 to 20 beats per minute.
 abbrev pub clamped_of : ℤ → ℤ
 clamped_of mpb = int_max (pos 60_060) (int_min mpb (pos 3_000_000))
 

@@ -28,6 +28,7 @@ pub record HoldsMade (width : ℕ) (words : List ℕ) (made : List (List ℕ)) (
   pub is_whole : length row ≡ width
   pub begins : Begins width words place row
 
+-- Rule: Of the three rows of a triple buffer one is the writer's, one the reader's and one is handed over.
 -- the three are 0, 1 and 2 in some order
 pub record AreApart (writer back reader : ℕ) : Type 0 where
   pub writer_fits : writer < 3
@@ -37,7 +38,7 @@ pub record AreApart (writer back reader : ℕ) : Type 0 where
   pub writer_from_reader : writer ≢ reader
   pub back_from_reader : back ≢ reader
 
--- where the back row is new to the reader it is the last made, and else the reader's row is
+-- Rule: The row handed over is the row made last, unless the reader has that one already.
 pub record KnowsNewest (count state number : ℕ) : Type 0 where
   pub fresh : fresh_in state ≡ 1 → (number_in state + 1 ≡ count) × (number < number_in state)
   pub stale : fresh_in state ≡ 0 → (number + 1 ≡ count) × ((number_in state < number) ⊎ ((number_in state ≡ 0) × (number ≡ 0)))
