@@ -69,9 +69,11 @@ life_after TableFull row life = life
 life_after New row life = life ++ sighting row ∷ []
 life_after Known row life = life ++ sighting row ∷ []
 
+-- Rule: A goodbye ends the peer's row on that gate alone.
 abbrev pub said_goodbye : Gate → NodeId → List Happening → List Happening
 said_goodbye gate id life = life ++ goodbye gate id ∷ []
 
+-- Rule: Pruning ends each peer's row whose limit is at or before the moment.
 abbrev pub was_pruned : ℤ → List Happening → List Happening
 was_pruned moment life = life ++ pruning moment ∷ []
 
