@@ -24,6 +24,7 @@ impl Source for Endless {
     }
 }
 
+// rule: IfNothingWritten, replay_command, decode_command
 #[test]
 fn an_input_over_the_limit_writes_nothing(rt: HostRuntime) -> Result<(), Fail> {
     assert!(rt; writes_nothing(&rt, rt.alloc())?);
@@ -192,6 +193,7 @@ fn texts_tried(tried: Tried) -> (&'static str, &'static str, &'static str) {
     }
 }
 
+// rule: WritesPart, IfNothingWritten
 #[test]
 fn a_call_that_fails_leaves_the_front_of_the_output(rt: HostRuntime) -> Result<(), Fail> {
     for case in CASES {

@@ -340,6 +340,50 @@ const ROWS: &str = "\
     ||\
     ";
 
+// rule: response_to in an alive is answered
+// rule: IsReadAs in datagrams shorter than their heads, and one of neither kind
+// rule: IsReadAs in a datagram of 513 bytes
+// rule: state_answer_of in an entry that is unknown changes nothing
+// rule: last_value_of in of two timelines the last one counts
+// rule: IsCutAt in a timeline of 25 bytes, and one that passes the end
+// rule: Fields.answer_of in a timeline of 25 bytes, and one that passes the end
+// rule: no_start in a state with no start and no endpoint, one with no session, and a tempo of 0
+// rule: missing_fault_of in a state with no start and no endpoint, one with no session, and a tempo of 0
+// rule: mpb_fault_of in a state with no start and no endpoint, one with no session, and a tempo of 0
+// rule: limit_fault_of in a beat origin of 2^60 and 1
+// rule: IsDiscoveryReadAs in each kind of datagram
+// rule: IsLinkReadAs in each kind of datagram
+// rule: message_words_of in each kind of datagram
+// rule: IsDecodable in an odd number of digits in the last line
+// rule: is_late in a filter tells the nearest line, and refuses a late pair and a far one
+// rule: is_far in a filter tells the nearest line, and refuses a late pair and a far one
+// rule: IsFiltered in a filter tells the nearest line, and refuses a late pair and a far one
+// rule: IsPairText in an empty line is no pair
+// rule: is_heard in its own id, another group, another kind
+// rule: is_heard in a node in the group 1 hears that group alone, and answers in it
+// rule: IsPassedOver in its own id, another group, another kind
+// rule: pongs_to in a payload of 32 bytes is sent back
+// rule: pongs_to in a payload of 33 bytes is not
+// rule: at_moment in a clock that goes back: the broadcast of its later moment isn't due again
+// rule: quantum_committed in a commit of a quantum
+// rule: alives_in in a tick broadcasts
+// rule: byes_in in an end says goodbye, and what comes after it is answered as before
+// rule: replay_text_of in no event
+// rule: IsVersion in version 1 says none
+// rule: IsConfig in a quantum beyond 2^40
+// rule: IsFirstFault in a fifth gate
+// rule: IsCutShort in no script
+// rule: IsLiveScript in a live script with no setup
+// rule: pulses_at in 24 clocks a beat, in one block
+// rule: opening_at in a start at once
+// rule: begins_at in a start that waits for the first sixteenth from its time on, and tells which that is
+// rule: position_of in a start that waits for the first sixteenth from its time on, and tells which that is
+// rule: midi_text_of in the same in two blocks that adjoin
+// rule: NamesMidi in a block of no length
+// rule: NamesLoad in too many events to load
+// rule: live_app in too many blocks
+// rule: Names in a word too many
+// rule: EndsUnnamed in no word
 #[test]
 fn each_worked_run_gives_its_output(rt: HostRuntime) -> Result<(), Fail> {
     expect_all(&rt, rt.alloc(), ROWS)?;

@@ -274,6 +274,7 @@ fn thread_both_cells<R: Threads + Wait + Sync + Abort>(rt: &R, alloc: Global) {
     thread_new_link::<SeqState<R, 11>, R>(rt, alloc, rt);
 }
 
+// rule: HasCaptured
 #[test]
 fn a_full_queue_hands_the_commit_back_until_a_turn_takes_one(rt: HostRuntime) {
     try_both_cells(&rt, rt.alloc(), QUEUE);
@@ -284,6 +285,7 @@ fn seventy_thousand_commits_are_numbered_and_taken(rt: HostRuntime) {
     try_new_link::<Triple<11>, HostRuntime>(&rt, rt.alloc(), &(), MANY);
 }
 
+// rule: HasTurned, read_events, IsOffered, HasEnded, app_commits_in, HasCaptured, HasCommitted, IsKept, HasReadAudio
 #[test]
 fn steps_in_any_order_answer_as_worked_by_hand(rt: HostRuntime) {
     for run in RUNS {
@@ -296,6 +298,7 @@ fn steps_in_any_order_answer_as_worked_by_hand(rt: HostRuntime) {
     }
 }
 
+// rule: app_commits_in, HasCaptured, HasCommitted, HasReadAudio, ArePublished, IsScriptPart, IsAudioPart
 #[test]
 fn four_threads_see_published_states_and_lose_no_commit(rt: HostRuntime) {
     thread_both_cells(&rt, rt.alloc());

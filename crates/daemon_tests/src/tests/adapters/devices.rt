@@ -62,6 +62,7 @@ const MOMENTS: &[(u64, i64)] = &[
     (36_028_797_018_963_974, 36_028_797_018_963_968),
 ];
 
+// rule: moment_at
 #[test]
 fn a_moment_counts_whole_microseconds_up_to_the_last(rt: HostRuntime) -> Result<(), Fail> {
     let micros = Cell::new(5);
@@ -154,6 +155,7 @@ fn sleep_by<R: Clock + Wait>(clock: &HostClock, rt: &R, moment: u32) -> i64 {
     clock.sleep_until(rt, i64::from(moment)).unwrap_or(-1)
 }
 
+// rule: IsInTurn
 #[test]
 fn blocks_of_20_milliseconds_follow_on_each_other(rt: HostRuntime) -> Result<(), Fail> {
     let micros = Cell::new(100);
@@ -180,6 +182,7 @@ fn gives_three<A: Audio>(audio: &mut A, micros: &Cell<u64>) -> bool {
     true
 }
 
+// rule: IsInTurn
 #[test]
 fn no_block_ends_after_the_last_moment(rt: HostRuntime) -> Result<(), Fail> {
     let micros = Cell::new(0);
@@ -227,6 +230,7 @@ const PLAYS: &[(&[&[(i64, bool)]], usize, &[u8])] = &[
     ),
 ];
 
+// rule: click_line_of
 #[test]
 fn each_click_is_told_in_a_line(rt: HostRuntime) -> Result<(), Fail> {
     let clock = HostClock::started(&rt)?;

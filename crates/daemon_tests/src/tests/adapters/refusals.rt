@@ -86,6 +86,7 @@ fn to_text(alloc: Global, error: io::Error) -> Result<String, AllocError> {
     format!(in alloc; "{error}")
 }
 
+// rule: posted_at
 #[test]
 fn an_error_of_one_datagram_is_no_fault(rt: HostRuntime) -> Result<(), Fail> {
     for number in OF_ONE {
@@ -117,6 +118,7 @@ fn waited_by(number: i32) -> bool {
     waited_of(Err(io::Error::from_raw_os_error(number))).is_ok()
 }
 
+// rule: IsTakenAt
 #[test]
 fn a_report_of_another_datagram_is_passed_over(rt: HostRuntime) -> Result<(), Fail> {
     for (number, letter) in RECEIVES {

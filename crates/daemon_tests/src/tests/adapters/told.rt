@@ -45,6 +45,7 @@ const REFUSALS: &[(u32, u32, i32, &str)] = &[
     ),
 ];
 
+// rule: rows_after
 #[test]
 fn what_the_system_refused_is_told_by_destination(rt: HostRuntime) -> Result<(), Fail> {
     for (count, ends, number, told) in REFUSALS {
@@ -54,6 +55,7 @@ fn what_the_system_refused_is_told_by_destination(rt: HostRuntime) -> Result<(),
     Ok(())
 }
 
+// rule: rows_after
 #[test]
 fn destinations_behind_the_32nd_are_told_together(rt: HostRuntime) -> Result<(), Fail> {
     let text = refusals_told(rt.alloc(), 70, 35, 1)?;

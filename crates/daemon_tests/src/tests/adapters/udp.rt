@@ -213,6 +213,7 @@ const SCRIPTS: &[(&str, &[Step])] = &[
     ),
 ];
 
+// rule: IsInBuffer, posted_at
 #[test]
 fn two_ports_go_by_each_script(rt: HostRuntime) -> Result<(), Fail> {
     for (shown, steps) in SCRIPTS {

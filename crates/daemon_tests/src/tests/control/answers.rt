@@ -20,6 +20,7 @@ const ANSWERS: &[u8] = b"status 500000 0 0 0 0\nok 1\nbeat 4000000\nbad\n";
 const SUMMARY: &[u8] =
     b"# live 3 2 0 4 1 0 0 0\n# state 1 250000 0 0 0 0 0 1 0 0 1 0 2d6b653a343a2e60 4000000\n";
 
+// rule: HasServed, control_app, EndsNamed, controlled_config_from, HasEndedControl
 #[test]
 fn a_client_is_answered_line_by_line(rt: HostRuntime) -> Result<(), Fail> {
     assert!(rt; is_answered(&rt, rt.alloc(), 4096)?);

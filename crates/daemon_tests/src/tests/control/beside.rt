@@ -57,6 +57,7 @@ impl<'a> Talk for Patient<'a> {
     }
 }
 
+// rule: control_app, controlled_config_from
 #[test]
 fn a_client_is_served_while_the_network_goes_on(rt: HostRuntime) -> Result<(), Fail> {
     let served = is_served(&rt, rt.alloc())?;

@@ -469,6 +469,7 @@ const NOTHING: Cause = Cause {
     leaves: [1, 1, 1, 3, 3, 1, 1, 6],
 };
 
+// rule: commands_told, status_number_of, IfNothingWritten, ReadsTooMany, status_from
 #[test]
 fn a_call_that_fails_is_told_by_its_status(rt: HostRuntime) -> Result<(), Fail> {
     for cause in CAUSES {
@@ -477,6 +478,7 @@ fn a_call_that_fails_is_told_by_its_status(rt: HostRuntime) -> Result<(), Fail> 
     Ok(())
 }
 
+// rule: LiveRun.first_of, status_from
 #[test]
 fn of_two_failures_the_first_in_the_order_is_told(rt: HostRuntime) -> Result<(), Fail> {
     let mut later = ORDER;

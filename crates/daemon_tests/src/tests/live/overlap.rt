@@ -189,6 +189,7 @@ impl<'a> Pace for Lines<'a> {
     }
 }
 
+// rule: HasReadAudio
 #[test]
 fn the_loops_overlap(rt: HostRuntime) -> Result<(), Fail> {
     let overlap = overlap(&rt, rt.alloc())?;

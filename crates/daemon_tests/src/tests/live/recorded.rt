@@ -75,6 +75,7 @@ fn sum_of(one: &Amounts, other: &Amounts) -> Amounts {
     }
 }
 
+// rule: WerePublished, written_script_of, IsRecorded, WasSent, config_from, IsReplayable
 #[test]
 fn a_record_is_replayed_to_what_the_run_told(rt: HostRuntime) -> Result<(), Fail> {
     let mut random = Lcg64Xsh32::new(1, 2);

@@ -65,6 +65,7 @@ const CASES: &[Case] = &[
     },
 ];
 
+// rule: IsRecorded, flag_rule, config_from, live_line_of, live_text_of, EndsNamed
 #[test]
 fn a_run_tells_how_much_there_was_and_its_last_state(rt: HostRuntime) -> Result<(), Fail> {
     for case in CASES {
@@ -159,6 +160,7 @@ fn events_told(events: &[Event]) -> &'static [u8] {
     }
 }
 
+// rule: capture_of
 #[test]
 fn a_look_is_shown_what_was_committed_before(rt: HostRuntime) -> Result<(), Fail> {
     let shown = looks_last(&rt, rt.alloc())?;

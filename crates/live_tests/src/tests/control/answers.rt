@@ -105,6 +105,7 @@ fn line_feeds_in(bytes: &[u8]) -> usize {
     count
 }
 
+// rule: whole_lines_of, HasServed, captured_over, status_text_of, ok_text_of, Answers.answer_of, bad_text, EndsServing
 #[test]
 fn each_line_is_answered_however_the_bytes_come(rt: HostRuntime) {
     for &(sent, answers) in ROWS {
@@ -113,6 +114,7 @@ fn each_line_is_answered_however_the_bytes_come(rt: HostRuntime) {
     }
 }
 
+// rule: status_text_of, Answers.answer_of
 #[test]
 fn a_client_is_told_what_the_node_heard(rt: HostRuntime) {
     let given = Given {
@@ -140,6 +142,7 @@ fn long_line(length: usize) -> ArrayVec<u8, 700> {
     text
 }
 
+// rule: AreControlLines, HasServed, bad_text
 #[test]
 fn a_long_line_is_bad_and_the_next_one_is_read(rt: HostRuntime) {
     for &(length, answers) in LENGTHS {
@@ -162,6 +165,7 @@ fn repeated(rt: &impl Abort, alloc: Global, line: &[u8], times: u16, behind: &[u
     text
 }
 
+// rule: HasServed, EndsServing
 #[test]
 fn no_line_behind_4096_is_answered(rt: HostRuntime) {
     for &(times, behind, end, count) in COUNTS {

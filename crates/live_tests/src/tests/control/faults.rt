@@ -67,6 +67,7 @@ fn is_front(session: &Session, wanted: (Served, usize, usize)) -> bool {
     found == wanted && ANSWERS.starts_with(written)
 }
 
+// rule: EndsServing
 #[test]
 fn what_is_written_before_a_fault_is_the_front_of_the_answers(rt: HostRuntime) {
     for &(failing, room, end, written, lines) in ROWS {

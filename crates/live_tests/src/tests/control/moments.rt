@@ -72,6 +72,7 @@ fn expect_row<R: Wait + Abort>(rt: &R, alloc: Global, late: i64, moments: &[i64;
     expect_log(rt, late, &session.log.lines, moments);
 }
 
+// rule: act_asked
 #[test]
 fn each_line_is_answered_as_late_as_the_pace_is(rt: HostRuntime) {
     for &(late, moments) in ROWS {

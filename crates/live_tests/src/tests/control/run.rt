@@ -155,6 +155,7 @@ const ROWS: &[Row] = &[
     },
 ];
 
+// rule: captured_over, act_asked, IsTalked, IsClientPart, ControlRun.first_of, IsControlRun
 #[test]
 fn two_threads_run_over_a_link(rt: HostRuntime) {
     for row in ROWS {
@@ -181,6 +182,7 @@ fn expect_told(rt: &impl Abort, run: &ControlRun, answers: &[u8], lines: usize, 
 // As many commits as lines are answered: the queue of a link holds a sixteenth of them.
 const COMMITS: u64 = 4_096;
 
+// rule: ok_text_of, IsClientPart
 #[test]
 fn a_commit_waits_for_room_in_the_queue(rt: HostRuntime) {
     let (sent, answers) = many_lines(&rt, rt.alloc());

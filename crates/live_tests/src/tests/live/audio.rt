@@ -29,6 +29,7 @@ use std::sync::Wait;
 use told::tell;
 use triple_buffer::Triple;
 
+// rule: clicks_of_blocks, block_commits
 #[test]
 fn each_block_is_played_by_one_state_and_its_commits_follow(rt: HostRuntime) {
     for row in ROWS {

@@ -142,6 +142,7 @@ const ROWS: &[Row] = &[
     },
 ];
 
+// rule: IsJournal, IsAudioPart
 #[test]
 fn three_threads_run_over_a_link(rt: HostRuntime) {
     for row in ROWS {

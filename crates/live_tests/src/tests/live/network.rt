@@ -19,21 +19,25 @@ use std::process::Abort;
 use std::sync::Wait;
 use told::Told;
 
+// rule: owes_tick
 #[test]
 fn the_first_turn_takes_a_tick(rt: HostRuntime) {
     expect_runs(&rt, rt.alloc(), rows::OPENINGS);
 }
 
+// rule: AreHeard
 #[test]
 fn a_tick_is_taken_where_it_is_due(rt: HostRuntime) {
     expect_runs(&rt, rt.alloc(), rows::WAITS);
 }
 
+// rule: AreHeard
 #[test]
 fn a_datagram_carries_the_clock(rt: HostRuntime) {
     expect_runs(&rt, rt.alloc(), rows::DATAGRAMS);
 }
 
+// rule: EndsRow
 #[test]
 fn each_gate_answers_its_own(rt: HostRuntime) {
     expect_runs(&rt, rt.alloc(), rows::GATES);
@@ -44,16 +48,19 @@ fn what_is_answered_goes_out_at_once(rt: HostRuntime) {
     expect_runs(&rt, rt.alloc(), rows::ANSWERS);
 }
 
+// rule: HasTurned
 #[test]
 fn a_commit_stands_first_in_its_turn(rt: HostRuntime) {
     expect_runs(&rt, rt.alloc(), rows::COMMITS);
 }
 
+// rule: HasCause
 #[test]
 fn after_a_failed_receive_the_port_is_not_called(rt: HostRuntime) {
     expect_runs(&rt, rt.alloc(), rows::RECEIVES);
 }
 
+// rule: HasCause, ArePostedBefore
 #[test]
 fn after_a_failed_send_the_port_is_not_called(rt: HostRuntime) {
     expect_runs(&rt, rt.alloc(), rows::SENDS);
@@ -64,6 +71,7 @@ fn a_full_journal_takes_and_asks_nothing(rt: HostRuntime) {
     expect_runs(&rt, rt.alloc(), rows::JOURNALS);
 }
 
+// rule: HasCause
 #[test]
 fn without_gates_the_port_is_not_called(rt: HostRuntime) {
     expect_runs(&rt, rt.alloc(), rows::UNBOUND);

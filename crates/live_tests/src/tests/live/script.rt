@@ -10,6 +10,7 @@ use std::alloc::Global;
 use std::process::Abort;
 use std::sync::Wait;
 
+// rule: IsKept, commands_commits, capture_of, edited_of, IsScriptPart
 #[test]
 fn a_script_is_taken_in_order(rt: HostRuntime) {
     for row in ROWS {

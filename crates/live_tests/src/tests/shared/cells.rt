@@ -223,6 +223,7 @@ fn run_both<R: Wait + Abort>(rt: &R, alloc: Global, case: &str) {
     run_case::<SeqState<R, 9>>(rt, alloc, rt, case);
 }
 
+// rule: WriterView, IsLast, KnowsNewest
 #[test]
 fn either_cell_answers_as_the_lists_say(rt: HostRuntime) {
     let mut count = 0u64;

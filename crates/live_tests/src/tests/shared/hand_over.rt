@@ -201,6 +201,7 @@ fn check_widths<R: Threads + Wait + Sync + Abort>(rt: &R, alloc: Global) {
     check_threads::<R, 15>(rt, alloc);
 }
 
+// rule: IsOneRead, WereMade, AreApart
 #[test]
 fn rows_that_one_thread_makes_are_read_whole_and_in_order_by_another(rt: HostRuntime) {
     for _ in 0..TIMES {

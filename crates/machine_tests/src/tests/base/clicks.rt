@@ -187,6 +187,7 @@ pub(super) fn expect_found(rt: &impl Abort, start: i64, found: &[Click], wanted:
     }
 }
 
+// rule: clicks_of
 #[test]
 fn a_block_has_the_click_at_its_start_and_not_the_one_at_its_end(rt: HostRuntime) {
     for case in AT_THE_ENDS {
@@ -194,6 +195,7 @@ fn a_block_has_the_click_at_its_start_and_not_the_one_at_its_end(rt: HostRuntime
     }
 }
 
+// rule: clicks_at, is_accented
 #[test]
 fn a_beat_halfway_between_two_microseconds_clicks_away_from_the_origin(rt: HostRuntime) {
     for case in HALFWAY {
@@ -201,6 +203,7 @@ fn a_beat_halfway_between_two_microseconds_clicks_away_from_the_origin(rt: HostR
     }
 }
 
+// rule: is_accented
 #[test]
 fn a_second_of_the_fastest_tempo_has_up_to_17_clicks(rt: HostRuntime) {
     for case in FASTEST {
@@ -208,6 +211,7 @@ fn a_second_of_the_fastest_tempo_has_up_to_17_clicks(rt: HostRuntime) {
     }
 }
 
+// rule: clicks_at
 #[test]
 fn clicks_stand_at_the_limits_of_time_and_none_where_beats_are_clipped(rt: HostRuntime) {
     for case in AT_THE_LIMITS {

@@ -285,6 +285,7 @@ fn expect_shown(
     expect(rt, &taken, &shown(&Own { last }, taken, &old), &wanted);
 }
 
+// rule: played_of, commit_between
 #[test]
 fn a_commit_carries_what_differs_from_the_captured_or_the_shown_state(rt: HostRuntime) {
     for (old, seen, new, timeline, start, quantum) in CARRIED {
@@ -298,6 +299,7 @@ fn a_commit_carries_what_differs_from_the_captured_or_the_shown_state(rt: HostRu
     }
 }
 
+// rule: shown_over
 #[test]
 fn an_own_commit_shows_until_it_is_taken(rt: HostRuntime) {
     for &(number, taken, parts, tl, begins, quantum) in SHOWN {
@@ -307,6 +309,7 @@ fn an_own_commit_shows_until_it_is_taken(rt: HostRuntime) {
     expect_shown(&rt, None, 0, (500_000, 0, 0), (true, -5, 6), 10);
 }
 
+// rule: IsTidy
 #[test]
 fn a_commit_is_tidy_where_each_of_its_numbers_is_in_range(rt: HostRuntime) {
     for &(parts, at, tidy) in TIDY {

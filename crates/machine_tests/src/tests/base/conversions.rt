@@ -149,6 +149,7 @@ fn expect_given(rt: &impl Abort, row: &[i64; 11]) {
     expect(rt, row, &given, &wanted);
 }
 
+// rule: renewed_of, session_from_client_of
 #[test]
 fn an_edited_timeline_wins_over_the_session_unless_its_origin_is_spent(rt: HostRuntime) {
     for row in GIVEN {

@@ -21,6 +21,7 @@ fn a_filter_that_was_reset_begins_anew(rt: HostRuntime) {
     add_all(&rt, &mut filter, HALVES);
 }
 
+// rule: IsFiltered
 #[test]
 fn a_steady_clock_is_told_as_it_is(rt: HostRuntime) {
     let mut filter = HostFilter::new();

@@ -3,6 +3,7 @@
 use crate::tests::expect;
 use lk_base::{IdSource, NodeId};
 
+// rule: drawn_id
 #[test]
 fn a_source_gives_the_ids_of_the_reference_generator(rt: HostRuntime) {
     let mut ids = IdSource::new(1, 0);

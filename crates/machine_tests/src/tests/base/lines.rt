@@ -187,6 +187,7 @@ fn expect_decoded(rt: &impl Abort, row: &[i64; 6]) {
     );
 }
 
+// rule: clamped_of
 #[test]
 fn numbers_outside_their_ranges_are_brought_to_the_nearest_end(rt: HostRuntime) {
     for row in TIDIED {
@@ -194,6 +195,7 @@ fn numbers_outside_their_ranges_are_brought_to_the_nearest_end(rt: HostRuntime) 
     }
 }
 
+// rule: beat_at
 #[test]
 fn beats_stand_where_exact_fractions_put_them(rt: HostRuntime) {
     for row in BEATS {
@@ -201,6 +203,7 @@ fn beats_stand_where_exact_fractions_put_them(rt: HostRuntime) {
     }
 }
 
+// rule: time_at
 #[test]
 fn times_stand_where_exact_fractions_put_them(rt: HostRuntime) {
     for row in TIMES {
@@ -208,6 +211,7 @@ fn times_stand_where_exact_fractions_put_them(rt: HostRuntime) {
     }
 }
 
+// rule: phase_of, next_match_of, closest_match_of
 #[test]
 fn phases_and_matches_are_counted_from_the_multiples_below(rt: HostRuntime) {
     for row in MATCHES {
@@ -215,6 +219,7 @@ fn phases_and_matches_are_counted_from_the_multiples_below(rt: HostRuntime) {
     }
 }
 
+// rule: encoded_beat
 #[test]
 fn an_encoded_beat_has_the_phase_of_its_place_past_the_origin(rt: HostRuntime) {
     for row in ENCODED {

@@ -107,6 +107,7 @@ const MOVED: &[(i64, i128, i64)] = &[
     (-1_152_921_504_606_846_970, -7, -1_152_921_504_606_846_976),
 ];
 
+// rule: nearest_of
 #[test]
 fn quotients_are_rounded_to_the_nearest_and_halves_away_from_0(rt: HostRuntime) {
     for &(n, d, want) in QUOTIENTS {
@@ -115,6 +116,7 @@ fn quotients_are_rounded_to_the_nearest_and_halves_away_from_0(rt: HostRuntime) 
     }
 }
 
+// rule: clipped_of
 #[test]
 fn numbers_are_kept_within_the_limit(rt: HostRuntime) {
     for (n, want) in CLIPPED {
@@ -122,6 +124,7 @@ fn numbers_are_kept_within_the_limit(rt: HostRuntime) {
     }
 }
 
+// rule: IsWithinLimit
 #[test]
 fn the_limit_itself_is_within_it(rt: HostRuntime) {
     for (n, want) in WITHIN {

@@ -69,6 +69,7 @@ const MIDDLES: &[([i64; 5], usize, (i64, i64), [i64; 5])] = &[
     ),
 ];
 
+// rule: offset_of
 #[test]
 fn two_points_give_a_quarter_of_their_sum_rounded_and_clipped(rt: HostRuntime) {
     for row in OFFSETS {
@@ -76,6 +77,7 @@ fn two_points_give_a_quarter_of_their_sum_rounded_and_clipped(rt: HostRuntime) {
     }
 }
 
+// rule: offset_of, lower_middle
 #[test]
 fn the_middle_points_are_found_in_any_order_and_among_equal_ones(rt: HostRuntime) {
     for &(given, length, wanted, sorted) in MIDDLES {
@@ -87,6 +89,7 @@ fn the_middle_points_are_found_in_any_order_and_among_equal_ones(rt: HostRuntime
 }
 
 // From 0 to 100, each number once.
+// rule: offset_of
 #[test]
 fn the_offset_of_101_points_is_half_of_the_middle_one(rt: HostRuntime) {
     let mut points = [0; 101];
@@ -97,6 +100,7 @@ fn the_offset_of_101_points_is_half_of_the_middle_one(rt: HostRuntime) {
     expect(&rt, &"offset", &offset_of(&mut points), &25);
 }
 
+// rule: ghost_of, host_of
 #[test]
 fn times_go_forth_and_back_and_are_clipped_at_both_ends(rt: HostRuntime) {
     for &(is_ghost, time, offset, want) in CLOCKS {

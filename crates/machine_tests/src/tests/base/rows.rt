@@ -328,6 +328,7 @@ fn expect_commit(rt: &impl Abort, words: &[u64; 11], wanted: &Commit, stored: bo
     expect(rt, words, &Commit::from_row(&row), wanted);
 }
 
+// rule: words_of_state, state_of_words
 #[test]
 fn a_state_is_read_from_its_words_and_numbers_out_of_range_are_brought_in(rt: HostRuntime) {
     for &(words, line, (playing, from, stamp), sync, peers, moment, profile, stored) in STATES {
@@ -350,6 +351,7 @@ fn a_state_is_read_from_its_words_and_numbers_out_of_range_are_brought_in(rt: Ho
     }
 }
 
+// rule: words_of_commit, state_of_words
 #[test]
 fn a_commit_is_read_from_its_words_and_what_has_no_flag_is_passed_over(rt: HostRuntime) {
     for &(words, parts, at, stored) in COMMITS {

@@ -291,6 +291,7 @@ fn expect_quantum(rt: &impl Abort, set: i64, wanted: i64) {
     expect(rt, &set, &now, &then);
 }
 
+// rule: tempo_set_of
 #[test]
 fn a_tempo_is_clamped_and_keeps_the_beat_at_its_time(rt: HostRuntime) {
     for row in TEMPI {
@@ -298,6 +299,7 @@ fn a_tempo_is_clamped_and_keeps_the_beat_at_its_time(rt: HostRuntime) {
     }
 }
 
+// rule: forced_of, IsUnclippedForce, requested_of
 #[test]
 fn a_beat_is_forced_at_its_time_and_requested_with_peers_at_the_next_match(rt: HostRuntime) {
     for row in FORCED {
@@ -307,6 +309,7 @@ fn a_beat_is_forced_at_its_time_and_requested_with_peers_at_the_next_match(rt: H
     }
 }
 
+// rule: played_of, clicks_in
 #[test]
 fn a_state_clicks_while_it_plays_from_its_start_on(rt: HostRuntime) {
     for &(playing, from, quantum, wanted) in CLICKED {
@@ -314,6 +317,7 @@ fn a_state_clicks_while_it_plays_from_its_start_on(rt: HostRuntime) {
     }
 }
 
+// rule: quantum_set_of
 #[test]
 fn a_quantum_is_taken_to_the_nearest_of_its_range(rt: HostRuntime) {
     for &(set, wanted) in QUANTA {

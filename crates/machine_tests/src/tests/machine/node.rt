@@ -54,6 +54,7 @@ fn config(gates: u16, destinations: u16) -> Config
     }
 }
 
+// rule: opened, state_in
 #[test]
 fn a_node_opens_alone_with_beat_0(rt: HostRuntime) {
     play(
@@ -70,6 +71,7 @@ fn a_node_opens_alone_with_beat_0(rt: HostRuntime) {
     );
 }
 
+// rule: at_moment
 #[test]
 fn moments_never_fall(rt: HostRuntime) {
     play(
@@ -89,6 +91,7 @@ fn moments_never_fall(rt: HostRuntime) {
     );
 }
 
+// rule: at_moment, followed, begun, noted, is_due_after, due_of
 #[test]
 fn what_comes_next_is_due(rt: HostRuntime) {
     play(
@@ -137,6 +140,7 @@ const SPENT: Timeline = Timeline {
     time: 0,
 };
 
+// rule: timeline_committed, committed_by, IsFollowing
 #[test]
 fn a_commit_s_timeline_is_made_as_of_the_commit_s_own_time(rt: HostRuntime) {
     play(
@@ -188,6 +192,7 @@ fn a_commit_s_timeline_is_made_as_of_the_commit_s_own_time(rt: HostRuntime) {
 // What the generator draws first from the seed 1.
 const DRAWN: NodeId = NodeId(*b">pz1+Yoc");
 
+// rule: EndsRow, IsFollowing, is_left, id_drawn, founding_timeline_in, state_in
 #[test]
 fn who_is_left_founds_a_session(rt: HostRuntime) {
     play(
@@ -212,6 +217,7 @@ fn who_is_left_founds_a_session(rt: HostRuntime) {
     );
 }
 
+// rule: alives_in
 #[test]
 fn a_tick_sends_at_most_a_ping_and_alives_to_all(rt: HostRuntime) {
     play(

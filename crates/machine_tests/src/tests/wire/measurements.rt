@@ -152,6 +152,7 @@ const SILENCES: &[Step] = &[
     ),
 ];
 
+// rule: deadline_of, is_early, tick_outcome
 #[test]
 fn six_silences_end_it_whatever_comes_between(rt: HostRuntime) {
     expect_steps(&rt, &mut started(5), SILENCES, 1_050_000);
@@ -171,6 +172,7 @@ const STRAYED: &[Step] = &[
     (Tick, 60_000, Idle, 50_014),
 ];
 
+// rule: opening, is_from, pong_outcome, deadline_of
 #[test]
 fn only_the_target_is_heard_and_only_of_the_measured_session(rt: HostRuntime) {
     let mut measure = started(5);
@@ -232,6 +234,7 @@ fn expect_enough(rt: &impl Abort, is_first: bool, is_last: bool, wanted: i64) {
     expect_steps(rt, &mut measure, OVER, 0);
 }
 
+// rule: point_of, points_in, counted_outcome, deadline_of
 #[test]
 fn more_than_100_points_are_enough(rt: HostRuntime) {
     expect_enough(&rt, true, false, 5_001_690);
@@ -292,6 +295,7 @@ fn is_near(offset: i64, ahead: i32, longest: u16) -> bool {
     (i128::from(offset) - i128::from(ahead)).unsigned_abs() * 2 <= u128::from(longest) + 1
 }
 
+// rule: AreFair
 #[test]
 fn an_honest_peer_is_measured_within_half_of_the_longest_delay(rt: HostRuntime) {
     for seed in 0..200u16 {

@@ -46,6 +46,7 @@ fn expect_written(rt: &impl Abort, fields: &PeerFields, wanted: &[u8]) {
     expect(rt, fields, &out.as_slice(), &wanted);
 }
 
+// rule: Fields.timeline_in, start_in, spelled_state_of
 #[test]
 fn a_state_is_written_after_what_stands_there(rt: HostRuntime) {
     expect_written(&rt, &FIELDS, WRITTEN);
@@ -65,6 +66,7 @@ const ITEMS: &[Option<Result<Entry<'static>, PayloadFault>>] = &[
     None,
 ];
 
+// rule: Spells, IsCutAt
 #[test]
 fn entries_come_in_order_and_a_cut_ends_them(rt: HostRuntime) {
     let mut left = entries(b"abcd\0\0\0\0wxyz\0\0\0\x02\x07\x08wxyz\xff\xff\xff\xff");

@@ -233,6 +233,7 @@ fn play(rt: &impl Abort, alloc: Global, gates: u8, steps: &[Step]) -> Result<(),
     Ok(())
 }
 
+// rule: Ends, said_goodbye, was_pruned, rows_of, seen_of, row_seen, peers_in, target_of
 #[test]
 fn rows_are_seen_and_end_and_answer(rt: HostRuntime) -> Result<(), Fail> {
     play(&rt, rt.alloc(), 4, STEPS)?;
@@ -266,6 +267,7 @@ const LIMITS: &[Step] = &[
     Row(1, 6_500_000, 1, 71),
 ];
 
+// rule: rows_of
 #[test]
 fn entries_stand_in_order_of_their_limits(rt: HostRuntime) -> Result<(), Fail> {
     play(&rt, rt.alloc(), 2, LIMITS)?;
@@ -316,6 +318,7 @@ fn expect_rows(rt: &impl Abort, alloc: Global, gates: u8, end: &[Step]) -> Resul
     Ok(())
 }
 
+// rule: seen_of, is_full_on
 #[test]
 fn each_gate_has_128_rows(rt: HostRuntime) -> Result<(), Fail> {
     let alloc = rt.alloc();

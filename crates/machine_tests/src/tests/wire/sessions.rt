@@ -120,6 +120,7 @@ fn expect_led(
     expect(rt, &(session, lead), &known, &(Some(at(5)), Some(at(2)), 1));
 }
 
+// rule: bytes_lt, Wins, joined, measured_of, measured
 #[test]
 fn a_session_wins_by_its_lead_or_by_its_id(rt: HostRuntime) -> Result<(), Fail> {
     let mut sessions = alone(rt.alloc())?;
@@ -247,6 +248,7 @@ const MEASURED: &[Step] = &[
     Order(b"AM"),
 ];
 
+// rule: joined, measured_of
 #[test]
 fn the_current_session_is_remeasured_and_a_stranger_unknown(rt: HostRuntime) -> Result<(), Fail> {
     play(&rt, rt.alloc(), MEASURED)?;
@@ -278,6 +280,7 @@ const ROOM: &[Step] = &[
     Other(63, 165),
 ];
 
+// rule: best_of, saw_known, saw_of
 #[test]
 fn sixty_four_others_are_known_and_no_more(rt: HostRuntime) -> Result<(), Fail> {
     play(&rt, rt.alloc(), ROOM)?;
@@ -317,6 +320,7 @@ const FORGOTTEN: &[Step] = &[
     Order(b"ABCD"),
 ];
 
+// rule: saw_of, forgotten
 #[test]
 fn the_place_of_a_forgotten_session_is_closed(rt: HostRuntime) -> Result<(), Fail> {
     play(&rt, rt.alloc(), FORGOTTEN)?;
@@ -345,6 +349,7 @@ const EXCHANGED: &[Step] = &[
     Step::Current(b'M', 0, 1_100_001),
 ];
 
+// rule: joined
 #[test]
 fn the_old_session_takes_the_place_of_the_joined_one(rt: HostRuntime) -> Result<(), Fail> {
     play(&rt, rt.alloc(), EXCHANGED)?;

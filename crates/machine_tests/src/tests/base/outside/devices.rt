@@ -230,6 +230,7 @@ fn expect_until(rt: &impl Abort, late: i64, moment: i64, answer: i64) {
     }
 }
 
+// rule: Rose
 #[test]
 fn a_failing_call_takes_no_block(rt: HostRuntime) {
     for &(call, steps) in ASKS {
@@ -237,6 +238,7 @@ fn a_failing_call_takes_no_block(rt: HostRuntime) {
     }
 }
 
+// rule: Rose
 #[test]
 fn a_failing_play_plays_nothing(rt: HostRuntime) {
     for &(call, steps) in PLAYS {
@@ -258,6 +260,7 @@ fn there_is_room_for_no_play_without_blocks(rt: HostRuntime) {
     play(&rt, &mut audio, NO_BLOCKS);
 }
 
+// rule: IsPaced
 #[test]
 fn a_moment_is_answered_late_but_never_after_the_last_one(rt: HostRuntime) {
     for &(late, moment, answer) in PACES {

@@ -355,6 +355,7 @@ fn is_post(post: &Post, bytes: &[u8]) -> bool {
     post.gate == Gate(0) && post.to == AWAY && post.bytes.as_slice() == bytes
 }
 
+// rule: Rose, Binds
 #[test]
 fn a_failing_bind_leaves_the_gates_of_before(rt: HostRuntime) {
     for &(call, steps) in BINDS {
@@ -369,6 +370,7 @@ fn a_failing_bind_leaves_the_gates_of_before(rt: HostRuntime) {
     }
 }
 
+// rule: Rose
 #[test]
 fn a_failing_receive_takes_nothing(rt: HostRuntime) {
     for &(call, steps) in RECEIVES {
@@ -377,6 +379,7 @@ fn a_failing_receive_takes_nothing(rt: HostRuntime) {
     }
 }
 
+// rule: Rose
 #[test]
 fn a_failing_send_posts_nothing(rt: HostRuntime) {
     for &(call, steps) in SENDS {
@@ -391,6 +394,7 @@ fn a_failing_send_posts_nothing(rt: HostRuntime) {
     }
 }
 
+// rule: IsAnswer
 #[test]
 fn a_datagram_waits_until_its_gate_is_bound(rt: HostRuntime) {
     let arrivals = vec![in rt.alloc(); datagram(1, b'b', 9)].expect(&rt, "memory for arrivals");

@@ -56,6 +56,7 @@ fn expect_written(rt: &impl Abort, sink: &BytesSink, write: &Write) {
     expect(rt, &"faults", &sink.fault_count(), &write.3);
 }
 
+// rule: Rose
 #[test]
 fn a_sink_takes_all_or_a_prefix_up_to_its_failure(rt: HostRuntime) {
     for &(room, most, call, whole, bytes, faults) in WRITES {

@@ -81,6 +81,7 @@ fn text_of(rt: &impl Abort, alloc: Global, text: &[u8]) -> Vec<u8> {
     text.to_vec(alloc).expect(rt, "memory for a text")
 }
 
+// rule: Rose
 #[test]
 fn a_source_is_read_to_its_end_its_limit_or_its_failure(rt: HostRuntime) {
     for &(most, limit, call, fault, left, faults) in READS {

@@ -234,6 +234,7 @@ fn expect_write(rt: &impl Abort, talk: &mut ListTalk, k: usize, bytes: &[u8], pu
     expect(rt, &k, &talk.write(bytes), &put);
 }
 
+// rule: Rose
 #[test]
 fn a_talk_is_open_from_the_first_listening_that_succeeds(rt: HostRuntime) {
     for &(call, before, steps) in LISTENS {
@@ -241,6 +242,7 @@ fn a_talk_is_open_from_the_first_listening_that_succeeds(rt: HostRuntime) {
     }
 }
 
+// rule: Rose
 #[test]
 fn a_failing_read_takes_nothing(rt: HostRuntime) {
     for &(call, steps) in READS {
@@ -248,6 +250,7 @@ fn a_failing_read_takes_nothing(rt: HostRuntime) {
     }
 }
 
+// rule: Rose
 #[test]
 fn a_failing_write_writes_nothing(rt: HostRuntime) {
     for &(call, steps) in WRITES {

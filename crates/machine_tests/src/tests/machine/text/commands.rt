@@ -59,6 +59,7 @@ const BLOCKS: &[BlockCommand] = &[
     },
 ];
 
+// rule: is_passed, IsLiveScript, act_words, IsBlockAct
 #[test]
 fn commands_are_read_in_the_order_of_their_lines(rt: HostRuntime) {
     let text: &[u8] = b"link 1\nsetup 500000 1\ngate 127.0.0.1:20808\n\

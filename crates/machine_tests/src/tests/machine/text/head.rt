@@ -25,6 +25,7 @@ fn expect_said(rt: &impl Abort, head: &LiveHead, mpb: i64, sync: bool, gates: &[
     }
 }
 
+// rule: is_passed, IsHeadText
 #[test]
 fn a_head_is_read_line_by_line(rt: HostRuntime) {
     expect_head(

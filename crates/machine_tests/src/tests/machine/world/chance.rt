@@ -372,6 +372,7 @@ fn converged_among(rt: &impl Abort, alloc: Global, worlds: u32, apart: bool) -> 
     converged
 }
 
+// rule: HasOrigins, Agrees, Converges
 #[test]
 fn worlds_by_chance_keep_what_is_promised(rt: HostRuntime) {
     let converged = converged_among(&rt, rt.alloc(), WORLDS, false);

@@ -33,6 +33,7 @@ fn expect_held(
     }
 }
 
+// rule: measured, brought_by
 #[test]
 fn two_peers_come_into_one_session(rt: HostRuntime) {
     let (first, second) = ((OWN, FIRST), (PEER, FIRST));
@@ -62,6 +63,7 @@ fn expect_committed(
     expect_held(rt, alloc, &[(0, 105, &rows)], 109, &wanted);
 }
 
+// rule: Agrees
 #[test]
 fn equal_origins_are_held_by_order(rt: HostRuntime) {
     // Two seconds after the opening the session is at beat 4, and so both begin there.
@@ -74,6 +76,7 @@ fn equal_origins_are_held_by_order(rt: HostRuntime) {
     );
 }
 
+// rule: timeline_taken, Machine.timeline_in, Agrees, Converges
 #[test]
 fn the_greater_origin_is_held_by_both(rt: HostRuntime) {
     // The later commit begins at beat 6, whoever makes it.
@@ -149,6 +152,7 @@ fn what_reaches_nobody_changes_nothing(rt: HostRuntime) {
     expect_changes(&rt, rt.alloc(), 50, IDLE, false);
 }
 
+// rule: brought_by
 #[test]
 fn what_reaches_somebody_is_told(rt: HostRuntime) {
     // The same turns with all in place do change the world.
