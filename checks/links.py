@@ -3,9 +3,11 @@
 
 A page is a file `.md` of the repository. A link is what stands in round brackets behind square ones, outside of code. One that names no
 other site has to lead to a file or a folder that is there; what follows a `#` in it has to be a heading of that page, spelled as GitHub
-spells it: in lower case, with a hyphen for a space, without other signs, and with a number where a heading comes again. A page in docs/ has
-to be reached from README.md. The last line is 'N links of N pages, N failed', and the status is 1 where any failed.
+spells it: in lower case, with a hyphen for a space, without other signs, and with a number where a heading comes again. Of a file that is
+no page it has to be `LN`, with N one of its lines. A page in docs/ has to be reached from README.md. The last line is 'N links of N pages,
+N failed', and the status is 1 where any failed.
 """
+import functools
 import pathlib
 import re
 import sys
@@ -37,6 +39,12 @@ def anchors_of(page):
     return found
 
 
+@functools.cache
+def lines_of(file):
+    """How the lines of a file that is no page are named in links."""
+    return {f"L{number}" for number, _ in enumerate(file.read_bytes().splitlines(), 1)} if file.is_file() else set()
+
+
 def links_of(page):
     """The links of a page, each with the number of its line."""
     text = blanked(blanked(page.read_text(encoding="utf-8"), FENCE), CODE)
@@ -53,8 +61,8 @@ def fault_of(page, link):
         return "leads out of the repository", None
     if not to.exists():
         return "leads to nothing", None
-    if anchor and (to.suffix != ".md" or anchor not in anchors_of(to)):
-        return f"{to.relative_to(HERE)} has no heading #{anchor}", to
+    if anchor and anchor not in (anchors_of(to) if to.suffix == ".md" else lines_of(to)):
+        return f"{to.relative_to(HERE)} has no heading or line #{anchor}", to
     return None, to
 
 
