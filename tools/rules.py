@@ -12,7 +12,7 @@ have several. With it the page tells, at most four of each kind, those of the de
   there, those of a definition that names it, and so on; and at last those of one that a law ties to it. A call of a trait's impl has the
   trait's clauses, with what its own `ghost` items put there. Behind them stand the laws on the definition;
 - the functions that aren't of a crate's surface, found likewise no farther off than the calls;
-- the edits of must-fail/ with a line `rule: NAME`, which rt doesn't read: wrong bodies that go against the rule;
+- the edits of must-fail/ with a line `rule: NAME` or `# rule: NAME`, which rt doesn't read: wrong bodies that go against the rule;
 - the tests with a comment `// rule: NAME` above `#[test]`, other comments alone between; `// rule: NAME in ROW` names a row of its table.
 
 NAME is a definition's name, with its module before it, as in `Module.name`, where several have it; `rule: NAME, NAME` names several. All of
@@ -92,7 +92,7 @@ CLAUSE = re.compile(r"\s*\b(?:requires|ensures)\b\s*\w*\s*(?=\{)")
 # A law's body has nothing but laws that it stands on.
 LAW = re.compile(r"\b\w+\(\);")
 NAME = r"(?:\w+\.)?\w+"
-MARK = re.compile(rf"\s*(?:// )?rule: ({NAME}(?:, {NAME})*)(?: in (.+))?")
+MARK = re.compile(rf"\s*(?:(?://|#) )?rule: ({NAME}(?:, {NAME})*)(?: in (.+))?")
 
 
 class Definition(NamedTuple):
@@ -333,7 +333,7 @@ def marks(specs):
     edits, tests = defaultdict(list), defaultdict(list)
     for file in sorted(ROOT.glob("crates/*/must-fail/*.edit")):
         for number, line in enumerate(file.read_text(encoding="utf-8").split("\n"), 1):
-            if line.startswith("rule:"):
+            if line.removeprefix("# ").startswith("rule:"):
                 mark(edits, specs, file, number, line, file.stem)
     for file in sorted(ROOT.glob("crates/*/src/**/*.rt")):
         lines = file.read_text(encoding="utf-8").split("\n")
