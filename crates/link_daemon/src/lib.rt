@@ -20,5 +20,6 @@ pub use link_commands::{
 pub use link_control::{LineLog, Served, SessionLog, serve};
 pub use link_live::{AudioReport, NetEnd, Report, audio_loop, network_loop};
 pub use link_live_command::live_main;
+pub use link_script::{Act, AppCommand, BlockCommand, LiveScript};
 pub use top::link_main;
 pub use usage_text::{unreadable_usage, usage};

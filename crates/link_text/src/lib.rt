@@ -1,10 +1,11 @@
 //! The texts that the program reads and writes.
 //!
-//! Lines and their words are cut, read and put together by `link_lines`; what callers need of it beside this crate is handed on. In reading
-//! order: `node_id`, `values` (what the next word says), `hex_word` (the last word of an arrival), `pair` (a line of two numbers), `place`
-//! (the lines that count), `said_event`, `commit_read`, `event_read`, `head_read` (a line of each kind), `fault`, `head`, `replay_script`,
-//! `live_read` (the lines of a live script), `live_script`, `live_head`, `control_line` (the lines of a client), `reason`, `head_line`,
-//! `event_line`, `sending_line`, `state_line`, `reading_line`, `load` (the events of a generated run); last `laws`.
+//! Lines and their words are cut, read and put together by `link_lines`, and what a live script says stands in `link_script`; what callers
+//! need of both beside this crate is handed on. In reading order: `node_id`, `values` (what the next word says), `hex_word` (the last word
+//! of an arrival), `pair` (a line of two numbers), `place` (the lines that count), `said_event`, `commit_read`, `event_read`, `head_read`
+//! (a line of each kind), `fault`, `head`, `replay_script`, `live_read` (the lines of a live script), `live_script`, `live_head`,
+//! `control_line` (the lines of a client), `reason`, `head_line`, `event_line`, `sending_line`, `state_line`, `reading_line`, `load` (the
+//! events of a generated run); last `laws`.
 #![tactic(auto)]
 
 mod commit_read;
@@ -45,6 +46,7 @@ pub use link_lines::{
     LineBuf, endpoint_of, line_at, put, put_decimal, put_endpoint, put_short_hex, put_signed,
     put_truth,
 };
+pub use link_script::{Act, AppCommand, BlockCommand, LiveScript};
 pub use live_head::{HeadFault, LiveHead, read_live_head};
 pub use live_script::{LiveFault, read_live};
 pub use load::LoadEvents;
