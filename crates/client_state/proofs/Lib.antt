@@ -7,3 +7,4 @@ pub mod CommitLemmas
 pub mod StartLemmas
 pub mod BlockLemmas
 pub mod WordLemmas
+pub mod TogetherLemmas

@@ -3,8 +3,11 @@ use Rattle.std.specs.Prelude.{◌≡◌, ℤ, pos, ◌^◌, ◌+ℤ◌, Bool, �
 use Rattle.std.specs.Int.{int_max}
 use Rattle.std.specs.Ordering.{int_eq}
 use Rattle.ghost_xform.specs.GhostTime.{ghost_of, host_of}
+use Rattle.lk_base.specs.Ranges.{IsWithin}
+use Rattle.lk_base.specs.Timeline.{IsTidy}
 use Rattle.lk_base.specs.declared.timeline.Timeline.{Timeline}
 use Rattle.timeline_math.specs.Beats.{beat_at, time_at}
+use Rattle.timeline_math.specs.Clicks.{IsInReach}
 use Rattle.client_state.specs.Edits.{timeline_at}
 
 -- the host time of the session's beat 0
@@ -21,6 +24,20 @@ unfoldable pub client_from_session_of : Timeline → Timeline → ℤ → ℤ �
 client_from_session_of client session now offset =
     let zero = zero_time_of session offset in
     timeline_at session.mpb (beat_at (going_on client session now) zero) zero
+
+-- the client has the session's tempo, and its time origin is the host time of the session's beat 0
+pub record Follows (session client : Timeline) (offset : ℤ) : Type 0 where
+  pub tempo : client.mpb ≡ session.mpb
+  pub time : client.time ≡ zero_time_of session offset
+
+-- A client that follows the session, at a time up to which nothing is clipped: 2^58 microseconds are 9,000 years, and of beats `IsInReach`
+-- tells.
+pub record IsInReachOf (session client : Timeline) (offset time : ℤ) : Type 0 where
+  pub follows : Follows session client offset
+  pub tidy : IsTidy client
+  pub offset_within : IsWithin (2 ^ 58) offset
+  pub zero_within : IsWithin (2 ^ 58) (time_at session (pos 0))
+  pub beats : IsInReach client time
 
 -- neither beat 0 nor the tempo changes
 abbrev pub KeepsBeat : Timeline → Timeline → ℤ → Type 0

@@ -5,14 +5,17 @@ ghost use Rattle.lk_base.specs.Ranges.{IsQuantum, IsWithinLimit};
 ghost use Rattle.lk_base.specs.Timeline.{IsTidy};
 ghost use Rattle.lk_base.specs.declared.timeline.Timeline.{Timeline};
 ghost use Rattle.timeline_math.specs.Beats.{beat_at};
+ghost use Rattle.timeline_math.specs.Clicks.{clicks_at, is_accented, PassesBeat};
 ghost use Rattle.client_state.specs.Commit.{IsTidyCommit};
 ghost use Rattle.client_state.specs.Edits.{tempo_set_of, match_of, forced_of, requested_of};
 ghost use Rattle.client_state.specs.State.{IsId, IsTidyState};
-ghost use Rattle.client_state.specs.Timelines.{going_on, zero_time_of, client_from_session_of, session_from_client_of};
+ghost use Rattle.client_state.specs.Timelines.{going_on, zero_time_of, client_from_session_of, session_from_client_of, Follows, IsInReachOf};
 ghost use Rattle.client_state.specs.Unclipped.{IsUnclippedTempo, IsUnclippedForce, IsUnclippedRequest, IsUnclippedReturn, wide_beat_at};
 ghost use Rattle.client_state.specs.Words.{words_of_state, state_of_words, words_of_commit, commit_of_words};
 ghost use Rattle.client_state.specs.declared.commit.Commit.{Commit};
 ghost use Rattle.client_state.specs.declared.state.State.{State};
+
+use timeline_math::{beats_click_once, equal_tempos_click_alike};
 
 /// Setting a tempo keeps the beat at that moment, but for at most 8 microbeats of rounding, where the new time origin
 /// isn't clipped.
@@ -66,6 +69,29 @@ pub fn returned_timelines_keep_beats()
         → IsUnclippedReturn client given now offset time
         → unsigned_abs (beat_at (client_from_session_of client given now offset) time -ℤ beat_at client time) ≤ 2 }
 {}
+
+/// Clients of one session click together: at whatever moments and from whatever timelines two of them were made, and under
+/// whatever offsets, a host time clicks for the one exactly where the host time of the same ghost time clicks for the other,
+/// with the same accents, where nothing is clipped. And the same beat clicks for both in the same microsecond of ghost time.
+pub fn clients_of_a_session_click_together()
+    ensures follows { (client session : Timeline) (now offset : ℤ)
+        → Follows session (client_from_session_of client session now offset) offset }
+    ensures click { (session client other : Timeline) (offset other_offset time : ℤ)
+        → IsInReachOf session client offset time
+        → IsInReachOf session other other_offset (time +ℤ offset -ℤ other_offset)
+        → clicks_at client time ≡ clicks_at other (time +ℤ offset -ℤ other_offset) }
+    ensures accent { (session client other : Timeline) (offset other_offset time q : ℤ)
+        → IsInReachOf session client offset time
+        → IsInReachOf session other other_offset (time +ℤ offset -ℤ other_offset)
+        → is_accented client q time ≡ is_accented other q (time +ℤ offset -ℤ other_offset) }
+    ensures beat { (session client other : Timeline) (offset other_offset k time there : ℤ)
+        → IsInReachOf session client offset time → IsInReachOf session other other_offset there
+        → PassesBeat client k time → PassesBeat other k there → (time +ℤ offset) ≡ (there +ℤ other_offset) }
+{
+    // Laws, for the proof.
+    equal_tempos_click_alike();
+    beats_click_once();
+}
 
 /// A tidy state and a tidy commit are read back from their rows. The second and third premises hold of all states in code.
 pub fn rows_are_read_back()

@@ -15,7 +15,8 @@ mod words;
 
 pub use commit::Commit;
 pub use laws::{
-    forced_beats_fall_on_the_quantum, forced_beats_move_the_origin_by_quanta,
+    clients_of_a_session_click_together, forced_beats_fall_on_the_quantum,
+    forced_beats_move_the_origin_by_quanta,
     renewed_clients_keep_their_beat, requested_beats_keep_the_phase, returned_timelines_keep_beats,
     rows_are_read_back, tempo_keeps_the_beat,
 };

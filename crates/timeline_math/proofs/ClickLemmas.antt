@@ -8,9 +8,9 @@ use Rattle.lk_base.specs.Ranges.{IsWithin}
 use Rattle.lk_base.specs.Rounding.{nearest_of}
 use Rattle.lk_base.specs.Timeline.{IsTidy}
 use Rattle.lk_base.specs.declared.timeline.Timeline.{Timeline}
-use Rattle.lk_base.proofs.RoundingLemmas.{scaled_le, nearest_of-IsNearest}
+use Rattle.lk_base.proofs.RoundingLemmas.{scaled_le, nearest_of-IsNearest, nearest_of-le}
 use Rattle.timeline_math.specs.Beats.{beat_at}
-use Rattle.timeline_math.specs.Clicks.{since, clicks_at, Passes}
+use Rattle.timeline_math.specs.Clicks.{since, clicks_at, is_accented, beats_past, IsInReach, Passes, PassesBeat}
 use Rattle.timeline_math.specs.Metronome.{IsNextBeat}
 use Rattle.timeline_math.specs.Quantum.{phase_of}
 use Rattle.timeline_math.proofs.BeatLemmas.{beat_at-le}
@@ -101,15 +101,79 @@ falls_between x y k le near over under =
 pub click_passes : (tl : Timeline) (time : ℤ) → IsTidy tl → clicks_at tl time ≡ true → Passes tl time
 unfolding clicks_at
 click_passes tl time tidy clicks =
-    phase_falls (since tl (time -ℤ pos 1)) (since tl time) (since-le tl (time -ℤ pos 1) time tidy (omega (arith, ints))) (since-step tl time tidy)
-    (omega (arith, ints))
+    let falls = phase_falls (since tl (time -ℤ pos 1)) (since tl time) (since-le tl (time -ℤ pos 1) time tidy (omega (arith, ints))) (since-step tl time tidy) (omega (arith, ints)) in
+    (falls.0, (falls.1, falls.2))
 
 pub passing_clicks : (tl : Timeline) (time : ℤ) → IsTidy tl → Passes tl time → clicks_at tl time ≡ true
 unfolding clicks_at
 passing_clicks tl time tidy passes =
-    let falls = falls_between (since tl (time -ℤ pos 1)) (since tl time) passes.0 (since-le tl (time -ℤ pos 1) time tidy (omega (arith, ints))) (since-step tl time tidy) passes.1 passes.2 in
+    let falls = falls_between (since tl (time -ℤ pos 1)) (since tl time) passes.0 (since-le tl (time -ℤ pos 1) time tidy (omega (arith, ints))) (since-step tl time tidy) passes.1.0 passes.1.1 in
     let e : true ≡ int_lt (phase_of (since tl time) (pos 1_000_000)) (phase_of (since tl (time -ℤ pos 1)) (pos 1_000_000)) = omega (arith, ints) in
     sym e
+
+-- ---- one beat, and two timelines of one tempo
+
+-- a beat that is passed at both isn't passed later at one of them
+passed_before : (tl : Timeline) (k one other : ℤ) → IsTidy tl → PassesBeat tl k one → PassesBeat tl k other → one <ℤ other → ⊥
+passed_before tl k one other tidy at_one at_other lt =
+    let le = since-le tl one (other -ℤ pos 1) tidy (omega (arith, ints)) in
+    omega (arith, ints, at_one.1, at_other.0)
+
+pub passed_once : (tl : Timeline) (k one other : ℤ) → IsTidy tl → PassesBeat tl k one → PassesBeat tl k other → one ≡ other
+passed_once tl k one other tidy at_one at_other =
+    let no = passed_before tl k one other tidy at_one at_other in
+    let nor = passed_before tl k other one tidy at_other at_one in
+    by_lt_z one other
+    (λ lt. absurd (no lt))
+    (λ le. by_lt_z other one (λ lt. absurd (nor lt)) (λ ge. omega (arith, ints)))
+
+-- a microsecond before, the beats from the time origin on are less than a beat behind
+past_before : (tl : Timeline) (time : ℤ) → IsTidy tl → (beats_past tl (time -ℤ pos 1) ≤ℤ beats_past tl time) × (beats_past tl time <ℤ (beats_past tl (time -ℤ pos 1) +ℤ pos 1_000_000))
+past_before tl time tidy =
+    let fastest = tidy.fastest in
+    let n = (time -ℤ pos 1 -ℤ tl.time) *ℤ pos 1_000_000 in
+    let next : (time -ℤ tl.time) *ℤ pos 1_000_000 ≡ n +ℤ pos 1_000_000 = omega (arith, ints) in
+    let same = ap (λ z. nearest_of z tl.mpb) next in
+    let rises = nearest_of-le n (n +ℤ pos 1_000_000) tl.mpb (omega (arith, ints)) (omega (arith, ints)) in
+    let step = near_step n tl.mpb (omega (arith, ints)) in
+    (omega (arith, ints), omega (arith, ints))
+
+-- in reach the beats past the beat origin are those from the time origin on
+since-past : (tl : Timeline) (time : ℤ) → IsTidy tl → IsInReach tl time → (since tl time ≡ beats_past tl time) × (since tl (time -ℤ pos 1) ≡ beats_past tl (time -ℤ pos 1))
+unfolding since beat_at
+since-past tl time tidy reach =
+    let origin = reach.origin in
+    let past = reach.past in
+    let before = past_before tl time tidy in
+    (omega (arith, ints, clamps), omega (arith, ints, clamps, before.0, before.1))
+
+-- a timeline of the same tempo, as far from its time origin
+alike : (tl other : Timeline) (time there : ℤ) → IsTidy tl → IsTidy other → tl.mpb ≡ other.mpb → (time -ℤ tl.time) ≡ (there -ℤ other.time) → IsInReach tl time → IsInReach other there → (since tl time ≡ since other there) × (since tl (time -ℤ pos 1) ≡ since other (there -ℤ pos 1))
+alike tl other time there tidy other_tidy tempo far reach there_reach =
+    let here = since-past tl time tidy reach in
+    let over = since-past other there other_tidy there_reach in
+    let before : (time -ℤ pos 1 -ℤ tl.time) ≡ (there -ℤ pos 1 -ℤ other.time) = omega (arith, ints) in
+    let same = ap (λ z. nearest_of (z *ℤ pos 1_000_000) tl.mpb) far ∙ ap (nearest_of ((there -ℤ other.time) *ℤ pos 1_000_000)) tempo in
+    let same_before = ap (λ z. nearest_of (z *ℤ pos 1_000_000) tl.mpb) before ∙ ap (nearest_of ((there -ℤ pos 1 -ℤ other.time) *ℤ pos 1_000_000)) tempo in
+    (here.0 ∙ same ∙ sym over.0, here.1 ∙ same_before ∙ sym over.1)
+
+pub clicks_alike : (tl other : Timeline) (time there : ℤ) → IsTidy tl → IsTidy other → tl.mpb ≡ other.mpb → (time -ℤ tl.time) ≡ (there -ℤ other.time) → IsInReach tl time → IsInReach other there → clicks_at tl time ≡ clicks_at other there
+unfolding clicks_at
+clicks_alike tl other time there tidy other_tidy tempo far reach there_reach =
+    let same = alike tl other time there tidy other_tidy tempo far reach there_reach in
+    ap (λ z. int_lt (phase_of z (pos 1_000_000)) (phase_of (since tl (time -ℤ pos 1)) (pos 1_000_000))) same.0
+    ∙ ap (λ z. int_lt (phase_of (since other there) (pos 1_000_000)) (phase_of z (pos 1_000_000))) same.1
+
+pub accents_alike : (tl other : Timeline) (time there q : ℤ) → IsTidy tl → IsTidy other → tl.mpb ≡ other.mpb → (time -ℤ tl.time) ≡ (there -ℤ other.time) → IsInReach tl time → IsInReach other there → is_accented tl q time ≡ is_accented other q there
+unfolding is_accented
+accents_alike tl other time there q tidy other_tidy tempo far reach there_reach =
+    let same = alike tl other time there tidy other_tidy tempo far reach there_reach in
+    ap (λ z. int_lt (phase_of z q) (pos 1_000_000)) same.0
+
+pub beats_alike : (tl other : Timeline) (k time there : ℤ) → IsTidy tl → IsTidy other → tl.mpb ≡ other.mpb → (time -ℤ tl.time) ≡ (there -ℤ other.time) → IsInReach tl time → IsInReach other there → PassesBeat tl k time → PassesBeat other k there
+beats_alike tl other k time there tidy other_tidy tempo far reach there_reach passes =
+    let same = alike tl other time there tidy other_tidy tempo far reach there_reach in
+    (omega (arith, ints, same.1, passes.0), omega (arith, ints, same.0, passes.1))
 
 -- ---- when the k-th beat comes
 

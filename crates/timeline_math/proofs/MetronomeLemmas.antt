@@ -101,7 +101,7 @@ next_after tl k at tidy before there =
 pub beat_time_is : (tl : Timeline) (k from end at : ℤ) → IsTidy tl → IsNextBeat tl k from → at <ℤ end → beat_time_of tl k ≤ℤ (at +ℤ pos 1) → at ≤ℤ beat_time_of tl k → since tl (at -ℤ pos 1) <ℤ (k *ℤ pos 1_000_000) → (k *ℤ pos 1_000_000) ≤ℤ since tl at → IsBeatTime tl k from end at
 beat_time_is tl k from end at tidy next lt early late before there =
     let from_at = not_earlier tl (k *ℤ pos 1_000_000) at from tidy next.high there in
-    let clicks = passing_clicks tl at tidy (k, before, there) in
+    let clicks = passing_clicks tl at tidy (k, (before, there)) in
     record {
       not_before = from_at;
       inside = lt;

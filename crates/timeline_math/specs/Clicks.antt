@@ -1,5 +1,7 @@
 -- The clicks of a timeline: the microseconds at which a whole beat is passed.
-use Rattle.std.specs.Prelude.{ℕ, zero, suc, ℤ, pos, ◌+ℤ◌, ◌-ℤ◌, ◌*ℤ◌, ◌<ℤ◌, ◌≤ℤ◌, Bool, int_lt, if◌then◌else◌, List, [], ◌∷◌, unsigned_abs}
+use Rattle.std.specs.Prelude.{ℕ, zero, suc, ◌^◌, ℤ, pos, ◌+ℤ◌, ◌-ℤ◌, ◌*ℤ◌, ◌<ℤ◌, ◌≤ℤ◌, Bool, int_lt, if◌then◌else◌, List, [], ◌∷◌, unsigned_abs}
+use Rattle.lk_base.specs.Ranges.{IsWithin}
+use Rattle.lk_base.specs.Rounding.{nearest_of}
 use Rattle.lk_base.specs.declared.timeline.Timeline.{Timeline}
 use Rattle.lk_base.specs.declared.block.Block.{Block}
 use Rattle.lk_base.specs.declared.block.Click.{Click}
@@ -37,7 +39,20 @@ clicks_from tl q time (suc n) =
 abbrev pub clicks_of : Timeline → Block → ℤ → List Click
 clicks_of tl block q = clicks_from tl q block.start (unsigned_abs block.length)
 
--- a whole number of beats past the origin is passed: it is ahead a microsecond before, and not any more
+-- the k-th whole beat past the origin is passed: it is ahead a microsecond before, and not any more
+abbrev pub PassesBeat : Timeline → ℤ → ℤ → Type 0
+PassesBeat tl k time = (since tl (time -ℤ pos 1) <ℤ (k *ℤ pos 1_000_000)) × ((k *ℤ pos 1_000_000) ≤ℤ since tl time)
+
+-- some whole beat is passed
 abbrev pub Passes : Timeline → ℤ → Type 0
-Passes tl time =
-    (k : ℤ) × (since tl (time -ℤ pos 1) <ℤ (k *ℤ pos 1_000_000)) × ((k *ℤ pos 1_000_000) ≤ℤ since tl time)
+Passes tl time = (k : ℤ) × PassesBeat tl k time
+
+-- the microbeats from the time origin to a time
+abbrev pub beats_past : Timeline → ℤ → ℤ
+beats_past tl time = nearest_of ((time -ℤ tl.time) *ℤ pos 1_000_000) tl.mpb
+
+-- Nothing is clipped, also a microsecond before: the beat origin, and the microbeats from the time origin to a time, are at most 2^58
+-- away from 0, which is 4,500 years at 120 beats a minute.
+pub record IsInReach (tl : Timeline) (time : ℤ) : Type 0 where
+  pub origin : IsWithin (2 ^ 58) tl.beat
+  pub past : IsWithin (2 ^ 58) (beats_past tl time)

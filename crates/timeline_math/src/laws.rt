@@ -1,10 +1,11 @@
 //! What holds of the definitions: each law is the contract of a function with an empty body.
 
-ghost use Rattle.std.specs.Prelude.{◌≡◌, pos, ◌+◌, ◌*◌, ◌≤◌, ◌+ℤ◌, ◌-ℤ◌, ◌≤ℤ◌, ◌↔◌, IsTrue, unsigned_abs};
+ghost use Rattle.std.specs.Prelude.{◌≡◌, ℤ, pos, ◌+◌, ◌*◌, ◌≤◌, ◌+ℤ◌, ◌-ℤ◌, ◌≤ℤ◌, ◌↔◌, IsTrue, unsigned_abs};
 ghost use Rattle.lk_base.specs.Ranges.{IsQuantum};
 ghost use Rattle.lk_base.specs.Timeline.{IsTidy};
 ghost use Rattle.timeline_math.specs.Beats.{beat_at, time_at};
-ghost use Rattle.timeline_math.specs.Clicks.{clicks_at, Passes};
+ghost use Rattle.lk_base.specs.declared.timeline.Timeline.{Timeline};
+ghost use Rattle.timeline_math.specs.Clicks.{clicks_at, is_accented, IsInReach, Passes, PassesBeat};
 ghost use Rattle.timeline_math.specs.Encoding.{encoded_beat, encoded_time};
 ghost use Rattle.timeline_math.specs.Quantum.{phase_of};
 ghost use Rattle.timeline_math.specs.Tidying.{tidy_of};
@@ -52,4 +53,23 @@ pub fn encoded_times_undo_encoded_beats(tl: &Timeline, time: i64, quantum: i64)
 pub fn clicks_pass_beats(tl: &Timeline, time: i64)
     requires { IsTidy tl.now }
     ensures { IsTrue (clicks_at tl.now time) ↔ Passes tl.now time }
+{}
+
+/// A beat clicks in one microsecond alone.
+pub fn beats_click_once()
+    ensures { (tl : Timeline) (k one other : ℤ) → IsTidy tl → PassesBeat tl k one → PassesBeat tl k other → one ≡ other }
+{}
+
+/// Two timelines of one tempo click alike and have the same accents and pass the same beats, each counted from its own time
+/// origin, where nothing is clipped.
+pub fn equal_tempos_click_alike()
+    ensures click { (tl other : Timeline) (time there : ℤ) → IsTidy tl → IsTidy other → tl.mpb ≡ other.mpb
+        → (time -ℤ tl.time) ≡ (there -ℤ other.time) → IsInReach tl time → IsInReach other there
+        → clicks_at tl time ≡ clicks_at other there }
+    ensures accent { (tl other : Timeline) (time there q : ℤ) → IsTidy tl → IsTidy other → tl.mpb ≡ other.mpb
+        → (time -ℤ tl.time) ≡ (there -ℤ other.time) → IsInReach tl time → IsInReach other there
+        → is_accented tl q time ≡ is_accented other q there }
+    ensures beat { (tl other : Timeline) (k time there : ℤ) → IsTidy tl → IsTidy other → tl.mpb ≡ other.mpb
+        → (time -ℤ tl.time) ≡ (there -ℤ other.time) → IsInReach tl time → IsInReach other there
+        → PassesBeat tl k time → PassesBeat other k there }
 {}
