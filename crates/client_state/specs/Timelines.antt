@@ -4,7 +4,6 @@ use Rattle.std.specs.Int.{int_max}
 use Rattle.std.specs.Ordering.{int_eq}
 use Rattle.ghost_xform.specs.GhostTime.{ghost_of, host_of}
 use Rattle.lk_base.specs.Ranges.{IsWithin}
-use Rattle.lk_base.specs.Timeline.{IsTidy}
 use Rattle.lk_base.specs.declared.timeline.Timeline.{Timeline}
 use Rattle.timeline_math.specs.Beats.{beat_at, time_at}
 use Rattle.timeline_math.specs.Clicks.{IsInReach}
@@ -30,11 +29,9 @@ pub record Follows (session client : Timeline) (offset : ℤ) : Type 0 where
   pub tempo : client.mpb ≡ session.mpb
   pub time : client.time ≡ zero_time_of session offset
 
--- A client that follows the session, at a time up to which nothing is clipped: 2^58 microseconds are 9,000 years, and of beats `IsInReach`
--- tells.
+-- Nothing is clipped on the way from the session's clicks to the client's at this host time: 2^58 microseconds are 9,000 years, and
+-- `IsInReach` tells of the beats.
 pub record IsInReachOf (session client : Timeline) (offset time : ℤ) : Type 0 where
-  pub follows : Follows session client offset
-  pub tidy : IsTidy client
   pub offset_within : IsWithin (2 ^ 58) offset
   pub zero_within : IsWithin (2 ^ 58) (time_at session (pos 0))
   pub beats : IsInReach client time

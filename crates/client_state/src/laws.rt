@@ -70,21 +70,25 @@ pub fn returned_timelines_keep_beats()
         → unsigned_abs (beat_at (client_from_session_of client given now offset) time -ℤ beat_at client time) ≤ 2 }
 {}
 
-/// Clients of one session click together: at whatever moments and from whatever timelines two of them were made, and under
-/// whatever offsets, a host time clicks for the one exactly where the host time of the same ghost time clicks for the other,
-/// with the same accents, where nothing is clipped. And the same beat clicks for both in the same microsecond of ghost time.
+/// Clients of one session click together: of two that follow it, whatever their offsets, a host time clicks for the one
+/// exactly where the host time of the same ghost time clicks for the other, with the same accents, where nothing is clipped.
+/// And where both click one beat, they do so in one microsecond of ghost time. A client follows the session that it was
+/// made from, at whatever moment and from whatever timeline.
 pub fn clients_of_a_session_click_together()
     ensures follows { (client session : Timeline) (now offset : ℤ)
         → Follows session (client_from_session_of client session now offset) offset }
-    ensures click { (session client other : Timeline) (offset other_offset time : ℤ)
+    ensures click { (session client other : Timeline) (offset other_offset time : ℤ) → IsTidy client → IsTidy other
+        → Follows session client offset → Follows session other other_offset
         → IsInReachOf session client offset time
         → IsInReachOf session other other_offset (time +ℤ offset -ℤ other_offset)
         → clicks_at client time ≡ clicks_at other (time +ℤ offset -ℤ other_offset) }
-    ensures accent { (session client other : Timeline) (offset other_offset time q : ℤ)
+    ensures accent { (session client other : Timeline) (offset other_offset time q : ℤ) → IsTidy client → IsTidy other
+        → Follows session client offset → Follows session other other_offset
         → IsInReachOf session client offset time
         → IsInReachOf session other other_offset (time +ℤ offset -ℤ other_offset)
         → is_accented client q time ≡ is_accented other q (time +ℤ offset -ℤ other_offset) }
-    ensures beat { (session client other : Timeline) (offset other_offset k time there : ℤ)
+    ensures beat { (session client other : Timeline) (offset other_offset k time there : ℤ) → IsTidy client → IsTidy other
+        → Follows session client offset → Follows session other other_offset
         → IsInReachOf session client offset time → IsInReachOf session other other_offset there
         → PassesBeat client k time → PassesBeat other k there → (time +ℤ offset) ≡ (there +ℤ other_offset) }
 {

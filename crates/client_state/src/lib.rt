@@ -16,9 +16,9 @@ mod words;
 pub use commit::Commit;
 pub use laws::{
     clients_of_a_session_click_together, forced_beats_fall_on_the_quantum,
-    forced_beats_move_the_origin_by_quanta,
-    renewed_clients_keep_their_beat, requested_beats_keep_the_phase, returned_timelines_keep_beats,
-    rows_are_read_back, tempo_keeps_the_beat,
+    forced_beats_move_the_origin_by_quanta, renewed_clients_keep_their_beat,
+    requested_beats_keep_the_phase, returned_timelines_keep_beats, rows_are_read_back,
+    tempo_keeps_the_beat,
 };
 pub use own::{Own, shown};
 pub use starts::{later_start, start_to_client, start_to_session};

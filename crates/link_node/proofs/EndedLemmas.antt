@@ -69,7 +69,7 @@ start-life : (fields : PeerFields) (m : Machine) → (start_taken fields m).life
 unfolding start_taken
 start-life fields m = by_test (λ b. (if b then with_start fields.start m else m).life ≡ m.life) (is_current fields.session m) (λ _. refl) (λ _. refl)
 
-listened-life : (answer : Seen) (fields : PeerFields) (m : Machine) → (listened answer fields m).life ≡ m.life
+pub listened-life : (answer : Seen) (fields : PeerFields) (m : Machine) → (listened answer fields m).life ≡ m.life
 listened-life seen.TableFull fields m = refl
 listened-life seen.New fields m = start-life fields (timeline_taken fields m) ∙ timeline-life fields m
 listened-life seen.Known fields m = start-life fields (timeline_taken fields m) ∙ timeline-life fields m

@@ -26,11 +26,11 @@ use Rattle.timeline_math.specs.Tidying.{tidy_of}
 use Rattle.client_state.specs.Timelines.{session_from_client_of}
 use Rattle.client_state.specs.declared.commit.Commit.{Commit}
 use Rattle.link_node.specs.Arrival.{arrived, is_heard}
-use Rattle.link_node.specs.Brought.{IsTakenIn}
+use Rattle.link_node.specs.Brought.{taken_in, IsTakenIn}
 use Rattle.link_node.specs.Client.{renewed}
 use Rattle.link_node.specs.Commits.{start_committed, with_client_start, client_taken, committed_by, timeline_committed, commit_taken, app_taken, audio_taken}
 use Rattle.link_node.specs.Event.{EventValue, Rx, Tick, App, Audio, End, moment_of}
-use Rattle.link_node.specs.Machine.{Machine, timeline_in, offset_in}
+use Rattle.link_node.specs.Machine.{session_in, Machine, timeline_in, offset_in}
 use Rattle.link_node.specs.Measuring.{pong_heard}
 use Rattle.link_node.specs.Staying.{IsKnownIn}
 use Rattle.link_node.specs.Step.{at_moment, taken, step_of}
@@ -218,3 +218,12 @@ step_keeps m e session tl distinct same took knows =
     let is = sessions_stay m e same in
     subst (λ (h : History). Took (known h) session tl) (sym is)
     (taken_keeps e (at_moment (moment_of e) m) session tl distinct took (subst (λ (h : History). Knows (known h) session) is knows))
+
+-- the current session's list is the one that is known under its id
+pub held_keeps : (m : Machine) (e : EventValue) (tl : Timeline) → AreDistinct (map session_of (known m.sessions)) → AreDistinct (map session_of (known (step_of m e).sessions))
+    → (step_of m e).drawn ≡ m.drawn → session_in (step_of m e) ≡ session_in m → Has (taken_in m) tl → Has (taken_in (step_of m e)) tl
+held_keeps m e tl distinct after same stays has =
+    let n = step_of m e in
+    let took = step_keeps m e (session_in m) tl distinct same (m.sessions.current, inl refl, refl, has) (n.sessions.current, inl refl, stays) in
+    let is : took.0 ≡ n.sessions.current = unique (known n.sessions) after took.0 n.sessions.current took.1 (inl refl) (took.2 ∙ sym stays) in
+    subst (λ (t : Taking). Has (t.first ∷ t.later) tl) is took.3

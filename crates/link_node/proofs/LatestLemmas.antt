@@ -1,5 +1,5 @@
 -- That a start which is later than the session's is taken.
-use Rattle.std.proofs.Common.{◌≡◌, ◌⊎◌, inl, inr, ◌+◌, ℤ, ◌<ℤ◌, true, [], ◌∷◌, ◌++◌, Option, Some, None, Result, Ok, refl, sym, ap, ◌∙◌, subst}
+use Rattle.std.proofs.Common.{◌≡◌, ◌⊎◌, inl, inr, ◌+◌, ◌<ℤ◌, true, [], ◌∷◌, ◌++◌, Option, Some, None, Result, Ok, refl, sym, ap, ◌∙◌, subst}
 use Rattle.std.specs.Prelude.{int_lt, ◌&&◌, if◌then◌else◌}
 use Rattle.ghost_xform.specs.GhostTime.{ghost_of}
 use Rattle.lk_base.specs.declared.endpoint.Endpoint.{Endpoint}

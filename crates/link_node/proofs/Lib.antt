@@ -38,3 +38,4 @@ pub mod QuantumLemmas
 pub mod OnGateLemmas
 pub mod QuietLemmas
 pub mod EndedLemmas
+pub mod HeldLemmas

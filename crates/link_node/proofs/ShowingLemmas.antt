@@ -40,7 +40,7 @@ shown-shows m =
     (λ _ _. refl)
     refl
 
-step-shows : (m : Machine) (e : EventValue) → (step_of m e).published.timeline ≡ (step_of m e).client
+pub step-shows : (m : Machine) (e : EventValue) → (step_of m e).published.timeline ≡ (step_of m e).client
 unfolding step_of
 step-shows m e = shown-shows (before_shown e m)
 

@@ -113,7 +113,7 @@ left_by kept now some none = grind (arith, nat_tests)
 not_left_by_none : (kept now : ℕ) → kept ≡ 0 → (nat_lt 0 kept && (now == 0)) ≡ false
 not_left_by_none kept now none = grind (arith, nat_tests)
 
-not_left_by_some : (kept now : ℕ) → 0 < now → (nat_lt 0 kept && (now == 0)) ≡ false
+pub not_left_by_some : (kept now : ℕ) → 0 < now → (nat_lt 0 kept && (now == 0)) ≡ false
 not_left_by_some kept now some = grind (arith, nat_tests)
 
 pub founds : (m : Machine) (e : EventValue) → 0 < m.peers → (step_of m e).peers ≡ 0 → IsFounded m (step_of m e)

@@ -28,6 +28,10 @@ abbrev pub IsTakenIn : Machine → NodeId → Timeline → Type 0
 IsTakenIn m session tl =
     (taking : Taking) × Has (m.sessions.current ∷ m.sessions.others) taking × (taking.session ≡ session) × Has (taking.first ∷ taking.later) tl
 
+-- the timelines that the current session has taken
+abbrev pub taken_in : Machine → List Timeline
+taken_in m = m.sessions.current.first ∷ m.sessions.current.later
+
 -- what the current session is given by a commit
 abbrev pub given_of : Option Timeline → Machine → List (NodeId × Timeline)
 given_of None m = []

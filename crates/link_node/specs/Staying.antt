@@ -9,7 +9,7 @@ use Rattle.peer_gateway.specs.Answers.{seen_of}
 use Rattle.peer_gateway.specs.Happenings.{Has}
 use Rattle.peer_gateway.specs.declared.row.Seen.TheVariants as seen
 use Rattle.session_choice.specs.History.{Taking}
-use Rattle.client_state.specs.Timelines.{session_from_client_of, zero_time_of}
+use Rattle.client_state.specs.Timelines.{session_from_client_of, Follows}
 use Rattle.client_state.specs.declared.commit.Commit.{Commit}
 use Rattle.client_state.specs.declared.state.State.{State}
 use Rattle.link_node.specs.Arrival.{is_heard}
@@ -38,9 +38,8 @@ abbrev pub IsKnownIn : Machine → NodeId → Type 0
 IsKnownIn m session = (taking : Taking) × Has (m.sessions.current ∷ m.sessions.others) taking × (taking.session ≡ session)
 
 -- Rule: A client has its session's tempo, and its time origin is the host time of the session's beat 0.
-pub record IsFollowing (m : Machine) : Type 0 where
-  pub tempo : m.client.mpb ≡ (timeline_in m).mpb
-  pub time : m.client.time ≡ zero_time_of (timeline_in m) (offset_in m)
+abbrev pub IsFollowing : Machine → Type 0
+IsFollowing m = Follows (timeline_in m) m.client (offset_in m)
 
 -- the state published last shows the client's timeline, which follows the first of greatest beat origin that the session has taken
 pub record ShowsBest (m : Machine) : Type 0 where

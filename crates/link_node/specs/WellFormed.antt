@@ -1,5 +1,5 @@
 -- What always holds of a node.
-use Rattle.std.specs.Prelude.{◌≡◌, ◌≤◌, Bool, true, false, List, [], ◌∷◌, length, map, IsSome, IfSome, IsTrue, is_some}
+use Rattle.std.specs.Prelude.{◌≡◌, ◌≤◌, Bool, true, false, List, ◌∷◌, length, map, IsSome, IfSome, IsTrue, is_some}
 use Rattle.std.specs.List.{AllByRecursion}
 use Rattle.lk_base.specs.IdOrder.{same_id}
 use Rattle.lk_base.specs.Ranges.{IsWithinLimit, IsMoment, IsQuantum}

@@ -43,5 +43,6 @@ pub use sends::{Sending, Sends};
 pub use staying::{
     clients_follow_sessions, commits_count, heard_timelines_are_taken, offsets_are_measured,
     quanta_are_committed, sessions_are_left_for_winners, spent_origins_only_count,
-    starts_are_brought, states_are_published, timelines_stay, who_is_left_founds,
+    starts_are_brought, states_are_published, timelines_stay, told_timelines_are_held,
+    who_is_left_founds,
 };

@@ -1,6 +1,6 @@
 //! What a step keeps and what it leads to: laws for what stands above. To call one is to know it.
 
-ghost use Rattle.std.specs.Prelude.{◌≡◌, ◌<◌, ◌<ℤ◌, ◌⊎◌, ℤ, List, Some, length, false};
+ghost use Rattle.std.specs.Prelude.{◌≡◌, ◌<◌, ◌<ℤ◌, ◌≤ℤ◌, ◌⊎◌, ℤ, List, Some, length, false};
 ghost use Rattle.lk_base.specs.Ranges.{IsMoment};
 ghost use Rattle.lk_base.specs.declared.ids.NodeId.{NodeId};
 ghost use Rattle.lk_base.specs.declared.timeline.Timeline.{Timeline};
@@ -8,7 +8,7 @@ ghost use Rattle.asdp_messages.specs.declared.message.StateMsg.{StateMsg};
 ghost use Rattle.timeline_math.specs.Tidying.{tidy_of};
 ghost use Rattle.peer_gateway.specs.Happenings.{Has};
 ghost use Rattle.session_choice.specs.Winning.{Wins};
-ghost use Rattle.link_node.specs.Brought.{IsTakenIn, committed_by};
+ghost use Rattle.link_node.specs.Brought.{IsTakenIn, committed_by, taken_in};
 ghost use Rattle.link_node.specs.Config.{ConfigValue};
 ghost use Rattle.link_node.specs.Event.{EventValue};
 ghost use Rattle.link_node.specs.Machine.{Machine, session_in, timeline_in, offset_in};
@@ -46,11 +46,15 @@ pub fn states_are_published()
         → last_of m.published (published_by m es) ≡ (machine_after m es).published }
 {}
 
-/// Each timeline that a session has taken it keeps, until it is forgotten or the node founds a session.
+/// Each timeline that a session has taken it keeps, until it is forgotten or the node founds a session; so does the current
+/// one while the node stays in it.
 pub fn timelines_stay()
-    ensures { (m : Machine) (e : EventValue) (session : NodeId) (tl : Timeline) → IsMachine m
+    ensures known { (m : Machine) (e : EventValue) (session : NodeId) (tl : Timeline) → IsMachine m
         → (step_of m e).drawn ≡ m.drawn → IsTakenIn m session tl → IsKnownIn (step_of m e) session
         → IsTakenIn (step_of m e) session tl }
+    ensures current { (m : Machine) (e : EventValue) (tl : Timeline) → IsMachine m → IsMachine (step_of m e)
+        → (step_of m e).drawn ≡ m.drawn → session_in (step_of m e) ≡ session_in m
+        → Has (taken_in m) tl → Has (taken_in (step_of m e)) tl }
 {}
 
 /// A node leaves its session for one that wins over it, by the offset that was measured, or for one that it founds.
@@ -68,6 +72,7 @@ pub fn sessions_are_left_for_winners()
 pub fn clients_follow_sessions()
     ensures opening { (config : ConfigValue) (now : ℤ) → IsMoment now → IsFollowing (opened config now) }
     ensures step { (m : Machine) (e : EventValue) → IsFollowing m → IsFollowing (step_of m e) }
+    ensures shown { (m : Machine) (e : EventValue) → (step_of m e).published.timeline ≡ (step_of m e).client }
     ensures run { (config : ConfigValue) (now : ℤ) (es : List EventValue) → IsMoment now → ShowsBest (replayed config now es) }
 {
     // A law, for the proof: a timeline that isn't above the best one leaves it the best.
@@ -84,6 +89,20 @@ pub fn heard_timelines_are_taken()
         → IsTakenIn (step_of m e) msg.fields.session (tidy_of msg.fields.timeline)
         × Has (step_of m e).waiting msg.fields.session }
 {}
+
+/// Who hears its own session told, and has room for the peer's row, stays in that session, has taken the timeline told, and
+/// holds one whose beat origin is at least the one told.
+pub fn told_timelines_are_held()
+    ensures stays { (m : Machine) (e : EventValue) (msg : StateMsg) → Hears m e msg → msg.fields.session ≡ session_in m
+        → ((step_of m e).drawn ≡ m.drawn) × (session_in (step_of m e) ≡ session_in m) }
+    ensures taken { (m : Machine) (e : EventValue) (msg : StateMsg) → Hears m e msg → msg.fields.session ≡ session_in m
+        → Has (taken_in (step_of m e)) (tidy_of msg.fields.timeline) }
+    ensures held { (m : Machine) (e : EventValue) (msg : StateMsg) → Hears m e msg → msg.fields.session ≡ session_in m
+        → (tidy_of msg.fields.timeline).beat ≤ℤ (timeline_in (step_of m e)).beat }
+{
+    // A law, for the proof: the timeline that counts is the first of greatest beat origin.
+    one_best();
+}
 
 /// Each start that the current session has taken after a step, it had taken before, or the event is a message that tells
 /// it in that session, or with sync a commit whose start's image it is.

@@ -14,7 +14,7 @@ le_refl a = omega (arith, ints)
 lt_le : (a b : ℤ) → a <ℤ b → a ≤ℤ b
 lt_le a b p = omega (arith, ints)
 
-le_both : (a b : ℤ) → a ≤ℤ b → b ≤ℤ a → a ≡ b
+pub le_both : (a b : ℤ) → a ≤ℤ b → b ≤ℤ a → a ≡ b
 le_both a b p q = omega (arith, ints)
 
 pub best_there : (list : List Timeline) (best : Timeline) → IsBest list best → Has list best

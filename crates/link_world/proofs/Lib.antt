@@ -7,4 +7,5 @@ pub mod LowerLaws
 pub mod StepLemmas
 pub mod SaidLemmas
 pub mod OriginLemmas
+pub mod RoundLemmas
 pub mod WorldLemmas

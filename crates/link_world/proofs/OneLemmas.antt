@@ -14,7 +14,7 @@ same_event turn before m n e f one other = some_same e f (sym one.brought ∙ ot
 same_stepped : (turn : TurnValue) (before : WorldValue) (m n : Machine) (e f : EventValue) → m ≡ n → e ≡ f → stepped turn before m e ≡ stepped turn before n f
 same_stepped turn before m n e f p q = ap (λ (k : Machine). stepped turn before k e) p ∙ ap (λ (g : EventValue). stepped turn before n g) q
 
-one_turn : (turn : TurnValue) (before a b : WorldValue) → Happens turn before a → Happens turn before b → a ≡ b
+pub one_turn : (turn : TurnValue) (before a b : WorldValue) → Happens turn before a → Happens turn before b → a ≡ b
 one_turn turn before a b (inl one) (inl other) =
     one.after_is
     ∙ same_stepped turn before one.machine other.machine one.event other.event

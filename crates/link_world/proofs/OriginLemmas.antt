@@ -29,6 +29,7 @@ use Rattle.link_node.specs.Event.{EventValue, Rx, Tick, App, Audio, End, Fits, S
 use Rattle.link_node.specs.Machine.{Machine, still, session_in, timeline_in, offset_in}
 use Rattle.link_node.specs.Opening.{opened}
 use Rattle.link_node.specs.Settling.{is_left, id_drawn, founding_timeline_in}
+use Rattle.link_node.specs.Staying.{ShowsBest}
 use Rattle.link_node.specs.Step.{at_moment, taken, before_broadcast, step_of, sends_of}
 use Rattle.link_node.specs.Telling.{fields_in}
 use Rattle.link_node.specs.WellFormed.{IsMachine}
@@ -51,6 +52,7 @@ pub record IsSound (Made : NodeId → Timeline → Type 0) (m : Machine) : Type 
   pub id : IsStoredId m.id
   pub group : m.config.group < 2 ^ 16
   pub gates : AllByRecursion IsStoredGate m.config.gates
+  pub shows : ShowsBest m
   pub taken : (session : NodeId) (tl : Timeline) → IsTakenIn m session tl → IsFrom Made session tl
 
 pub record AreSound (Made : NodeId → Timeline → Type 0) (world : WorldValue) : Type 0 where
@@ -120,6 +122,7 @@ sound_step laws Made m e sound fits makes brings = record {
   id = id_stored laws m e sound.id;
   group = subst (λ (config : ConfigValue). config.group < 2 ^ 16) (sym (laws.config m e)) sound.group;
   gates = subst (λ (config : ConfigValue). AllByRecursion IsStoredGate config.gates) (sym (laws.config m e)) sound.gates;
+  shows = record { following = laws.follows m e sound.shows.following; shown = laws.shown m e };
   taken = λ session tl took.
       elim (laws.brought m e session tl took) as (λ _. IsFrom Made session tl) [
         | inl old ↦ sound.taken session tl old
@@ -302,6 +305,7 @@ sound_opened laws Made config now is stored moment made =
       id = stored.id;
       group = stored.group;
       gates = stored.gates;
+      shows = laws.opening_shows config now moment;
       taken = λ session tl took. begun_from Made config.id (opened_with config).1 took.0 session tl (stored.id, made) took.1 took.2 took.3;
     }
 

@@ -1,24 +1,23 @@
 -- What holds of the peers of a world, whatever the network did.
-use Rattle.std.specs.Prelude.{◌≡◌, ℕ, ℤ, ◌↔◌, ◌≤ℤ◌, List, ◌∷◌, Some, slice_get}
+use Rattle.std.specs.Prelude.{◌≡◌, ℕ, ℤ, ◌↔◌, ◌≤ℤ◌, ◌+ℤ◌, ◌-ℤ◌, List, Some, slice_get}
 use Rattle.lk_base.specs.declared.ids.NodeId.{NodeId}
 use Rattle.lk_base.specs.declared.timeline.Timeline.{Timeline}
 use Rattle.asdp_messages.specs.Reading.{reading_of}
 use Rattle.peer_gateway.specs.Happenings.{Has}
 use Rattle.session_choice.specs.Best.{IsBest}
-use Rattle.link_node.specs.Brought.{IsTakenIn, TellsTimeline}
+use Rattle.timeline_math.specs.Clicks.{clicks_at, is_accented}
+use Rattle.client_state.specs.Timelines.{IsInReachOf}
+use Rattle.link_node.specs.Brought.{IsTakenIn, TellsTimeline, taken_in}
 use Rattle.link_node.specs.Config.{ConfigValue}
 use Rattle.link_node.specs.Event.{SendingValue}
-use Rattle.link_node.specs.Machine.{Machine, session_in, timeline_in}
+use Rattle.link_node.specs.Machine.{Machine, session_in, timeline_in, offset_in}
 use Rattle.link_world.specs.Made.{IsMade}
-use Rattle.link_world.specs.World.{WorldValue, TurnValue}
+use Rattle.link_world.specs.Round.{HearsTold}
+use Rattle.link_world.specs.World.{WorldValue, TurnValue, opened_world}
 
 -- one of the peers
 abbrev pub IsPeer : WorldValue → Machine → Type 0
 IsPeer world machine = (k : ℕ) × (slice_get world.machines k ≡ Some machine)
-
--- the timelines that the peer's current session has taken there
-abbrev pub held_in : Machine → List Timeline
-held_in machine = machine.sessions.current.first ∷ machine.sessions.current.later
 
 -- different timelines among these have different beat origins
 abbrev pub HaveOwnOrigins : (Timeline → Type 0) → Type 0
@@ -33,7 +32,7 @@ pub record HasOrigins (configs : List ConfigValue) (now : ℤ) (turns : List Tur
   pub told : (sending : SendingValue) → Has world.sent sending → (session : NodeId) (tl : Timeline)
       → TellsTimeline (reading_of sending.bytes) session tl → IsMade configs now turns session tl
   -- and what counts for a peer is the first of greatest beat origin that its session has taken
-  pub best : (machine : Machine) → IsPeer world machine → IsBest (held_in machine) (timeline_in machine)
+  pub best : (machine : Machine) → IsPeer world machine → IsBest (taken_in machine) (timeline_in machine)
 
 -- ---- agreement
 
@@ -43,7 +42,7 @@ pub record HasOrigins (configs : List ConfigValue) (now : ℤ) (turns : List Tur
 abbrev pub Agrees : WorldValue → Type 0
 Agrees world =
     (one other : Machine) → IsPeer world one → IsPeer world other → session_in one ≡ session_in other
-    → ((tl : Timeline) → Has (held_in one) tl ↔ Has (held_in other) tl) → HaveOwnOrigins (Has (held_in one))
+    → ((tl : Timeline) → Has (taken_in one) tl ↔ Has (taken_in other) tl) → HaveOwnOrigins (Has (taken_in one))
     → timeline_in one ≡ timeline_in other
 
 -- ---- convergence
@@ -53,7 +52,36 @@ Agrees world =
 abbrev pub Converges : List ConfigValue → ℤ → List TurnValue → WorldValue → Type 0
 Converges configs now turns world =
     (machine : Machine) → IsPeer world machine
-    → ((tl : Timeline) → IsMade configs now turns (session_in machine) tl → Has (held_in machine) tl)
+    → ((tl : Timeline) → IsMade configs now turns (session_in machine) tl → Has (taken_in machine) tl)
     → HaveOwnOrigins (IsMade configs now turns (session_in machine))
     → IsMade configs now turns (session_in machine) (timeline_in machine)
     × ((tl : Timeline) → IsMade configs now turns (session_in machine) tl → tl.beat ≤ℤ (timeline_in machine).beat)
+
+-- Who has heard once, in its session, the timeline of greatest beat origin that was made for that session, and has stayed there, holds it,
+-- where different ones have different beat origins.
+abbrev pub OneRoundSuffices : List ConfigValue → ℤ → List TurnValue → WorldValue → Type 0
+OneRoundSuffices configs now turns world =
+    (k : ℕ) (machine : Machine) (tl : Timeline) → slice_get world.machines k ≡ Some machine
+    → HearsTold k (session_in machine) tl (opened_world configs now) turns
+    → HaveOwnOrigins (IsMade configs now turns (session_in machine))
+    → ((other : Timeline) → IsMade configs now turns (session_in machine) other → other.beat ≤ℤ tl.beat)
+    → timeline_in machine ≡ tl
+
+-- ---- clicks
+
+-- Two peers that hold the same timeline show timelines with the same clicks and accents in ghost time: where a host time of the one clicks,
+-- so does the host time of the other that has the same ghost time, where nothing is clipped.
+abbrev pub ClickTogether : WorldValue → Type 0
+ClickTogether world =
+    (one other : Machine) → IsPeer world one → IsPeer world other → timeline_in one ≡ timeline_in other
+    → (time quantum : ℤ) → IsInReachOf (timeline_in one) one.published.timeline (offset_in one) time
+    → IsInReachOf (timeline_in other) other.published.timeline (offset_in other) (time +ℤ offset_in one -ℤ offset_in other)
+    → (clicks_at one.published.timeline time ≡ clicks_at other.published.timeline (time +ℤ offset_in one -ℤ offset_in other))
+    × (is_accented one.published.timeline quantum time ≡ is_accented other.published.timeline quantum (time +ℤ offset_in one -ℤ offset_in other))
+
+-- ---- for proofs alone
+
+pub record IsSoundWorld (configs : List ConfigValue) (now : ℤ) (turns : List TurnValue) (world : WorldValue) : Type 0 where
+  pub origin : HasOrigins configs now turns world
+  pub round : OneRoundSuffices configs now turns world
+  pub clicks : ClickTogether world

@@ -9,6 +9,6 @@ mod stored;
 mod turn;
 mod world;
 
-pub use laws::one_world;
+pub use laws::{one_beat_clicks_nearly_at_once, one_world};
 pub use turn::Turn;
 pub use world::World;

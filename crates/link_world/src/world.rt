@@ -8,7 +8,7 @@ ghost use Rattle.link_node.specs.Event.{sending_value};
 ghost use Rattle.link_world.specs.Standing.{AreStanding};
 ghost use Rattle.link_world.specs.World.{opened_world};
 
-use crate::laws::{the_same_agree, timelines_have_origins, who_took_all_converges};
+use crate::laws::{the_same_agree, who_took_all_converges, worlds_are_sound};
 use crate::peer::Peer;
 use crate::stored::configs_are_stored;
 use crate::turn::Turn;
@@ -50,7 +50,7 @@ impl World {
         ensures peers { IfOk result (λ world. peers_in world ≡ length configs.now) }
     {
         // Laws, for the proof.
-        timelines_have_origins();
+        worlds_are_sound();
         the_same_agree();
         who_took_all_converges();
         configs_are_stored(configs);

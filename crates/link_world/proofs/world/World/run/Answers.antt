@@ -18,14 +18,16 @@ returns-clause-run c =
     let are = all_mapped IsConfig config_value configs (recursion_from_All (λ (config : Config). IsConfig (config_value config)) configs c.requires.configs) in
     IfOk-weaker c.after.result (λ (world : World). (w : WorldValue) × IsWorldOf values c.args.now turns w × StandsForWorld world w) (IsRun values c.args.now turns)
     (λ world s.
-    let origin = c.timelines_have_origins.ensures values c.args.now turns s.0 are c.configs_are_stored.ensures c.requires.moment s.1 in
+    let sound = c.worlds_are_sound.ensures values c.args.now turns s.0 are c.configs_are_stored.ensures c.requires.moment s.1 in
     record {
       value = s.0;
       after = s.1;
       stands = s.2;
-      origin = origin;
+      origin = sound.origin;
       agreement = c.the_same_agree.ensures s.0;
-      convergence = c.who_took_all_converges.ensures values c.args.now turns s.0 origin;
+      convergence = c.who_took_all_converges.ensures values c.args.now turns s.0 sound.origin;
+      round = sound.round;
+      clicks = sound.clicks;
     })
     (subst (λ (n : ℤ). IfOk c.after.result (λ (world : World). (w : WorldValue) × IsWorldOf values n turns w × StandsForWorld world w))
     (to_z-of_z w64 c.args.now c.ranges.now) c.after.ensures.stands)
