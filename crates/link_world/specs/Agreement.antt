@@ -57,8 +57,8 @@ Converges configs now turns world =
     → IsMade configs now turns (session_in machine) (timeline_in machine)
     × ((tl : Timeline) → IsMade configs now turns (session_in machine) tl → tl.beat ≤ℤ (timeline_in machine).beat)
 
--- Who has heard once, in its session, the timeline of greatest beat origin that was made for that session, and has stayed there, holds it,
--- where different ones have different beat origins.
+-- Rule: A peer that hears once, in its session, the greatest timeline made for that session, and stays there, holds that timeline.
+-- Different timelines made for the session have different beat origins.
 abbrev pub OneRoundSuffices : List ConfigValue → ℤ → List TurnValue → WorldValue → Type 0
 OneRoundSuffices configs now turns world =
     (k : ℕ) (machine : Machine) (tl : Timeline) → slice_get world.machines k ≡ Some machine
@@ -69,8 +69,8 @@ OneRoundSuffices configs now turns world =
 
 -- ---- clicks
 
--- Two peers that hold the same timeline show timelines with the same clicks and accents in ghost time: where a host time of the one clicks,
--- so does the host time of the other that has the same ghost time, where nothing is clipped.
+-- Rule: Two peers that hold the same timeline click in the same microseconds of ghost time, with the same accents.
+-- A host time of the one clicks where the host time of the other that has the same ghost time does, where nothing is clipped.
 abbrev pub ClickTogether : WorldValue → Type 0
 ClickTogether world =
     (one other : Machine) → IsPeer world one → IsPeer world other → timeline_in one ≡ timeline_in other

@@ -39,7 +39,7 @@ clicks_from tl q time (suc n) =
 abbrev pub clicks_of : Timeline → Block → ℤ → List Click
 clicks_of tl block q = clicks_from tl q block.start (unsigned_abs block.length)
 
--- the k-th whole beat past the origin is passed: it is ahead a microsecond before, and not any more
+-- Rule: A whole beat is passed in the one microsecond before which it is ahead and at which it isn't any more.
 abbrev pub PassesBeat : Timeline → ℤ → ℤ → Type 0
 PassesBeat tl k time = (since tl (time -ℤ pos 1) <ℤ (k *ℤ pos 1_000_000)) × ((k *ℤ pos 1_000_000) ≤ℤ since tl time)
 
