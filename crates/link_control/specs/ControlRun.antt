@@ -93,7 +93,7 @@ pub record HasNoAudio (report : ReportValue) : Type 0 where
 
 -- Rule: A run under control is recorded, published and sent as a live run is, however it ends.
 -- A run under control sends and publishes what replay gives for its journal, its events in the one order taken; however the threads step,
--- every capture is one whole published state, never older than one already told of; the client's commits stand in the journal once and in
+-- every capture is one whole published state, never older than one captured before; the client's commits stand in the journal once and in
 -- order, and its lines are answered by what was captured and committed for them.
 pub record IsControlRun (setup : ControlSetup) (late : Option ℤ) (ended : Served) (failed full : Bool) (port port_then : Option PortContents) (gates : List Endpoint) (talk talk_then : TalkSeen) (report : ReportValue) (log : List LineLog) : Type 0 where
   pub recorded : IsRecorded setup.config setup.events late failed full port port_then gates report

@@ -35,7 +35,7 @@ act_commits start pair made (act ∷ acts) =
     let commit = commit_of_act act start (capture_of audio_taken made pair) in
     commit ∷ act_commits start pair (made ++ commit ∷ []) acts
 
--- Rule: A block's commands are committed after it was played, as of its start and in the order of the script.
+-- Rule: The commands of a block that was played are committed as of its start, in the order of the script.
 -- the commits that are made in the block of this number, where these were made before
 unfoldable pub block_commits : List BlockCommand → List Commit → ℕ → BlockRead → List Commit
 block_commits commands made number read = act_commits read.block.start read.pair made (acts_in number commands)
@@ -107,7 +107,7 @@ pub record IsAudioRun (most : ℕ) (commands : List BlockCommand) (before after 
   pub fresh : AreFresh before.seen (played ++ unplayed)
   pub never_falls : NumbersNeverFall before.seen → NumbersNeverFall after.seen
   pub reads_are : reads ≡ blocks_captures commands before.made 1 (played ++ unplayed)
-  -- what was played, and what was committed once it was
+  -- what was played, and what was committed for the blocks played
   pub plays_are : plays ≡ clicks_of_blocks reads played
   pub commits_are : commits ≡ blocks_commits commands before.made 1 played
   pub made : after.made ≡ before.made ++ commits

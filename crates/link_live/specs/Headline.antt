@@ -142,8 +142,9 @@ pub record IsScriptPart (setup : LiveSetup) (captured full : Bool) (late : Optio
 -- ---- the whole
 
 -- A live run sends and publishes what replay gives for its journal, its events in the one order taken; however the threads step, every
--- audio read and every capture is one whole published state, never older than one already read or told of; application commits stand in
--- the journal once and in order, audio commits by rising number; each session's timeline is the first of greatest beat origin taken.
+-- audio read and every capture is one whole published state, never older than one that the same thread read before; application commits
+-- stand in the journal once and in order, audio commits by rising number; each session's timeline is the first of greatest beat origin
+-- taken. What a reader was told of otherwise is the cells' and the link's promise: in a run it is told of its own reads alone.
 pub record IsLiveRun (setup : LiveSetup) (late : Option ℤ) (course : Course) (port port_then : Option PortContents) (gates : List Endpoint) (audio audio_then : Option AudioContents) (report : ReportValue) : Type 0 where
   pub recorded : IsRecorded setup.config setup.events late course.failed course.full port port_then gates report
   pub played : IsAudioPart setup course.played course.full audio audio_then report
