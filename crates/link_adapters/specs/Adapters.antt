@@ -1,11 +1,12 @@
 -- What the answers of the adapters say of the clock, the reader and the writer behind them. The standard library tells of a reader's and a
 -- writer's bytes where they are known.
-use Rattle.std.specs.Prelude.{◌≡◌, ℕ, ℤ, pos, ◌+ℤ◌, ◌≤ℤ◌, ◌<ℤ◌, ◌^◌, ◌-◌, ◌/◌, min, List, [], ◌∷◌, ◌++◌, take, codes, if◌then◌else◌, Option, None, Some, IsSome}
+use Rattle.std.specs.Prelude.{◌≡◌, ℕ, zero, suc, ℤ, pos, ◌+ℤ◌, ◌≤ℤ◌, ◌<ℤ◌, ◌^◌, ◌-◌, ◌/◌, min, List, [], ◌∷◌, ◌++◌, take, codes, if◌then◌else◌, Option, None, Some, Ok, Err, IsSome}
 use Rattle.std.specs.Fmt.{signed_decimal}
 use Rattle.std.specs.List.{flat_map}
 use Rattle.std.specs.Io.KnownBytes.{Appends, Consumes, IsAtEnd, Keeps}
 use Rattle.std.specs.Time.{instant_nanos}
 use Rattle.std.specs.declared.io.Error.{Error}
+use Rattle.std.specs.declared.result.Result.{Result}
 use Rattle.std.specs.declared.time.Instant.{Instant}
 use Rattle.lk_base.specs.Ranges.{IsMoment}
 use Rattle.lk_base.specs.declared.block.Click.{Click}
@@ -19,6 +20,18 @@ use Rattle.lk_outside.specs.declared.source.Taken.{Taken}
 use Rattle.lk_outside.specs.declared.source.Taken.TheVariants as taken
 
 -- ---- the streams
+
+-- what a read says: nothing that was read is the end, and an error is a failure
+abbrev pub got_at : Result ℕ Error → Taken
+got_at (Ok zero) = taken.End
+got_at (Ok (suc n)) = taken.Got (suc n)
+got_at (Err error) = taken.Failed
+
+-- what a write says: nothing that was written is a failure, and so is an error
+abbrev pub put_at : Result ℕ Error → Put
+put_at (Ok zero) = put.Failed
+put_at (Ok (suc n)) = put.Took (suc n)
+put_at (Err error) = put.Failed
 
 -- The bytes got are those that the reader had next, in order. At the end nothing was left. A failure takes nothing.
 abbrev pub IsReadFrom : Option (List ℕ) → Option (List ℕ) → List ℕ → Taken → Type 0

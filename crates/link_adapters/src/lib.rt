@@ -2,8 +2,8 @@
 //! outside. To these traits they tell nothing of contents; what each makes of its reader, its writer or its own fields is a clause of its
 //! own.
 //!
-//! In reading order: `behind_name`, `std_source`, `std_sink`; `host_clock`, which the devices share, `clock_pace`, `click_audio`;
-//! `counted` and `about` (what is told of a run), `udp_port`, `tcp_talk`.
+//! In reading order: `behind_name`, `stream` (what a read and a write say), `std_source`, `std_sink`; `host_clock`, which the devices
+//! share, `clock_pace`, `click_audio`; `counted` and `about` (what is told of a run), `udp_port`, `tcp_talk`.
 #![tactic(auto)]
 
 mod about;
@@ -14,6 +14,7 @@ mod counted;
 mod host_clock;
 mod std_sink;
 mod std_source;
+mod stream;
 mod tcp_talk;
 mod udp_port;
 
@@ -25,6 +26,7 @@ pub use counted::Counted;
 pub use host_clock::{HostClock, moment_of};
 pub use std_sink::StdSink;
 pub use std_source::StdSource;
+pub use stream::{got_of, put_of};
 pub use tcp_talk::TcpTalk;
 pub use udp_port::{
     RefusedSends, Taken, UdpPort, address_of, endpoint_of, posted_of, taken_of, waited_of,

@@ -5,6 +5,7 @@ ghost use Rattle.lk_outside.specs.Faults.{Rose};
 ghost use Rattle.lk_outside.specs.Sink.{Accepts, HasWriteCause};
 ghost use Rattle.link_adapters.specs.Adapters.{IsWrittenTo, KeepsWriteError};
 
+use crate::stream::put_of;
 use lk_outside::{Put, Sink};
 use std::io;
 use std::io::{ErrorKind, Write};
@@ -65,16 +66,13 @@ impl<W: Write + Drop> Sink for StdSink<W> {
         // The error of a write that failed is kept.
         ensures last { KeepsWriteError self.old.last self.new.last result }
     {
-        match self.inner.write(bytes) {
-            Ok(count) if count > 0 => Put::Took(count),
-            Ok(_) => {
-                self.fail(io::Error::from(ErrorKind::WriteZero));
-                Put::Failed
-            }
-            Err(error) => {
-                self.fail(error);
-                Put::Failed
-            }
+        let written = self.inner.write(bytes);
+        let put = put_of(written);
+        match written {
+            Ok(0) => self.fail(io::Error::from(ErrorKind::WriteZero)),
+            Ok(_) => {}
+            Err(error) => self.fail(error),
         }
+        put
     }
 }

@@ -4,6 +4,7 @@ ghost use Rattle.std.specs.Prelude.{◌≡◌, ◌<◌, length, None};
 ghost use Rattle.lk_outside.specs.Source.{Gives, KeepsRest, HasReadCause};
 ghost use Rattle.link_adapters.specs.Adapters.{IsReadFrom, KeepsReadError};
 
+use crate::stream::got_of;
 use lk_outside::{Source, Taken};
 use std::io;
 use std::io::Read;
@@ -55,14 +56,12 @@ impl<R: Read + Drop> Source for StdSource<R> {
         // The error of a read that failed is kept.
         ensures last { KeepsReadError self.old.last self.new.last result }
     {
-        match self.inner.read(buf) {
-            Ok(0) => Taken::End,
-            Ok(count) => Taken::Got(count),
-            Err(error) => {
-                self.faults = self.faults.saturating_add(1);
-                self.last = Some(error);
-                Taken::Failed
-            }
+        let read = self.inner.read(buf);
+        let taken = got_of(read);
+        if let Err(error) = read {
+            self.faults = self.faults.saturating_add(1);
+            self.last = Some(error);
         }
+        taken
     }
 }

@@ -10,6 +10,7 @@ ghost use Rattle.lk_outside.specs.Talk.{Opens};
 ghost use Rattle.link_adapters.specs.Adapters.{IsReadFrom, IsWrittenTo, known_of};
 
 use crate::address_of;
+use crate::stream::{got_of, put_of};
 use lk_base::Endpoint;
 use lk_outside::{Bound, Put, Taken, Talk};
 use std::io;
@@ -177,19 +178,18 @@ impl<R: Net + Wait + Eprint + Copy + Drop> Talk for TcpTalk<R> {
         ensures client { IsReadFrom (known_of R.Stream.remaining self.old.client) (known_of R.Stream.remaining self.new.client)
             buf.new result }
     {
-        match self.hear(buf) {
-            Ok(0) => {
-                self.tell_ended();
-                Taken::End
-            }
-            Ok(count) => Taken::Got(count),
+        let heard = self.hear(buf);
+        let taken = got_of(heard);
+        match heard {
+            Ok(0) => self.tell_ended(),
+            Ok(_) => {}
             Err(error) => {
                 self.faults = self.faults.saturating_add(1);
                 let rt = &self.rt;
                 let _printed = eprintln!(rt; "jorazhil: hearing the client failed: {error}");
-                Taken::Failed
             }
         }
+        taken
     }
 
     // Waits: while the system has no room for more. Memory: none.
@@ -204,15 +204,14 @@ impl<R: Net + Wait + Eprint + Copy + Drop> Talk for TcpTalk<R> {
         ensures client { IsWrittenTo (known_of R.Stream.contents self.old.client) (known_of R.Stream.contents self.new.client)
             bytes.now result }
     {
-        match self.say(bytes) {
-            Ok(count) => Put::Took(count),
-            Err(error) => {
-                self.faults = self.faults.saturating_add(1);
-                let rt = &self.rt;
-                let _printed = eprintln!(rt; "jorazhil: answering the client failed: {error}");
-                Put::Failed
-            }
+        let said = self.say(bytes);
+        let put = put_of(said);
+        if let Err(error) = said {
+            self.faults = self.faults.saturating_add(1);
+            let rt = &self.rt;
+            let _printed = eprintln!(rt; "jorazhil: answering the client failed: {error}");
         }
+        put
     }
 }
 
