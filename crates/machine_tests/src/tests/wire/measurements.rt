@@ -5,7 +5,7 @@ ghost use Rattle.lk_base.specs.Ranges.{IsMoment, IsWithinLimit};
 use crate::tests::expect;
 use link_payload::{PingFields, PongFields};
 use lk_base::{Endpoint, Gate, LIMIT, MOMENT_MAX, NodeId, Target};
-use ping_measure::{Measure, MeasureFault, Outcome};
+use ping_measure::{Measure, MeasureFault, Outcome, answer_ping};
 use std::process::Abort;
 
 const HERE: Endpoint = Endpoint {
@@ -303,5 +303,34 @@ fn an_honest_peer_is_measured_within_half_of_the_longest_delay(rt: HostRuntime) 
         let longest = 37 * seed + 1;
         let found = measured(seed, ahead, longest).map(|told| is_near(told, ahead, longest));
         expect(&rt, &seed, &found, &Some(true));
+    }
+}
+
+// A payload, and its pong in the session QRSTUVWX at the ghost time 250, if it has one: the session, that time, and the payload.
+const ANSWERS: &[(&[u8], Option<&[u8]>)] = &[
+    (
+        b"__ht\0\0\0\x08\0\0\0\0\0\0\x03\xe8",
+        Some(
+            b"_link_v\x01\x02sess\0\0\0\x08QRSTUVWX__gt\0\0\0\x08\0\0\0\0\0\0\0\xfa\
+__ht\0\0\0\x08\0\0\0\0\0\0\x03\xe8",
+        ),
+    ),
+    (
+        &[7; 32],
+        Some(
+            b"_link_v\x01\x02sess\0\0\0\x08QRSTUVWX__gt\0\0\0\x08\0\0\0\0\0\0\0\xfa\
+\x07\x07\x07\x07\x07\x07\x07\x07\x07\x07\x07\x07\x07\x07\x07\x07\
+\x07\x07\x07\x07\x07\x07\x07\x07\x07\x07\x07\x07\x07\x07\x07\x07",
+        ),
+    ),
+    (&[7; 33], None),
+];
+
+#[test]
+fn a_ping_of_up_to_32_bytes_is_answered(rt: HostRuntime) {
+    for &(payload, pong) in ANSWERS {
+        let wire = answer_ping(payload, NodeId(*b"QRSTUVWX"), 250);
+        let found = wire.as_ref().map(|wire| wire.as_slice());
+        expect(&rt, &payload.len(), &found, &pong);
     }
 }

@@ -274,6 +274,49 @@ fn entries_stand_in_order_of_their_limits(rt: HostRuntime) -> Result<(), Fail> {
     Ok(())
 }
 
+const FIRST: NodeId = NodeId(*b"ABCDEFGH");
+
+const LATER: NodeId = NodeId(*b"QRSTUVWX");
+
+fn entry(limit: i64, gate: u8, id: NodeId) -> Expiry {
+    Expiry {
+        limit,
+        gate: Gate(gate),
+        id,
+    }
+}
+
+#[test]
+fn a_row_that_is_seen_again_moves_to_its_new_limit(rt: HostRuntime) -> Result<(), Fail> {
+    let mut peers = Peers::new(rt.alloc(), 2)?;
+    expect(
+        &rt,
+        &"first",
+        &peers.saw(Gate(0), FIRST, 5, FIRST, None, 0),
+        &Seen::New,
+    );
+    expect(
+        &rt,
+        &"later",
+        &peers.saw(Gate(1), LATER, 0, FIRST, None, 0),
+        &Seen::New,
+    );
+    let rows = [entry(1_000_000, 1, LATER), entry(6_000_000, 0, FIRST)];
+    expect(&rt, &"both", &peers.by_limit(), &rows.as_slice());
+    let found = peers.saw(Gate(1), LATER, 5, FIRST, None, 500_000);
+    expect(&rt, &"again", &found, &Seen::Known);
+    let rows = [entry(6_000_000, 0, FIRST), entry(6_500_000, 1, LATER)];
+    expect(&rt, &"moved", &peers.by_limit(), &rows.as_slice());
+    expect(&rt, &"ended", &peers.prune(6_000_000), &1);
+    expect(
+        &rt,
+        &"left",
+        &peers.by_limit(),
+        &[entry(6_500_000, 1, LATER)].as_slice(),
+    );
+    Ok(())
+}
+
 // A gate with the 128 ids from 0 on refuses the next, and knows each that it has.
 const FULL: &[Step] = &[
     Saw(0, 128, 5, 200, None, 0, Seen::TableFull),
