@@ -3,6 +3,7 @@
 mod answers;
 mod faults;
 mod moments;
+mod newer;
 mod node;
 mod run;
 mod session;

@@ -86,7 +86,7 @@ pub fn talk_of(
     talk.expect(rt, "memory for a talk")
 }
 
-fn open(rt: &impl Abort, talk: &mut ListTalk)
+pub fn open(rt: &impl Abort, talk: &mut ListTalk)
     ensures { IsSome (opened_of talk.new) }
 {
     assert!(rt; talk.listen(HERE) == Bound::Ready);
