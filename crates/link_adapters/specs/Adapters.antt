@@ -21,13 +21,13 @@ use Rattle.lk_outside.specs.declared.source.Taken.TheVariants as taken
 
 -- ---- the streams
 
--- what a read says: nothing that was read is the end, and an error is a failure
+-- Rule: A read of nothing is the end of a stream, and an error of a read is a failure.
 abbrev pub got_at : Result ℕ Error → Taken
 got_at (Ok zero) = taken.End
 got_at (Ok (suc n)) = taken.Got (suc n)
 got_at (Err error) = taken.Failed
 
--- what a write says: nothing that was written is a failure, and so is an error
+-- Rule: A write of nothing is a failure of a stream, and so is an error of a write.
 abbrev pub put_at : Result ℕ Error → Put
 put_at (Ok zero) = put.Failed
 put_at (Ok (suc n)) = put.Took (suc n)
@@ -76,7 +76,7 @@ IsMomentFrom moment now = IsMoment now × (moment ≤ℤ now)
 unfoldable pub click_line_of : Click → List ℕ
 click_line_of click = codes "click " ++ signed_decimal click.at ++ (if click.accent then codes " accent" else codes " plain") ++ 10 ∷ []
 
--- the lines of some clicks, in order
+-- Rule: Each click of a block is told by a line, in order.
 abbrev pub click_lines_of : List Click → List ℕ
 click_lines_of clicks = flat_map click_line_of clicks
 

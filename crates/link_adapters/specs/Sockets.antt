@@ -48,7 +48,7 @@ abbrev pub posted_at : Result ℕ Error → Posted
 posted_at (Ok count) = posted.Sent
 posted_at (Err error) = if is_among codes_of_gone (raw_os_error error) then posted.Failed else posted.Dropped
 
--- what a receive gave from an endpoint, if it gave it from one
+-- Rule: A datagram that is received is told with its sender and its length, up to 513 bytes.
 abbrev pub taken_from : ℕ → Option Endpoint → Taken
 taken_from count (Some from) = taken.Datagram from count
 taken_from count None = taken.Passed
@@ -73,7 +73,7 @@ waited_at (Err error) = if is_among codes_of_gone (raw_os_error error) then Err 
 abbrev pub locals_of : List GateSocket → List Endpoint
 locals_of gates = map (λ gate. gate.local) gates
 
--- nothing came until that time, at most until the last moment
+-- Rule: A port that is idle has waited until the time that it was asked for.
 abbrev pub IsFromTime : ℤ → Arrival → Type 0
 IsFromTime until (arrival.Datagram gate from bytes now) = Unit {0}
 IsFromTime until (arrival.Idle now) = int_min until (pos (2 ^ 55)) ≤ℤ now

@@ -30,7 +30,8 @@ unfoldable pub is_late : Pair → List Pair → Bool
 is_late new [] = false
 is_late new (pair ∷ pairs) = int_le new.sample (newest_of (pair ∷ pairs)).sample
 
--- the refusal of a new pair, if it is refused: those that would stay are the last 511
+-- Rule: A pair that isn't later is refused as late, else one that is far from a pair that would stay as far from the oldest such one.
+-- Those that would stay are the last 511.
 unfoldable pub fault_of : Pair → List Pair → Option FilterFault
 fault_of new pairs =
     if is_late new pairs then Some (NotLater (newest_of pairs).sample) else far_fault (first_far new (last 511 pairs))

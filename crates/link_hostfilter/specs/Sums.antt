@@ -17,7 +17,7 @@ square_of pair = pair.sample *ℤ pair.sample
 unfoldable pub product_of : Pair → ℤ
 product_of pair = pair.sample *ℤ pair.host
 
--- the sums are those of these pairs
+-- Rule: The filter's sums are those of the pairs kept, seen from the oldest.
 pub record AreSums (pairs : List Pair) (sums : Sums) : Type 0 where
   pub samples : sums.samples ≡ total sample_of pairs
   pub hosts : sums.hosts ≡ total host_of pairs

@@ -10,7 +10,7 @@ use Rattle.link_midi.specs.declared.message.MidiMessage.{MidiMessage}
 use Rattle.link_midi.specs.declared.message.MidiMessage.TheVariants.{Clock, Start, Continue, Stop, Position}
 use Rattle.link_midi.specs.declared.message.MidiEvent.{MidiEvent}
 
--- the state wants to run: it is playing, and the time is at or after its start
+-- Rule: A MIDI clock is to run while the state is playing and its start has come.
 unfoldable pub wants_at : State → ℤ → Bool
 wants_at state time = state.start.playing && int_le state.start.time time
 
@@ -65,10 +65,11 @@ running_from state running time (suc n) = running_from state (running_at state r
 abbrev pub span : ℤ → ℕ → Block
 span time n = record { start = time; length = pos n }
 
--- those of a block
+-- Rule: The MIDI events of a block are those of its microseconds, in order.
 abbrev pub events_of : State → Bool → Block → List MidiEvent
 events_of state running block = events_from state running block.start (unsigned_abs block.length)
 
+-- Rule: A MIDI clock runs on into the next block as it ran at the end of the one before.
 abbrev pub running_after : State → Bool → Block → Bool
 running_after state running block = running_from state running block.start (unsigned_abs block.length)
 

@@ -54,7 +54,7 @@ HasNextCause before now next.Failed = Rose before now
 
 -- ---- play
 
--- the clicks were appended to the plays
+-- Rule: A device plays the clicks of each block after those of the blocks before.
 pub record PlaysOne (clicks : List Click) (before after : AudioContents) : Type 0 where
   pub left : after.left ≡ before.left
   pub given : after.given ≡ before.given

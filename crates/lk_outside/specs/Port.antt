@@ -30,7 +30,7 @@ HasBindCause before now bound.Failed = Rose before now
 
 -- ---- receive
 
--- these were taken from the front of those left, and given
+-- Rule: A port gives its arrivals in order, each once.
 pub record GivesFrom (arrivals : List ArrivalValue) (before after : PortContents) : Type 0 where
   pub left : before.left ≡ arrivals ++ after.left
   pub given : after.given ≡ before.given ++ arrivals
@@ -56,7 +56,7 @@ HasReceiveCause before now arrival.Failed = Rose before now
 
 -- ---- send
 
--- the datagram was appended to those posted
+-- Rule: A datagram that a port sends is posted with its gate and destination, after those posted before.
 pub record PostsOne (post : PostValue) (before after : PortContents) : Type 0 where
   pub left : after.left ≡ before.left
   pub given : after.given ≡ before.given

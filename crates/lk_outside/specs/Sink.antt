@@ -5,7 +5,7 @@ use Rattle.lk_outside.specs.Faults.{Rose}
 use Rattle.lk_outside.specs.declared.sink.Put.{Put}
 use Rattle.lk_outside.specs.declared.sink.Put.TheVariants.{Took, Failed}
 
--- where told, these bytes were appended; both tell or neither does
+-- Rule: A sink that tells its contents appends the bytes that it takes, and no others.
 abbrev pub Appends : Option (List ℕ) → List ℕ → Option (List ℕ) → Type 0
 Appends before bytes after = after ≡ option_map (λ old. old ++ bytes) before
 

@@ -9,7 +9,7 @@ use Rattle.lk_outside.specs.declared.source.Taken.TheVariants.{Got, End, Failed}
 abbrev pub Takes : Option (List ℕ) → List ℕ → Option (List ℕ) → Type 0
 Takes before bytes after = before ≡ option_map (λ rest. bytes ++ rest) after
 
--- where told, nothing is left
+-- Rule: A source that tells its contents is at its end only where nothing is left.
 abbrev pub IsAtEnd : Option (List ℕ) → Type 0
 IsAtEnd left = IfSome left (λ rest. rest ≡ [])
 

@@ -46,7 +46,7 @@ pub record BeginsWithRow (name text rest : List ℕ) : Type 0 where
 abbrev pub LacksRow : List ℕ → List ℕ → Type 0
 LacksRow name text = (marks : List Bool) (rest : List ℕ) → length marks ≡ 16 → text ≢ row_of name marks ++ rest
 
--- The first line at fault: the rows before it are there, and its own isn't. In the fourth line anything is at fault.
+-- Rule: A pattern is refused by its first line at fault: a row that is missing or misspelled, or anything in a fourth line.
 abbrev pub IsFaultAt : List ℕ → ℕ → Type 0
 IsFaultAt text zero = ⊥
 IsFaultAt text (suc zero) = LacksRow kick_name text
@@ -62,7 +62,7 @@ IsFaultAt text (suc (suc (suc (suc (suc n))))) = ⊥
 
 -- ---- what is struck
 
--- the place of a step in its pattern, which begins again after 16 of them
+-- Rule: A pattern begins again after 16 steps.
 unfoldable pub place_of : ℤ → ℕ
 place_of step = unsigned_abs (int_rem_euclid step (pos 16))
 

@@ -34,7 +34,8 @@ unfoldable pub strokes_in : Pattern → Option ℤ → Strokes
 strokes_in pattern None = record { kick = false; snare = false; hat = false }
 strokes_in pattern (Some step) = strokes_at pattern step
 
--- the ages after that frame
+-- Rule: A voice that is struck begins anew in that frame, and the others sound on.
+-- The ages after that frame.
 abbrev pub ages_after : Pattern → Option ℤ → Ages → Ages
 ages_after pattern step ages = next_ages (strokes_in pattern step) ages
 

@@ -17,7 +17,7 @@ pub record IsStep (tl : Timeline) (time n : ℤ) : Type 0 where
 unfoldable pub step_at : Timeline → ℤ → ℤ
 step_at tl time = int_div_euclid (since tl time) (pos 250_000)
 
--- the state plays: it is playing, and the time is at or after its start
+-- Rule: A sequencer plays while the state is playing and its start has come.
 unfoldable pub plays_at : State → ℤ → Bool
 plays_at state time = state.start.playing && int_le state.start.time time
 

@@ -10,7 +10,8 @@ two_bytes n = to_le_bytes w16 n
 abbrev pub four_bytes : ℕ → List ℕ
 four_bytes n = to_le_bytes w32 n
 
--- what stands before the samples: how many bytes follow, the format (16 bytes: PCM, the channels, the frames and the bytes of a second,
+-- Rule: A WAV header says the length of the file and of its samples.
+-- What stands before the samples: how many bytes follow, the format (16 bytes: PCM, the channels, the frames and the bytes of a second,
 -- the bytes of a frame, the bits of a sample), how many bytes of samples follow
 unfoldable pub header_of : ℕ → List ℕ
 header_of frames =
