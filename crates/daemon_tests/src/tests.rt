@@ -2,6 +2,7 @@
 
 mod adapters;
 mod control;
+mod cut;
 mod faults;
 mod live;
 mod rows;

@@ -10,5 +10,7 @@ mod long;
 mod overlap;
 mod peers;
 mod recorded;
+mod refused;
 pub mod sides;
 mod told;
+mod worked;

@@ -103,6 +103,11 @@ const ROWS: &str = "\
     state 1 500000 0 0 0 0 0 1 0 0 1 0 5152535455565758 3000000\n\
     done 1 2 0\n\
     |\
+    the same line in version 1|replay|8 4|replay 1\n\
+    node QRSTUVWX 1 500000 1 0\n\
+    gate 127.0.0.1:20809\n\
+    app 0 0 q 3000000\n\
+    ||\
     version 1 says none|replay|8 5|replay 1\n\
     node QRSTUVWX 1 500000 1 0\n\
     gate 127.0.0.1:20809\n\
@@ -340,6 +345,13 @@ const ROWS: &str = "\
     ||\
     ";
 
+/// The longest load, worked out by the rules apart from the program.
+const LONGEST: &str = "\
+    the longest load|load 7 524288|0 0||load 524288 58662 418614\n\
+    state 58661 301500 -21618 693578224 0 0 0 1 7 5242030666 32771 0 4c4f41444e4f4445 4000000\n\
+    |\
+    ";
+
 // rule: response_to in an alive is answered
 // rule: IsReadAs in datagrams shorter than their heads, and one of neither kind
 // rule: IsReadAs in a datagram of 513 bytes
@@ -387,6 +399,12 @@ const ROWS: &str = "\
 #[test]
 fn each_worked_run_gives_its_output(rt: HostRuntime) -> Result<(), Fail> {
     expect_all(&rt, rt.alloc(), ROWS)?;
+    Ok(())
+}
+
+#[test]
+fn the_longest_load_ends(rt: HostRuntime) -> Result<(), Fail> {
+    expect_all(&rt, rt.alloc(), LONGEST)?;
     Ok(())
 }
 

@@ -11,14 +11,14 @@ use std::sync::Wait;
 use std::thread::Threads;
 
 /// The lines of a head, as a node of its own.
-const HEAD: &str = "replay 1\nnode QRSTUVWX 1 500000 1 1000000\ngate 127.0.0.1:20809\n";
+pub const HEAD: &str = "replay 1\nnode QRSTUVWX 1 500000 1 1000000\ngate 127.0.0.1:20809\n";
 
 /// What its opening tells.
 const OPENING: &str = "state 0 500000 0 1000000 0 0 0 1 0 1000000 0 0\n";
 
 /// An alive of the node ABCDEFGH in its own session: 500000 microseconds per beat from beat 0 at time 0, no start, the endpoint
 /// 127.0.0.1:20808.
-const ALIVE: &str =
+pub const ALIVE: &str =
     "5f617364705f7601010500004142434445464748746d6c6e00000018000000000007a1200000000000000000000000000000000073657373000000084142434445464748737473740000001100000000000000000000000000000000006d657034000000067f0000015148";
 
 /// What the node of the head answers.

@@ -1,8 +1,9 @@
 //! That the three loops of a run go on beside one another: each waits in its object for what another one does, in each of 100 rounds.
 //!
-//! In round k the port gives a datagram of a new peer once the block k was played and the command k asked for, the device gives the block
-//! k + 1 once that datagram was answered, and the pace lets the command k go once that block was given: both are shown k peers.
-//! Loops that ran one after another would wait in vain, which the objects notice by the number of their looks.
+//! In round k the port gives a datagram of a new peer once the block k was played, the device gives the block k + 1 once that datagram was
+//! answered, and the pace lets the line k go once that block was given: both are shown k states or more after the first one. Where the port
+//! waits for the ask of the line k too, both are shown exactly k peers. Loops that ran one after another would wait in vain, which the
+//! objects notice by the number of their looks.
 
 ghost use Rattle.std.specs.Prelude.{None};
 ghost use Rattle.lk_outside.specs.ListPort.{bound_of, faults_of};
@@ -40,7 +41,7 @@ struct Marks {
     played: AtomicU64,
     // How many datagrams were answered.
     answered: AtomicU64,
-    // How many commands the pace was asked for.
+    // How many lines the pace was asked for.
     asked: AtomicU64,
     // How often an object waited in vain.
     vain: AtomicU64,
@@ -68,29 +69,42 @@ impl Marks {
         raise(&self.vain);
         false
     }
-
-    // Waits until so many blocks were played and so many commands asked for. Answers whether they were.
-    fn wait_for_round(&self, round: u16) -> bool {
-        self.wait_for(&self.played, round) && self.wait_for(&self.asked, round)
-    }
 }
 
-/// A port that gives an alive of a new peer for each block played and command asked for, and tells nothing.
+/// What the lines of a script are, and what the port waits for.
+#[derive(Clone, Copy, PartialEq)]
+enum Lines {
+    /// Each looks. The port waits for a block to be played alone.
+    Look,
+    /// Two of three commit. The port waits for a line to be asked for too.
+    Commit,
+}
+
+/// A port that gives an alive of a new peer for each block played, and tells nothing.
 #[derive(Drop)]
 struct Peers<'a> {
     marks: &'a Marks,
+    lines: Lines,
     // It binds the gates and takes what is sent.
     port: ListPort,
     given: u16,
 }
 
 impl<'a> Peers<'a> {
-    fn new(marks: &'a Marks, port: ListPort) -> Peers<'a> {
+    fn new(marks: &'a Marks, lines: Lines, port: ListPort) -> Peers<'a> {
         Peers {
             marks,
+            lines,
             port,
             given: 0,
         }
+    }
+
+    // Waits until a round's block was played, and its line asked for where that is waited for. Answers whether they were.
+    fn wait_for_round(&self, round: u16) -> bool {
+        let marks = self.marks;
+        marks.wait_for(&marks.played, round)
+            && (self.lines == Lines::Look || marks.wait_for(&marks.asked, round))
     }
 }
 
@@ -106,7 +120,7 @@ impl<'a> Port for Peers<'a> {
     }
 
     fn receive(&mut self, _until: i64) -> Arrival {
-        if self.given >= ROUNDS || !self.marks.wait_for_round(self.given + 1) {
+        if self.given >= ROUNDS || !self.wait_for_round(self.given + 1) {
             return Arrival::Closed;
         }
         self.given += 1;
@@ -162,18 +176,18 @@ impl<'a> Audio for Blocks<'a> {
 
 /// A pace that answers each moment as asked, once the blocks before it and one more were given. It tells nothing.
 #[derive(Drop)]
-struct Lines<'a> {
+struct Holding<'a> {
     marks: &'a Marks,
     asks: u16,
 }
 
-impl<'a> Lines<'a> {
-    fn new(marks: &'a Marks) -> Lines<'a> {
-        Lines { marks, asks: 0 }
+impl<'a> Holding<'a> {
+    fn new(marks: &'a Marks) -> Holding<'a> {
+        Holding { marks, asks: 0 }
     }
 }
 
-impl<'a> Pace for Lines<'a> {
+impl<'a> Pace for Holding<'a> {
     ghost late = { λ _. None };
 
     fn until(&mut self, moment: i64) -> i64 {
@@ -192,30 +206,43 @@ impl<'a> Pace for Lines<'a> {
 // rule: HasReadAudio
 #[test]
 fn the_loops_overlap(rt: HostRuntime) -> Result<(), Fail> {
-    let overlap = overlap(&rt, rt.alloc())?;
-    assert!(rt; overlap);
+    assert!(rt; overlap(&rt, rt.alloc(), Lines::Look)?);
     Ok(())
 }
 
-fn overlap<R: Threads + Wait + Sync>(rt: &R, alloc: Global) -> Result<bool, AllocError> {
-    let mut sides = sides_of_rounds(alloc)?;
-    go_in_rounds(rt, alloc, &mut sides)
+#[test]
+fn the_loops_overlap_where_lines_commit(rt: HostRuntime) -> Result<(), Fail> {
+    assert!(rt; overlap(&rt, rt.alloc(), Lines::Commit)?);
+    Ok(())
 }
 
-fn sides_of_rounds(alloc: Global) -> Result<Sides, AllocError> {
-    let script = script_of(alloc)?;
+fn overlap<R: Threads + Wait + Sync>(
+    rt: &R,
+    alloc: Global,
+    lines: Lines,
+) -> Result<bool, AllocError> {
+    let mut sides = sides_of_rounds(alloc, lines)?;
+    go_in_rounds(rt, alloc, lines, &mut sides)
+}
+
+fn sides_of_rounds(alloc: Global, lines: Lines) -> Result<Sides, AllocError> {
+    let script = script_of(alloc, lines)?;
     sides_over(alloc, &script, 0)
 }
 
 fn go_in_rounds<R: Threads + Wait + Sync>(
     rt: &R,
     alloc: Global,
+    lines: Lines,
     sides: &mut Sides,
 ) -> Result<bool, AllocError> {
     let inner = quiet_port(alloc, 200)?;
     let talk = silent_talk(alloc)?;
     let words = spelled(alloc, "live")?;
-    Ok(go_on_together(rt, alloc, &words, sides, inner, talk) && are_rounds(&sides.report))
+    Ok(
+        go_on_together(rt, alloc, &words, lines, sides, inner, talk)
+            && are_rounds(&sides.report, lines),
+    )
 }
 
 // Whether a run does all, and gives each datagram and each block.
@@ -223,12 +250,13 @@ fn go_on_together<R: Threads + Wait + Sync>(
     rt: &R,
     alloc: Global,
     words: &[String],
+    lines: Lines,
     sides: &mut Sides,
     inner: ListPort,
     mut talk: ListTalk,
 ) -> bool {
     let marks = Marks::new();
-    let mut port = Peers::new(&marks, inner);
+    let mut port = Peers::new(&marks, lines, inner);
     let mut audio = Blocks::new(&marks);
     let status = link_main(
         rt,
@@ -239,7 +267,7 @@ fn go_on_together<R: Threads + Wait + Sync>(
         &mut port,
         &mut audio,
         &mut talk,
-        &mut Lines::new(&marks),
+        &mut Holding::new(&marks),
         &mut sides.out,
         &mut sides.report,
         &mut empty_log(alloc),
@@ -247,41 +275,43 @@ fn go_on_together<R: Threads + Wait + Sync>(
     status == Status::Done && audio.given == ROUNDS + 1 && port.given == ROUNDS
 }
 
-// Whether there was a datagram, a capture and a read in each round, with what was published before and nothing that came after it.
-fn are_rounds(report: &Report) -> bool {
+// Whether there was a datagram, a capture and a read in each round, with what was published before.
+fn are_rounds(report: &Report, lines: Lines) -> bool {
     count_of(&report.events, b'r') == 100
         && report.reads.len() == 101
         && report.captures.len() == 100
-        && report.app_commits.len() == 66
-        && keep_up(&report.reads, 0)
-        && keep_up(&report.captures, 1)
+        && report.app_commits.len() == if lines == Lines::Look { 0 } else { 66 }
+        && keep_up(&report.reads, 0, lines)
+        && keep_up(&report.captures, 1, lines)
 }
 
-// Whether the first capture has so many peers, and a number that is no less, the one after it one peer more, and so on.
-fn keep_up(captures: &[Capture], first: u32) -> bool {
-    let mut peers = first;
+// Whether the first capture has at least this number, the one after it at least the next one, and so on. Where the port waits for lines
+// too, each has as many peers, and so nothing that came later.
+fn keep_up(captures: &[Capture], first: u32, lines: Lines) -> bool {
+    let mut least = first;
     for capture in captures {
-        if capture.state.peers != peers || capture.number < u64::from(peers) {
+        let is_astray = lines == Lines::Commit && capture.state.peers != least;
+        if is_astray || capture.number < u64::from(least) {
             return false;
         }
-        peers = peers.saturating_add(1);
+        least = least.saturating_add(1);
     }
     true
 }
 
-fn script_of(alloc: Global) -> Result<Vec<u8>, AllocError> {
+fn script_of(alloc: Global, lines: Lines) -> Result<Vec<u8>, AllocError> {
     let mut script = Vec::from_slice(alloc, b"link 1\nsetup 500000 1\ngate 127.0.0.1:20808\n")?;
     for round in 0..ROUNDS {
-        script.extend_from_slice(line_of(round))?;
+        script.extend_from_slice(line_of(round, lines))?;
     }
     Ok(script)
 }
 
-// A look, and then two commands that commit.
-fn line_of(round: u16) -> &'static [u8] {
+// A look; and then, where lines commit, two that do.
+fn line_of(round: u16, lines: Lines) -> &'static [u8] {
     match round % 3 {
-        0 => b"at 0 look\n",
-        1 => b"at 0 tempo 250000\n",
-        _ => b"at 0 request 1000000\n",
+        1 if lines == Lines::Commit => b"at 0 tempo 250000\n",
+        2 if lines == Lines::Commit => b"at 0 request 1000000\n",
+        _ => b"at 0 look\n",
     }
 }
