@@ -4,7 +4,7 @@
 The run has to be there first. This is then its one client: while it is served the run takes no other, and it ends when this one ends.
 
   jorazhil control 127.0.0.1:20900 < examples/control/node.script
-  (elsewhere) control.py 127.0.0.1:20900
+  (elsewhere) jorazhil client 127.0.0.1:20900
 """
 import difflib
 import math
@@ -384,7 +384,7 @@ def bar_of(word):
 
 
 def parser_of_words():
-    parser = Words("control.py", "control.py [--watch] [--every SECONDS] [--bar BEATS] [--began SECONDS] ENDPOINT", __doc__, OPTIONS)
+    parser = Words("jorazhil client", "jorazhil client [--watch] [--every SECONDS] [--bar BEATS] [--began SECONDS] ENDPOINT", __doc__, OPTIONS)
     parser.add_argument("endpoint", metavar="ENDPOINT", nargs="?", help="where the run listens, as in 127.0.0.1:20900")
     parser.add_argument("--watch", action="store_true", help="begins with the command `watch`")
     parser.add_argument("--every", metavar="SECONDS", default="1", help="how often `watch` asks at first: from 0.1, ten times a second (1)")

@@ -20,7 +20,7 @@ OPTIONS = """\
 Without the program: `--output` has what `filter` writes for the pairs:
 
   (elsewhere) jorazhil filter < run.pairs > run.output
-  filter.py --output run.output --svg run.svg run.pairs
+  jorazhil filter-plot --output run.output --svg run.svg run.pairs
 
 The picture has each pair's host time, less that of the line at its sample: those given as dots, and those of the filter as a line through
 them; below the latter alone, on an axis of their own, and marks for the pairs that were refused. What is above or below an axis is drawn
@@ -257,7 +257,7 @@ class Picture(Drawing):
 
 
 def parser_of_words():
-    parser = Words("filter.py", "filter.py [--svg FILE] [--program PROGRAM | --output FILE] [PAIRS]", __doc__, OPTIONS)
+    parser = Words("jorazhil filter-plot", "jorazhil filter-plot [--svg FILE] [--program PROGRAM | --output FILE] [PAIRS]", __doc__, OPTIONS)
     parser.add_argument("pairs", metavar="PAIRS", nargs="?", default="-", help="what `filter` reads; `-`, or none: standard input")
     parser.add_argument("--svg", metavar="FILE", help="also draws the host times over the samples, as a picture that any browser opens")
     parser.add_program()

@@ -18,7 +18,7 @@ from shared import Refused, Words, end_of, fault, lines_of, quoted, read_file  #
 OPTIONS = """\
 The first minute of a script, in blocks of 10 milliseconds:
 
-  jorazhil midi 10000 6000 < run.script | midi_file.py > run.mid
+  jorazhil midi 10000 6000 < run.script | jorazhil midi-file > run.mid
 
 The file begins with the first event. Where clocks are farther apart than the slowest tempo of a file, which has 16.8 seconds to a quarter
 note, whole quarter notes without clocks stand between them.
@@ -223,7 +223,7 @@ def file_of(events):
 
 
 def parser_of_words():
-    parser = Words("midi_file.py", "midi_file.py [OUTPUT] > FILE", __doc__, OPTIONS)
+    parser = Words("jorazhil midi-file", "jorazhil midi-file [OUTPUT] > FILE", __doc__, OPTIONS)
     parser.add_argument("output", metavar="OUTPUT", nargs="?", default="-", help="what `midi` wrote; `-`, or none: standard input")
     parser.add_argument("--help", action="store_true", help="this text")
     return parser

@@ -26,9 +26,9 @@ OPTIONS = """\
 Without the program: `--output` has what `replay` writes for the recording with its marks, which `--marked` writes, and `--decoded` what
 `decode` tells of those of `--datagrams`:
 
-  session.py --marked run.script | (elsewhere) jorazhil replay > run.output
-  session.py --datagrams --output run.output run.script | (elsewhere) jorazhil decode > run.decoded
-  session.py --output run.output --decoded run.decoded --svg run.svg run.script
+  jorazhil session --marked run.script | (elsewhere) jorazhil replay > run.output
+  jorazhil session --datagrams --output run.output run.script | (elsewhere) jorazhil decode > run.decoded
+  jorazhil session --output run.output --decoded run.decoded --svg run.svg run.script
 
 The picture has the tempo and the number of peers as stepped lines, the sessions, when it plays, when the beat moves, a mark for each change
 by whose it was; where bars change, their length as a stepped line; and, where pongs were sent, the ghost time that they tell, less the time
@@ -462,8 +462,8 @@ class Picture(Drawing):
 
 
 def parser_of_words():
-    usage = "session.py [--svg FILE] [--program PROGRAM | --output FILE --decoded FILE] [RECORDING]"
-    parser = Words("session.py", usage, __doc__, OPTIONS)
+    usage = "jorazhil session [--svg FILE] [--program PROGRAM | --output FILE --decoded FILE] [RECORDING]"
+    parser = Words("jorazhil session", usage, __doc__, OPTIONS)
     parser.add_argument("recording", metavar="RECORDING", nargs="?", default="-", help="a replay script; `-`, or none: standard input")
     parser.add_argument("--svg", metavar="FILE", help="also draws it all over time, as a picture that any browser opens")
     parser.add_program()
