@@ -105,8 +105,8 @@ PASSING = """case $1 in
   *) exit 1 ;;
 esac
 """
-# It is told of one crate at once, and of another one a second later, and then of none for half a minute.
-SLOW = PASSING.replace("  ci)\n", "  ci)\n    echo 'rt: lk_base proved'; sleep 1.5; echo 'rt: lk_outside proved'; sleep 32\n")
+# It is told of one crate at once, and of another one four seconds later, and then of none for half a minute.
+SLOW = PASSING.replace("  ci)\n", "  ci)\n    echo 'rt: lk_base proved'; sleep 4; echo 'rt: lk_outside proved'; sleep 33\n")
 REFUSING = PASSING.replace("  ci)\n", "  ci)\n    echo 'src/main.rt:7:1: error: it is not proved'; echo 'rt: jorazhil NOT PROVED'; exec sleep 50\n")
 # At work, with a process of its own, until it is ended.
 ENDLESS = PASSING.replace("  ci)\n", '  ci)\n    sleep 100 & echo "$$ $!" >"$NOTES.new"; mv "$NOTES.new" "$NOTES"; wait\n')
@@ -274,7 +274,7 @@ def first_builds(folder):
     out, error = at_work.communicate(timeout=common.LONGEST)
     far = [line for line in error.splitlines() if "crates are proved" in line]
     of = f"of {linked('jorazhil')} crates are proved, after"
-    wanted = [f"jorazhil: {count} {of} 0 minutes" for count in (1, 2, 2, 3)]
+    wanted = [f"jorazhil: {count} {of} 0 min" for count in (1, 2, 2, 3)]
     yield "a build that takes a while", differs(0, ["ran replay\n"], ["it is proved first"], (at_work.returncode, out, error))
     yield "how far it is told to be", None if far in (wanted, wanted[:3]) else f"found {far}, wanted {wanted}"
 
