@@ -25,10 +25,12 @@ import threading
 import time
 
 sys.dont_write_bytecode = True
+import common  # noqa: E402
 import node  # noqa: E402
-from live import COUNTS, STATE, Differs, free_ports, numbers, want  # noqa: E402
+from common import Differs, free_ports, started, want  # noqa: E402
+from live import COUNTS, STATE, numbers  # noqa: E402
 
-TOOL = os.path.join(os.path.dirname(os.path.dirname(os.path.realpath(__file__))), "tools", "control.py")
+TOOL = os.path.join(common.HERE, "tools", "control.py")
 LIMIT, LEAST_MPB, MOST_MPB, MOST_LINES = 2**60, 60_060, 3_000_000, 4096
 RANGES = {b"tempo": (LEAST_MPB, MOST_MPB), b"beat": (-LIMIT, LIMIT), b"time": (-LIMIT, LIMIT)}
 COMMITS = ("tempo", "play", "stop")
@@ -41,15 +43,6 @@ LISTENS = re.compile(r"^jorazhil: listening for a client at (127\.0\.0\.1:[0-9]+
 CAME = re.compile(r"^jorazhil: a client came from (127\.0\.0\.1:[0-9]+)$", re.M)
 JOURNAL = re.compile(r"^jorazhil: the journal took ([0-9]+) of ", re.M)
 COMMENT = "# a node under control\n\n"
-
-# Every process that was started.
-CHILDREN = []
-
-
-def started(words, **streams):
-    CHILDREN.append(subprocess.Popen(words, **streams))
-    return CHILDREN[-1]
-
 
 # Reading the table.
 
@@ -225,11 +218,8 @@ class Run:
         self.error, self.out, self.at, self.came, self.counts = tempfile.TemporaryFile(), out, None, None, {}
         self.room = f"{words[1]} event{'' if words[1] == '1' else 's'}" if "--events" in words else "262144 events"
         self.before = time.monotonic_ns() // 1000
-        self.child = started([program, "control", at, *words], stdin=subprocess.PIPE, stdout=out, stderr=self.error)
-        self.child.stdin.write((COMMENT + "link 1\nsetup 500000 1\n" + more).encode())
-        self.child.stdin.close()
-        # So that nothing is written there any more when its end is waited for.
-        self.child.stdin = None
+        script = COMMENT + "link 1\nsetup 500000 1\n" + more
+        self.child = started([program, "control", at, *words], script, stdout=out, stderr=self.error)
 
     def told(self):
         # Without a seek, which would move the place where the run writes next.
@@ -368,11 +358,8 @@ class Beside:
     def begin(self):
         own, other = free_ports(2)
         words = [self.program, "live", "--blocks", "0", "--group", "7"]
-        self.other = started(words, stdin=subprocess.PIPE, stdout=subprocess.PIPE, stderr=subprocess.DEVNULL)
         script = f"link 1\nsetup 500000 1\ngate 127.0.0.1:{other}\nto 127.0.0.1:{own}\nat {BESIDE} look\n"
-        self.other.stdin.write(script.encode())
-        self.other.stdin.close()
-        self.other.stdin = None
+        self.other = started(words, script, stdout=subprocess.PIPE, stderr=subprocess.DEVNULL)
         self.run = Run(self.program, ["--group", "7"], more=f"gate 127.0.0.1:{own}\nto 127.0.0.1:{other}\n")
         self.client = self.run.client()
 
@@ -597,9 +584,8 @@ def second_client(program):
 
 def ended(program, words, script=b""):
     """Status, standard output and standard error of a run that never waits for a client."""
-    child = started([program, "control", *words], stdin=subprocess.PIPE, stdout=subprocess.PIPE, stderr=subprocess.PIPE)
-    out, error = child.communicate(script, timeout=PATIENCE)
-    return child.returncode, out.decode(), error.decode()
+    status, out, error = common.ended([program, "control", *words], script, timeout=PATIENCE)
+    return status, out.decode(), error.decode()
 
 
 def another_address(program):
@@ -729,9 +715,7 @@ control: line 20: a time is in seconds, as in `beat 90.25` or `beat 1:30.25`, wi
 
 def tell(words, text=""):
     """Status, standard output and standard error of the tool."""
-    child = started([sys.executable, TOOL, *words], stdin=subprocess.PIPE, stdout=subprocess.PIPE, stderr=subprocess.PIPE, text=True)
-    out, error = child.communicate(text, timeout=PATIENCE)
-    return child.returncode, out, error
+    return common.ended([sys.executable, TOOL, *words], text, timeout=PATIENCE)
 
 
 def millionths(text):
@@ -831,26 +815,10 @@ def main(program, seed):
         ("tools/control.py without a run", tool_without_a_run, program),
         ("what the live run heard", beside.heard),
     ]
-    failed = 0
-    for name, check, *given in checks:
-        try:
-            check(*given)
-        except (Differs, LookupError, ValueError, OSError, subprocess.TimeoutExpired) as fault:
-            failed += 1
-            print(f"{name}: {type(fault).__name__}: {fault}")
+    tally = common.carried_out(checks)
     print(f"{len(beside.lines)} lines beside a live run, {beside.commits()} of them commits, and {beside.compared} compared by a timeline")
-    print(f"{len(checks) - failed} passed, {failed} failed")
-    return 1 if failed else 0
+    return tally.end()
 
 
 if __name__ == "__main__":
-    if len(sys.argv) not in (2, 3):
-        print(__doc__, file=sys.stderr)
-        sys.exit(2)
-    try:
-        sys.exit(main(os.path.abspath(sys.argv[1]), int(sys.argv[2]) if len(sys.argv) == 3 else 1))
-    finally:
-        for child in CHILDREN:
-            if child.poll() is None:
-                child.kill()
-                child.wait()
+    common.begin(main, __doc__, has_seed=True)

@@ -6,12 +6,11 @@ one; the first n bytes of the alive for every n; repeated, reordered, unknown an
 at once; 512 and 513 bytes. Beside them the texts that checks/worked.py has for `decode`, with what was worked out by hand. The last line is
 'N passed, N failed'.
 """
-import re
 import struct
-import subprocess
 import sys
 
 sys.dont_write_bytecode = True
+import common  # noqa: E402
 import worked  # noqa: E402
 
 LIMIT = 2**60
@@ -185,37 +184,23 @@ def twice_at_fault(header, timeline, session):
     yield link + numbers((b"_pgt", 3), (b"__ht", -2), (b"__gt", 257)) + session
 
 
-def answer(program, text):
-    run = subprocess.run([program, "decode"], input=text, capture_output=True, text=True, timeout=60, check=False)
-    named = re.search(r"line ([0-9]+)", run.stderr) if run.returncode == 8 else None
-    return run.returncode, run.stdout, int(named[1]) if named else None
-
-
 def main(program):
-    given, rows = list(datagrams()), list(worked.decoded())
+    given, tally = list(datagrams()), common.Tally()
     # Digits of upper case for every other one.
     text = "".join((d.hex().upper() if k % 2 else d.hex()) + "\n" for k, d in enumerate(given))
-    run = subprocess.run([program, "decode"], input=text, capture_output=True, text=True)
-    told, failed = run.stdout.split("\n")[:-1], 0
-    if run.returncode != 0 or len(told) != len(given):
-        print(f"the program ended with {run.returncode} after {len(told)} lines for {len(given)} datagrams: {run.stderr}")
-        failed = len(given)
-    else:
-        for datagram, line in zip(given, told):
-            if line != line_of(datagram):
-                failed += 1
-                print(f"{datagram.hex()}\n  wanted {line_of(datagram)}\n  told   {line}")
-    for text, wanted in rows:
-        found = answer(program, text)
-        if not worked.agrees(found, wanted):
-            failed += 1
-            print(f"{text[:200]!r}\n  wanted {str(wanted)[:400]}\n  told   {str(found)[:400]}")
-    print(f"{len(given) + len(rows) - failed} passed, {failed} failed")
-    return 1 if failed else 0
+    status, output, error = common.ended([program, "decode"], text)
+    told = output.split("\n")[:-1]
+    if status != 0 or len(told) != len(given):
+        print(f"the program ended with {status} after {len(told)} lines for {len(given)} datagrams: {error}")
+        told = [None] * len(given)
+    for datagram, line in zip(given, told):
+        wanted = line_of(datagram)
+        tally.note(line == wanted, line and f"{datagram.hex()}\n  wanted {wanted}\n  told   {line}")
+    for text, wanted in worked.decoded():
+        found = common.answer(program, ["decode"], text.encode())
+        tally.note(worked.agrees(found, wanted), f"{text[:200]!r}\n  wanted {str(wanted)[:400]}\n  told   {str(found)[:400]}")
+    return tally.end()
 
 
 if __name__ == "__main__":
-    if len(sys.argv) != 2:
-        print(__doc__, file=sys.stderr)
-        sys.exit(2)
-    sys.exit(main(sys.argv[1]))
+    common.begin(main, __doc__)

@@ -10,8 +10,8 @@ which comes later, is started by it. Then a pattern of sixteenths, whose onsets 
 each with a MIDI clock, which tells its host time; one that begins with a rest; and the WAV's header. Two drum machines beside each other:
 what a listener hears of them, each with an id of its own, up to their goodbyes; and two that begin within a second. As many destinations as
 there may be, and one that the system refuses. When the first block begins, and when the run ends. A journal that is full before the end. A
-rehearsal by other patterns, which has the stored one's steps; patterns and words at fault, with their statuses and whole texts; and the
-script `drums`.
+rehearsal by other patterns, which has the stored one's steps; patterns and words at fault, with their statuses and whole texts; and
+`jorazhil drums`.
 The last line is 'N passed, N failed'.
 """
 import os
@@ -25,10 +25,10 @@ import time
 from contextlib import ExitStack
 
 sys.dont_write_bytecode = True
+import common  # noqa: E402
 import node  # noqa: E402
-from live import Differs, come, free_ports, listener, reason_to_refuse, want  # noqa: E402
+from common import CHILDREN, HERE, Differs, come, free_ports, listener, reason_to_refuse, started, want  # noqa: E402
 
-HERE = os.path.dirname(os.path.dirname(os.path.abspath(__file__)))
 RATE, FRAMES, BLOCK = 48_000, 960, 20_000
 REST = "." * 16
 BEATS, SIXTEENTHS, OFFBEATS = "x...x...x...x...", "x" * 16, ".x" * 8
@@ -49,33 +49,8 @@ MOST_PEERS, ROOM = 32, 262_144
 # For how many blocks a journal is filled, and how many datagrams are on their way at once: a socket has room for twice as many.
 FULL_BLOCKS, FLOOD = 500, 128
 SET_UP = "room for 262144 events, bars of 4 beats"
-USAGE = """\
-drum_machine: these words are none that it takes
-
-Usage: drum_machine < PATTERN                                        four bars in memory, told step by step
-       drum_machine <BLOCKS> <TEMPO> <LOCAL> [TO].. < PATTERN > WAV  beside peers on the network
-
-  <BLOCKS>  how many blocks of 20 milliseconds are played, from 1 to 524288
-  <TEMPO>   the tempo to begin with, in microseconds per beat, from 60060 to 3000000; 500000 is 120 beats a minute
-  <LOCAL>   where peers reach it: an address of this machine and a free port, as 127.0.0.1:18001
-  [TO]..    up to 32 endpoints of peers, to which it tells of itself
-"""
+USAGE = "drum_machine: these words are none that it takes\n\n" + common.page_of("drums").replace("jorazhil drums", "drum_machine")
 PING, PONG = b"_link_v\x01\x01", b"_link_v\x01\x02"
-
-# Every process that was started beside another one.
-CHILDREN = []
-
-
-def started(words, text, **streams):
-    """A process that has this text on its standard input."""
-    child = subprocess.Popen(words, stdin=subprocess.PIPE, **streams)
-    CHILDREN.append(child)
-    child.stdin.write(text.encode())
-    child.stdin.close()
-    # So that nothing is written there any more when its end is waited for.
-    child.stdin = None
-    return child
-
 
 def at_port(port):
     return f"127.0.0.1:{port}"
@@ -488,21 +463,17 @@ def last_block(drums):
 
 
 def by_script(drums):
-    """The script `drums` runs the built program with its words. Without rt on the PATH it builds nothing."""
+    """`jorazhil drums` runs the built program with its words. Without rt on the PATH it builds nothing."""
     if not os.path.exists(drums + ".sources"):
-        print("note: of which sources the program was built isn't noted beside it, so the script isn't looked at")
+        print("note: of which sources the program was built isn't noted beside it, so `jorazhil drums` isn't looked at")
         return
-    given = {"capture_output": True, "timeout": 60, "env": {**os.environ, "PATH": "/usr/bin:/bin"}}
-    script, crate = os.path.join(HERE, "drums"), os.path.join(HERE, "crates", "drum_machine")
-    with open(os.path.join(crate, "stdin"), "rb") as text, open(os.path.join(crate, "stdout"), "rb") as wanted:
-        done = subprocess.run([script], input=text.read(), **given)
-        want("status and output without words", (done.returncode, done.stdout), (0, wanted.read()))
-    done = subprocess.run([script, "50"], input=pattern(BEATS).encode(), **given)
-    want("status and text with a word", (done.returncode, done.stderr.decode()), (2, USAGE))
+    words, env = [os.path.join(HERE, "jorazhil"), "drums"], {**os.environ, "PATH": "/usr/bin:/bin"}
+    text, wanted = (common.read(HERE, "crates", "drum_machine", name) for name in ("stdin", "stdout"))
+    want("status and output without words", common.ended(words, text, env=env)[:2], (0, wanted))
+    want("status and text with a word", common.ended([*words, "50"], pattern(BEATS), env=env)[::2], (2, USAGE))
 
 
-def main():
-    program, drums = (os.path.abspath(path) for path in sys.argv[1:3])
+def main(program, drums):
     checks = [
         ("beside a live run", session, program, drums),
         ("beside a live run that stops", stop, program, drums),
@@ -520,22 +491,8 @@ def main():
         ("faults", faults, drums),
         ("the script", by_script, drums),
     ]
-    failed = 0
-    for name, check, *given in checks:
-        try:
-            check(*given)
-        except (Differs, LookupError, ValueError, OSError, subprocess.TimeoutExpired) as fault:
-            failed += 1
-            print(f"{name}: {type(fault).__name__}: {fault}")
-    print(f"{len(checks) - failed} passed, {failed} failed")
-    return 1 if failed else 0
+    return common.carried_out(checks).end()
 
 
 if __name__ == "__main__":
-    try:
-        sys.exit(main())
-    finally:
-        for child in CHILDREN:
-            if child.poll() is None:
-                child.kill()
-                child.wait()
+    common.begin(main, __doc__, programs=2)

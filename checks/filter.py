@@ -11,11 +11,13 @@ failed'.
 """
 import random
 import re
-import subprocess
 import sys
 from collections import Counter
 from fractions import Fraction
 from operator import mul
+
+sys.dont_write_bytecode = True
+import common  # noqa: E402
 
 LIMIT, FAR, KEPT = 2**60, 2**31, 512
 LONGEST = 16_777_216
@@ -467,92 +469,46 @@ def drawn(draw):
 
 
 def told(program, text):
-    """Status, output, and the line at fault; under status 0 what stands on standard error, if anything."""
-    run = subprocess.run([program, "filter"], input=text, capture_output=True, timeout=60, check=False)
-    error = run.stderr.decode("latin-1")
-    named = re.search(r"line ([0-9]+)", error) if run.returncode == 8 else None
-    return run.returncode, run.stdout.decode("latin-1"), int(named[1]) if named else error or None
-
-
-def first_difference(ours, theirs):
-    """The first line, counted from 0, in which two outputs differ."""
-    ours, theirs = ours.split("\n"), theirs.split("\n")
-    return next((k for k, pair in enumerate(zip(ours, theirs)) if pair[0] != pair[1]), min(len(ours), len(theirs)))
-
-
-def shortened(program, text):
-    """The text up to its first difference, without the lines before it that aren't needed for one; at most some hundred runs."""
-    differs = lambda lines: told(program, b"".join(lines)) != wanted(b"".join(lines), Counter())
-    lines, runs = text.splitlines(keepends=True), 0
-    front = lines[: first_difference(wanted(text, Counter())[1], told(program, text)[1]) + 1]
-    lines = front if differs(front) else lines
-    size = max(1, len(lines) // 2)
-    while size and runs < 300:
-        at = 0
-        while at < len(lines) and runs < 300:
-            less, runs = lines[:at] + lines[at + size :], runs + 1
-            if differs(less):
-                lines = less
-            else:
-                at += size
-        size //= 2
-    return b"".join(lines)
+    return common.answer(program, ["filter"], text)
 
 
 def show(program, text, want=None):
+    """Where nothing is said of what is wanted, as short a text as the plain reading tells another answer of."""
     if want is None:
-        text = shortened(program, text)
+
+        def differs(text):
+            return told(program, text) != wanted(text, Counter())
+
+        lines = text.splitlines(keepends=True)
+        front = b"".join(lines[: common.first_difference(wanted(text, Counter())[1], told(program, text)[1]) + 1])
+        text = common.shortened(front if differs(front) else text, differs, common.at_most(300))
         want = wanted(text, Counter())
-    found = told(program, text)
-    shown = text.decode("latin-1")
-    print(f"the first text that differs:\n{shown if len(shown) < 2000 else shown[:1000] + '..' + shown[-500:]}")
-    print(f"wanted status {want[0]}, line {want[2]}; told status {found[0]}, line {found[2]}")
-    at = first_difference(want[1], found[1])
-    ours, theirs = (output.split("\n")[at : at + 1] for output in (want[1], found[1]))
-    print(f"line {at + 1} of the output:\n  wanted {''.join(ours)}\n  told   {''.join(theirs)}")
+    common.show("the first text that differs", text, want, told(program, text))
 
 
 def main(program, seed):
-    passed, failed, reached = 0, 0, Counter()
+    tally, reached = common.Tally(), Counter()
     for text, output in worked():
         want = 0, output, None
         read = wanted(text, reached) if len(text) < LONGEST else want
-        if told(program, text) == want == read:
-            passed += 1
-            continue
-        failed += 1
-        if read != want:
-            print(f"{text[:200]!r}: wanted {output[:400]!r}, the plain reading {str(read)[:400]}")
-        if failed == 1:
-            show(program, text, want)
+        if not tally.note(told(program, text) == want == read):
+            if read != want:
+                print(f"{text[:200]!r}: wanted {output[:400]!r}, the plain reading {str(read)[:400]}")
+            if tally.failed == 1:
+                show(program, text, want)
     faults = list(at_fault())
     for text, line in faults:
         found, read = told(program, text), wanted(text, Counter())
-        if found == read == (8, "", line):
-            passed += 1
-            continue
-        failed += 1
-        print(f"{text[-60:]!r}: wanted status 8 and line {line}, told {str(found)[:200]}, the plain reading {str(read)[:200]}")
+        why = f"{text[-60:]!r}: wanted status 8 and line {line}, told {str(found)[:200]}, the plain reading {str(read)[:200]}"
+        tally.note(found == read == (8, "", line), why)
     pairs = 0
     for text in drawn(random.Random(seed)):
         pairs += text.count(b"\n")
-        if told(program, text) == wanted(text, reached):
-            passed += 1
-            continue
-        failed += 1
-        if failed == 1:
+        if not tally.note(told(program, text) == wanted(text, reached)) and tally.failed == 1:
             show(program, text)
-    for case in REACHED:
-        if not reached[case]:
-            failed += 1
-            print(f"no text reached the case: {case}")
-    print(f"{len(faults)} texts at fault, {pairs:,} pairs drawn; cases: " + ", ".join(f"{case} {reached[case]}" for case in REACHED))
-    print(f"{passed} passed, {failed} failed")
-    return 1 if failed else 0
+    print(f"{len(faults)} texts at fault, {pairs:,} pairs drawn; cases: {tally.want_reached(REACHED, reached)}")
+    return tally.end()
 
 
 if __name__ == "__main__":
-    if len(sys.argv) not in (2, 3):
-        print(__doc__, file=sys.stderr)
-        sys.exit(2)
-    sys.exit(main(sys.argv[1], int(sys.argv[2]) if len(sys.argv) > 2 else 1))
+    common.begin(main, __doc__, has_seed=True)

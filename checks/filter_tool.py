@@ -11,8 +11,10 @@ import os
 import sys
 
 sys.dont_write_bytecode = True
+import common  # noqa: E402
 import session  # noqa: E402
-from session import EXAMPLES, HERE, compare, leaving, parts_of, read, write  # noqa: E402
+from common import EXAMPLES, HERE, read, write  # noqa: E402
+from session import leaving, parts_of  # noqa: E402
 
 TOOL = os.path.join(HERE, "tools", "filter.py")
 PAIRS, EXPECTED = (os.path.join(EXAMPLES, "jitter" + ending) for ending in (".pairs", ".expected"))
@@ -151,8 +153,9 @@ def streams(program, _):
     yield from leaving(TOOL, ["--program", program, PAIRS], "2,000 pairs, none refused\n")
 
 
+def main(program):
+    return common.compared((example, made_here, refused, streams), program)
+
+
 if __name__ == "__main__":
-    if len(sys.argv) != 2:
-        print(__doc__, file=sys.stderr)
-        sys.exit(2)
-    sys.exit(compare(os.path.abspath(sys.argv[1]), (example, made_here, refused, streams)))
+    common.begin(main, __doc__)

@@ -16,7 +16,6 @@ for two events, one is idle, by the time of the processor that it used, and one 
 itself from its own port.
 The last line is 'N passed, N failed'.
 """
-import os
 import resource
 import socket
 import struct
@@ -27,7 +26,9 @@ from collections import Counter
 from contextlib import ExitStack
 
 sys.dont_write_bytecode = True
+import common  # noqa: E402
 import node  # noqa: E402
+from common import Differs, come, free_ports, listener, reason_to_refuse, want, want_lines  # noqa: E402
 
 BLOCK = 20_000
 BLOCKS = 250
@@ -35,8 +36,6 @@ END = BLOCKS * BLOCK
 # By then both are in one session: they tell of themselves four times a second, and a measurement is 51 pings.
 TEMPO_AT, PLAY_IN = END // 2, 7 * BLOCKS // 10
 NEW_TEMPO, NEW_QUANTUM = 400_000, 3_000_000
-# Seconds until which a datagram has to come, wherever it is waited for.
-PATIENCE = 10
 # How long an idle run is, one that is held against it, and one with four gates, in microseconds.
 IDLE, SHORT, GATES_END = 2_000_000, 40_000, 3_000_000
 # Of three runs, for as many blocks. The third one's group has the two bytes of the others' in another order.
@@ -47,22 +46,6 @@ ROOM = "room for 262144 events"
 IP_RECVTTL = 12
 COUNTS = "events states reads captures app audio plays clicks".split()
 STATE = "number mpb beat time playing start stamp sync peers moment app audio session quantum".split()
-
-
-class Differs(Exception):
-    """What was found, where something else is wanted."""
-
-
-def want(what, found, wanted):
-    if found != wanted:
-        raise Differs(f"{what}: found {found!r}, wanted {wanted!r}")
-
-
-def want_lines(what, found, wanted):
-    """The same of two texts, of which the first line that differs is told."""
-    for k, (one, other) in enumerate(zip(found.split("\n"), wanted.split("\n")), 1):
-        want(f"{what}, line {k}", one, other)
-    want(f"the lines of {what}", found.count("\n"), wanted.count("\n"))
 
 
 def numbers(line, head, names):
@@ -87,24 +70,20 @@ class Run:
         words += [] if group is None else ["--group", str(group)]
         words += [] if events is None else ["--events", str(events)]
         self.before = time.time_ns()
-        self.child = subprocess.Popen(words, stdin=pipe, stdout=pipe, stderr=pipe, text=True)
-        self.child.stdin.write(self.script)
-        self.child.stdin.close()
-        # So that nothing is written there any more when its end is waited for.
-        self.child.stdin = None
+        self.child = common.started(words, self.script, stdout=pipe, stderr=pipe, text=True)
 
     def end(self):
         try:
-            self.output, self.error = self.child.communicate(timeout=60)
+            self.output, self.error = self.child.communicate(timeout=common.LONGEST)
             self.after = time.time_ns()
         finally:
             self.child.kill()
         self.status, self.lines = self.child.returncode, self.output.splitlines()
 
     def told(self, word, text):
-        done = subprocess.run([self.program, word], input=text, capture_output=True, text=True, timeout=60, check=False)
-        want(f"status and standard error of {word}", (done.returncode, done.stderr), (0, ""))
-        return done.stdout
+        status, output, error = common.ended([self.program, word], text)
+        want(f"status and standard error of {word}", (status, error), (0, ""))
+        return output
 
     def spoken(self, datagrams):
         """The words that `decode` tells of each of some datagrams in hex."""
@@ -192,37 +171,6 @@ class Run:
         session = [words[7] for words in told if words[0] == "alive"][-1]
         want("the session that is shown", [state["session"] for state in self.states if state["moment"] < until][-1], session)
         return session
-
-
-def free_ports(count):
-    """Ports that nobody holds now."""
-    held = [socket.socket(socket.AF_INET, socket.SOCK_DGRAM) for _ in range(count)]
-    try:
-        for gate in held:
-            gate.bind(("127.0.0.1", 0))
-        return [gate.getsockname()[1] for gate in held]
-    finally:
-        for gate in held:
-            gate.close()
-
-
-def listener():
-    """A socket at a port that the system picks."""
-    ear = socket.socket(socket.AF_INET, socket.SOCK_DGRAM)
-    ear.bind(("127.0.0.1", 0))
-    ear.settimeout(PATIENCE)
-    return ear
-
-
-def come(ear):
-    """All datagrams that have come to a socket, each with where it came from."""
-    found = []
-    ear.setblocking(False)
-    while True:
-        try:
-            found.append(ear.recvfrom(513))
-        except BlockingIOError:
-            return found
 
 
 def two_runs(program):
@@ -345,17 +293,6 @@ def short_run(program, commands, blocks, quantum=4_000_000):
     run.end()
     want("the status", run.status, 0)
     return run
-
-
-def reason_to_refuse():
-    """Why the system refuses a broadcast here."""
-    with socket.socket(socket.AF_INET, socket.SOCK_DGRAM) as gate:
-        gate.bind(("127.0.0.1", 0))
-        try:
-            gate.sendto(b"-", ("255.255.255.255", 20808))
-        except OSError as error:
-            return f"{os.strerror(error.errno)} (os error {error.errno})"
-    return "nothing"
 
 
 def refused(program):
@@ -556,21 +493,11 @@ def main(program):
         ("an idle run whose journal is full", idle, program, 6, False, 1),
         ("a run with four gates", four_gates, program),
     ]
-    failed = 0
-    for name, check, *given in checks:
-        try:
-            check(*given)
-        except (Differs, LookupError, ValueError, OSError, subprocess.TimeoutExpired) as fault:
-            failed += 1
-            print(f"{name}: {type(fault).__name__}: {fault}")
+    tally = common.carried_out(checks)
     for run in (one, other, *three):
         print("\n".join(run.lines[:2]))
-    print(f"{len(checks) - failed} passed, {failed} failed")
-    return 1 if failed else 0
+    return tally.end()
 
 
 if __name__ == "__main__":
-    if len(sys.argv) != 2:
-        print(__doc__, file=sys.stderr)
-        sys.exit(2)
-    sys.exit(main(sys.argv[1]))
+    common.begin(main, __doc__)

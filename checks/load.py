@@ -8,11 +8,11 @@ refused. An event of a kind that no run reaches is a failure. The last line is '
 writes what `load SEED COUNT` has to write, without a program.
 """
 import random
-import subprocess
 import sys
 from collections import Counter
 
 sys.dont_write_bytecode = True
+import common  # noqa: E402
 import node  # noqa: E402
 
 OPENED = 1_000_000
@@ -153,8 +153,8 @@ def texts(seed, counts, kinds):
 
 
 def told(program, words, given=b""):
-    done = subprocess.run([program, "load", *words], input=given, capture_output=True, timeout=60, check=False)
-    return done.returncode, done.stdout.decode("latin-1"), done.stderr.decode("latin-1")
+    status, output, error = common.ended([program, "load", *words], given)
+    return status, output.decode("latin-1"), error.decode("latin-1")
 
 
 def cases(draw, kinds):
@@ -181,26 +181,16 @@ def apart(program):
 
 
 def main(program, seed):
-    passed, failed, kinds = 0, 0, Counter()
+    tally, kinds = common.Tally(), Counter()
     for name, holds in apart(program):
-        passed, failed = passed + holds, failed + (not holds)
-        if not holds:
-            print(f"load {name} is not as wanted")
+        tally.note(holds, f"load {name} is not as wanted")
     for words, text in cases(random.Random(seed), kinds):
         status, output, error = told(program, words)
-        if (status, output, error) == (0, text, "") or text is None and (status, output) == (2, "") and error:
-            passed += 1
-            continue
-        failed += 1
+        is_well = (status, output) == (2, "") and error if text is None else (status, output, error) == (0, text, "")
         wanted = "status 2, no output and a text on standard error" if text is None else f"status 0 and {text!r}"
-        print(f"load {words}: told status {status}, {output!r}, standard error {error!r}\n  wanted {wanted}")
-    for kind in KINDS:
-        if not kinds[kind]:
-            failed += 1
-            print(f"no run reached an event of kind {kind}")
-    print("events: " + ", ".join(f"{kind} {kinds[kind]}" for kind in KINDS))
-    print(f"{passed} passed, {failed} failed")
-    return 1 if failed else 0
+        tally.note(is_well, f"load {words}: told status {status}, {output!r}, standard error {error!r}\n  wanted {wanted}")
+    print(f"events: {tally.want_reached(KINDS, kinds)}")
+    return tally.end()
 
 
 def expect(seed, count):
@@ -214,7 +204,4 @@ def expect(seed, count):
 if __name__ == "__main__":
     if len(sys.argv) == 4 and sys.argv[1] == "expect":
         sys.exit(expect(int(sys.argv[2]), int(sys.argv[3])))
-    if len(sys.argv) not in (2, 3):
-        print(__doc__, file=sys.stderr)
-        sys.exit(2)
-    sys.exit(main(sys.argv[1], int(sys.argv[2]) if len(sys.argv) > 2 else 1))
+    common.begin(main, __doc__, has_seed=True)

@@ -11,13 +11,12 @@ Compared are exit status, standard output, and of standard error the line that i
 no drawn script reaches is a failure. The first run that differs is shortened and printed. The last line is 'N passed, N failed'.
 """
 import random
-import re
-import subprocess
 import sys
 from collections import Counter
 from time import monotonic
 
 sys.dont_write_bytecode = True
+import common  # noqa: E402
 import node  # noqa: E402
 import replay  # noqa: E402
 import worked  # noqa: E402
@@ -641,69 +640,40 @@ def drawn(draw):
 
 
 def told(program, words, text):
-    """Status, output, and the line at fault; under status 0 and 2 what stands on standard error, if anything."""
-    run = subprocess.run([program, "midi", *words], input=text, capture_output=True, timeout=60, check=False)
-    error = run.stderr.decode("latin-1")
-    named = re.search(r"line ([0-9]+)", error) if run.returncode == 8 else None
-    return run.returncode, run.stdout.decode("latin-1"), int(named[1]) if named else error or None
+    return common.answer(program, ["midi", *words], text)
 
 
 def differs(program, words, text):
     return told(program, words, text) != wanted(words, text, Counter())[0]
 
 
-def shortened(program, words, text):
-    """As few blocks as half of them and a half of that show a difference too, and the script without the lines that aren't needed for one;
-    what is found in half a minute."""
-    end = monotonic() + 30
-    length, blocks = map(int, words)
-    while blocks > 1 and monotonic() < end and differs(program, (str(length), str(blocks // 2)), text):
-        blocks //= 2
-    words, lines = (str(length), str(blocks)), text.splitlines(keepends=True)
-    size = max(1, len(lines) // 2)
-    while size and monotonic() < end:
-        at = 0
-        while at < len(lines) and monotonic() < end:
-            less = b"".join(lines[:at] + lines[at + size :])
-            if differs(program, words, less):
-                lines = less.splitlines(keepends=True)
-            else:
-                at += size
-        size //= 2
-    return words, b"".join(lines)
-
-
 def show(program, words, text, want=None):
+    """Where nothing is said of what is wanted, as few blocks as half of them and a half of that show a difference too, and the script
+    without the lines that aren't needed for one: what is found in half a minute."""
     if want is None:
-        words, text = shortened(program, words, text)
+        end = monotonic() + 30
+        length, blocks = map(int, words)
+        while blocks > 1 and monotonic() < end and differs(program, (str(length), str(blocks // 2)), text):
+            blocks //= 2
+        words = (str(length), str(blocks))
+        text = common.shortened(text, lambda text: differs(program, words, text), lambda: monotonic() < end)
         want = wanted(words, text, Counter())[0]
-    found = told(program, words, text)
-    shown = text.decode("latin-1")
-    print(f"the first run that differs: midi {' '.join(words)}\n{shown if len(shown) < 4000 else shown[:2000] + '..' + shown[-1000:]}")
-    print(f"wanted status {want[0]}, line {want[2]}; told status {found[0]}, line {found[2]}")
-    ours, theirs = want[1].split("\n"), found[1].split("\n")
-    at = next((k for k, pair in enumerate(zip(ours, theirs)) if pair[0] != pair[1]), min(len(ours), len(theirs)))
-    print(f"line {at + 1} of the output:\n  wanted {''.join(ours[at : at + 1])}\n  told   {''.join(theirs[at : at + 1])}")
+    common.show(f"the first run that differs: midi {' '.join(words)}", text, want, told(program, words, text))
 
 
-class Tally:
-    """How many runs were as wanted, and how many weren't."""
-
+class Tally(common.Tally):
     def __init__(self, program):
-        self.program, self.passed, self.failed = program, 0, 0
+        super().__init__()
+        self.program = program
 
-    def note(self, name, *holds):
-        self.passed += all(holds)
-        self.failed += not all(holds)
-        if not all(holds):
-            print(f"{name}: not as wanted")
-        return all(holds)
+    def holds(self, name, *holds):
+        return self.note(all(holds), f"{name}: not as wanted")
 
     def by_hand(self):
         for length, blocks, script, events in [*WORKED, *seconds()]:
             words, text, want = (str(length), str(blocks)), script.encode(), (0, told_as(blocks, events), None)
             read = wanted(words, text, Counter())[0]
-            if not self.note(f"midi {length} {blocks} of {script[:200]!r}", told(self.program, words, text) == want, read == want):
+            if not self.holds(f"midi {length} {blocks} of {script[:200]!r}", told(self.program, words, text) == want, read == want):
                 if read != want:
                     print(f"the plain reading: {str(read)[:600]}")
                 if self.failed == 1:
@@ -713,33 +683,29 @@ class Tally:
         for words, text, line in at_fault():
             read = wanted(words, text, Counter())[0]
             want = (8, "", line) if line else read
-            self.note(f"midi {words} of {text[-60:]!r}, with line {line} at fault", told(self.program, words, text) == want, read == want)
+            self.holds(f"midi {words} of {text[-60:]!r}, with line {line} at fault", told(self.program, words, text) == want, read == want)
 
     def spellings(self):
         right, wrong = (HEAD + PLAYS).encode(), b"replay 3\n"
         for words, meant in SPELLINGS:
             if meant:
                 read = wanted(tuple(map(str, meant)), right, Counter())[0]
-                self.note(f"midi {words}", told(self.program, words, right) == read)
-                self.note(f"midi {words} of a script at fault", told(self.program, words, wrong) == (8, "", 1))
+                self.holds(f"midi {words}", told(self.program, words, right) == read)
+                self.holds(f"midi {words} of a script at fault", told(self.program, words, wrong) == (8, "", 1))
                 continue
             for text in (right, wrong):
                 status, output, error = told(self.program, words, text)
-                self.note(f"midi {words}, told status {status}, {output[:100]!r}, {str(error)[:100]!r}", status == 2, output == "", error is not None)
+                self.holds(f"midi {words}, told status {status}, {output[:100]!r}, {str(error)[:100]!r}", status == 2, output == "", error is not None)
 
     def scripts(self, draw, reached):
         for words, text in drawn(draw):
             want, others = wanted(words, text, reached)
             reached["microseconds"] += int(words[0]) * int(words[1])
-            if told(self.program, words, text) == want:
-                self.passed += 1
-            else:
-                self.failed += 1
-                if self.failed == 1:
-                    show(self.program, words, text)
+            if not self.note(told(self.program, words, text) == want) and self.failed == 1:
+                show(self.program, words, text)
             for other, want in others.items():
                 reached["other blocks over the same time"] += 1
-                self.note(f"midi {' '.join(other)} for midi {' '.join(words)} of {text[:300]!r}", told(self.program, other, text) == want)
+                self.holds(f"midi {' '.join(other)} for midi {' '.join(words)} of {text[:300]!r}", told(self.program, other, text) == want)
 
 
 def main(program, seed):
@@ -748,17 +714,9 @@ def main(program, seed):
     tally.faults()
     tally.spellings()
     tally.scripts(random.Random(seed), reached)
-    for case in REACHED:
-        if not reached[case]:
-            tally.failed += 1
-            print(f"no script reached the case: {case}")
-    print(f"{reached['microseconds']:,} microseconds of drawn scripts; cases: " + ", ".join(f"{case} {reached[case]}" for case in REACHED))
-    print(f"{tally.passed} passed, {tally.failed} failed")
-    return 1 if tally.failed else 0
+    print(f"{reached['microseconds']:,} microseconds of drawn scripts; cases: {tally.want_reached(REACHED, reached)}")
+    return tally.end()
 
 
 if __name__ == "__main__":
-    if len(sys.argv) not in (2, 3):
-        print(__doc__, file=sys.stderr)
-        sys.exit(2)
-    sys.exit(main(sys.argv[1], int(sys.argv[2]) if len(sys.argv) > 2 else 1))
+    common.begin(main, __doc__, has_seed=True)

@@ -9,13 +9,13 @@ sentence on standard error. The last line is 'N passed, N failed'.
 """
 import os
 import pty
-import subprocess
 import sys
 from fractions import Fraction
 
 sys.dont_write_bytecode = True
+import common  # noqa: E402
+from common import EXAMPLES, HERE, read, write  # noqa: E402
 from midi import steady  # noqa: E402
-from session import EXAMPLES, HERE, compare, read, write  # noqa: E402
 
 TOOL = os.path.join(HERE, "tools", "midi_file.py")
 SCRIPT, EXPECTED = (os.path.join(EXAMPLES, "midi" + ending) for ending in (".script", ".clock"))
@@ -178,15 +178,13 @@ def made():
 
 def make(words, text=b""):
     """Status, standard output and standard error of the tool."""
-    done = subprocess.run([sys.executable, TOOL, *words], input=text, capture_output=True, timeout=600, check=False)
-    return done.returncode, done.stdout, done.stderr.decode()
+    return common.of_tool(TOOL, words, text)
 
 
 def example(program, folder):
-    with open(SCRIPT, "rb") as script:
-        run = subprocess.run([program, "midi", "10000", "1000"], stdin=script, stdout=subprocess.PIPE, timeout=60, check=False)
-    yield "examples/midi.clock", run.stdout.decode() == read(EXPECTED), True
-    status, data, error = make([], run.stdout)
+    _, told, _ = common.ended([program, "midi", "10000", "1000"], read(SCRIPT).encode())
+    yield "examples/midi.clock", told.decode() == read(EXPECTED), True
+    status, data, error = make([], told)
     yield "a file of the program's output", (status, error), (0, "")
     yield "the same of stored output", make([EXPECTED]), (0, data, "")
     yield "what is in it", differences(File(data), read(EXPECTED)), []
@@ -248,31 +246,30 @@ def refused(program, folder):
 
 def streams(program, folder):
     """A full device, a reader that leaves, and a terminal."""
-    words, pipe = [sys.executable, TOOL, EXPECTED], subprocess.PIPE
+    words = [sys.executable, TOOL, EXPECTED]
     if os.path.exists("/dev/full"):
         with open("/dev/full", "wb") as full:
-            done = subprocess.run(words, stdout=full, stderr=pipe, timeout=600, check=False)
-        sentence = b"midi_file: standard output could not be written: No space left on device\n"
-        yield "a full device", (done.returncode, done.stderr), (2, sentence)
+            found = common.ended(words, stdout=full)[::2]
+        yield "a full device", found, (2, b"midi_file: standard output could not be written: No space left on device\n")
     ours, theirs = os.pipe()
     os.close(ours)
-    done = subprocess.run(words, stdout=theirs, stderr=pipe, timeout=600, check=False)
+    found = common.ended(words, stdout=theirs)[::2]
     os.close(theirs)
-    yield "a reader that has left", (done.returncode, done.stderr), (0, b"")
+    yield "a reader that has left", found, (0, b"")
     try:
         ours, theirs = pty.openpty()
     except OSError:
         print("skipped: no terminal can be had")
         return
-    done = subprocess.run(words, stdout=theirs, stderr=pipe, timeout=600, check=False)
+    found = common.ended(words, stdout=theirs)[::2]
     os.close(ours)
     os.close(theirs)
-    sentence = b"midi_file: standard output is a terminal, which shows no MIDI file; `> FILE` keeps it\n"
-    yield "a terminal", (done.returncode, done.stderr), (2, sentence)
+    yield "a terminal", found, (2, b"midi_file: standard output is a terminal, which shows no MIDI file; `> FILE` keeps it\n")
+
+
+def main(program):
+    return common.compared((example, made_here, refused, streams), program)
 
 
 if __name__ == "__main__":
-    if len(sys.argv) != 2:
-        print(__doc__, file=sys.stderr)
-        sys.exit(2)
-    sys.exit(compare(os.path.abspath(sys.argv[1]), (example, made_here, refused, streams)))
+    common.begin(main, __doc__)

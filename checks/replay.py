@@ -12,12 +12,11 @@ differs is shortened and printed. A rule that no story reaches is a failure. Bes
 `replay`, whose answers were worked out by hand; the plain reading has to give them too. The last line is 'N passed, N failed'.
 """
 import random
-import re
-import subprocess
 import sys
 from collections import Counter
 
 sys.dont_write_bytecode = True
+import common  # noqa: E402
 import node  # noqa: E402
 import worked  # noqa: E402
 
@@ -603,71 +602,29 @@ def wanted(text, reached):
 
 
 def told(program, text):
-    run = subprocess.run([program, "replay"], input=text, capture_output=True, timeout=60, check=False)
-    named = re.search(r"line ([0-9]+)", run.stderr.decode("latin-1")) if run.returncode == 8 else None
-    return run.returncode, run.stdout.decode("latin-1"), int(named[1]) if named else None
-
-
-def differs(program, text):
-    return told(program, text) != wanted(text, Counter())
-
-
-def shortened(program, text):
-    """The script without the lines that aren't needed for a difference; at most a thousand runs."""
-    lines, size, runs = text.splitlines(keepends=True), len(text), 0
-    size = max(1, len(lines) // 2)
-    while size and runs < 1000:
-        at = 0
-        while at < len(lines) and runs < 1000:
-            less, runs = lines[:at] + lines[at + size :], runs + 1
-            if differs(program, b"".join(less)):
-                lines = less
-            else:
-                at += size
-        size //= 2
-    return b"".join(lines)
+    return common.answer(program, ["replay"], text)
 
 
 def show(program, text):
-    text = shortened(program, text)
-    (status, output, line), (given, found, named) = wanted(text, Counter()), told(program, text)
-    print(f"the first script that differs, shortened:\n{text.decode('latin-1')}")
-    print(f"wanted status {status}, line {line}; told status {given}, line {named}")
-    ours, theirs = output.split("\n"), found.split("\n")
-    at = next((k for k, pair in enumerate(zip(ours, theirs)) if pair[0] != pair[1]), min(len(ours), len(theirs)))
-    print(f"line {at + 1} of the output:\n  wanted {''.join(ours[at : at + 1])}\n  told   {''.join(theirs[at : at + 1])}")
+    text = common.shortened(text, lambda text: told(program, text) != wanted(text, Counter()), common.at_most(1000))
+    common.show("the first script that differs, shortened", text, wanted(text, Counter()), told(program, text))
 
 
 def main(program, seed):
-    passed, failed, faults, reached = 0, 0, 0, Counter()
+    tally, faults, reached = common.Tally(), 0, Counter()
     for text in scripts(random.Random(seed)):
         want = wanted(text, reached)
         faults += want[0] == 8
-        if told(program, text) == want:
-            passed += 1
-        else:
-            failed += 1
-            if failed == 1:
-                show(program, text)
+        if not tally.note(told(program, text) == want) and tally.failed == 1:
+            show(program, text)
     for text, by_hand in worked.replayed():
         found, read = told(program, text.encode()), wanted(text.encode(), Counter())
-        if worked.agrees(found, by_hand) and worked.agrees(read, by_hand):
-            passed += 1
-            continue
-        failed += 1
-        for name, what in (("wanted", by_hand), ("told", found), ("the plain reading", read)):
-            print(f"{text[:200]!r}: {name} {str(what)[:400]}")
-    for rule in REACHED:
-        if not reached[rule]:
-            failed += 1
-            print(f"no story reached: {rule}")
-    print(f"{faults} scripts outside the grammar; reached: " + ", ".join(f"{rule} {reached[rule]}" for rule in REACHED))
-    print(f"{passed} passed, {failed} failed")
-    return 1 if failed else 0
+        if not tally.note(worked.agrees(found, by_hand) and worked.agrees(read, by_hand)):
+            for name, what in (("wanted", by_hand), ("told", found), ("the plain reading", read)):
+                print(f"{text[:200]!r}: {name} {str(what)[:400]}")
+    print(f"{faults} scripts outside the grammar; reached: {tally.want_reached(REACHED, reached)}")
+    return tally.end()
 
 
 if __name__ == "__main__":
-    if len(sys.argv) not in (2, 3):
-        print(__doc__, file=sys.stderr)
-        sys.exit(2)
-    sys.exit(main(sys.argv[1], int(sys.argv[2]) if len(sys.argv) > 2 else 1))
+    common.begin(main, __doc__, has_seed=True)

@@ -12,15 +12,14 @@ import os
 import re
 import subprocess
 import sys
-import tempfile
 import xml.etree.ElementTree as ElementTree
 
 sys.dont_write_bytecode = True
+import common  # noqa: E402
 import node  # noqa: E402
+from common import EXAMPLES, HERE, read, write  # noqa: E402
 
-HERE = os.path.dirname(os.path.dirname(os.path.realpath(__file__)))
 TOOL = os.path.join(HERE, "tools", "session.py")
-EXAMPLES = os.path.join(HERE, "examples")
 SVG = "{http://www.w3.org/2000/svg}"
 
 NODE = "node QRSTUVWX 1 500000 1 1000000\n"
@@ -215,20 +214,8 @@ PICTURES = {
 
 def tell(words, text=b"", tool=TOOL):
     """Status, standard output and standard error of the tool."""
-    done = subprocess.run([sys.executable, tool, *words], input=text, capture_output=True, timeout=600, check=False)
-    return done.returncode, done.stdout.decode(), done.stderr.decode()
-
-
-def read(*names):
-    with open(os.path.join(*names), encoding="utf-8") as file:
-        return file.read()
-
-
-def write(folder, name, text):
-    path = os.path.join(folder, name)
-    with open(path, "wb") as file:
-        file.write(text if isinstance(text, bytes) else text.encode())
-    return path
+    status, output, error = common.of_tool(tool, words, text)
+    return status, output.decode(), error
 
 
 def parts_of(text):
@@ -263,7 +250,7 @@ def examples(program, folder):
         yield f"{name} with marks", unmarked(marked), read(EXAMPLES, name + ".expected")
         output = ["--output", write(folder, "output", marked), "--program", os.path.join(folder, "none")]
         status, digits, error = tell([*output, "--datagrams"], text)
-        decoded = subprocess.run([program, "decode"], input=digits.encode(), capture_output=True, timeout=600, check=False).stdout
+        _, decoded, _ = common.ended([program, "decode"], digits.encode())
         stored = tell([*output, "--decoded", write(folder, "decoded", decoded), "-"], text)
         yield f"{name} of stored output", (status, error, stored), (0, "", (0, told, ""))
     yield "docs/session.svg", read(folder, "three-peers.svg") == read(HERE, "docs", "session.svg"), True
@@ -272,7 +259,7 @@ def examples(program, folder):
 def replayed(program, text):
     """What the program writes for the recording with its marks."""
     _, marked, _ = tell(["--marked"], text)
-    return subprocess.run([program, "replay"], input=marked.encode("latin-1"), capture_output=True, timeout=600, check=False).stdout.decode()
+    return common.ended([program, "replay"], marked.encode("latin-1"))[1].decode()
 
 
 def unmarked(output):
@@ -474,9 +461,9 @@ def leaving(tool, words, first):
     yield "a reader that leaves after a line", (line.lstrip(), error, child.wait(timeout=600)), (first, "", 0)
     if os.path.exists("/dev/full"):
         with open("/dev/full", "wb") as full:
-            done = subprocess.run(words, stdout=full, stderr=pipe, timeout=600, check=False)
-        found, name = (done.returncode, done.stderr.decode()), os.path.basename(tool).removesuffix(".py")
-        yield "a full device", found, (2, f"{name}: standard output could not be written: No space left on device\n")
+            status, _, error = common.ended(words, stdout=full, timeout=600)
+        name = os.path.basename(tool).removesuffix(".py")
+        yield "a full device", (status, error.decode()), (2, f"{name}: standard output could not be written: No space left on device\n")
 
 
 def streams(program, folder):
@@ -485,27 +472,9 @@ def streams(program, folder):
     yield from leaving(TOOL, ["--program", program, script], OPENS)
 
 
-def compare(program, parts):
-    """What the parts of a check found with what they wanted."""
-    failed = passed = 0
-    with tempfile.TemporaryDirectory() as folder:
-        for part in parts:
-            try:
-                for name, found, wanted in part(program, folder):
-                    if found == wanted:
-                        passed += 1
-                        continue
-                    failed += 1
-                    print(f"{name}: found {found!r}, wanted {wanted!r}")
-            except (OSError, ValueError, LookupError, ElementTree.ParseError) as error:
-                failed += 1
-                print(f"{part.__name__}: {type(error).__name__}: {error}")
-    print(f"{passed} passed, {failed} failed")
-    return 1 if failed else 0
+def main(program):
+    return common.compared((examples, made_here, refused, streams), program)
 
 
 if __name__ == "__main__":
-    if len(sys.argv) != 2:
-        print(__doc__, file=sys.stderr)
-        sys.exit(2)
-    sys.exit(compare(os.path.abspath(sys.argv[1]), (examples, made_here, refused, streams)))
+    common.begin(main, __doc__)

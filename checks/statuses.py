@@ -14,6 +14,9 @@ import subprocess
 import sys
 import threading
 
+sys.dont_write_bytecode = True
+import common  # noqa: E402
+
 NODE = b"node QRSTUVWX 1 500000 1 1000000\n"
 GATE = b"gate 127.0.0.1:20809\n"
 HEAD = b"replay 1\n" + NODE + GATE
@@ -26,59 +29,10 @@ OPENING = b"state 0 500000 0 1000000 0 0 0 1 0 1000000 0 0\n"
 LINK = b"link 1\nsetup 500000 1\ngate 127.0.0.1:0\n"
 LOOK = b"at 0 look\n"
 
-COMMANDS = b"""\
-Usage: jorazhil <COMMAND>
-
-  jorazhil replay < SCRIPT                   reads a script on standard input, and writes what the node sends and shows
-  jorazhil decode < DATAGRAMS                reads datagrams in hex on standard input, one a line, and tells in a line what each says
-  jorazhil filter < PAIRS                    reads pairs of a sample count and a host time on standard input, one a line, \
-and gives each a smooth host time
-  jorazhil midi <LENGTH> <BLOCKS> < SCRIPT   reads a script on standard input, plays it in BLOCKS blocks of LENGTH microseconds, \
-and writes the MIDI clock
-  jorazhil load <SEED> <COUNT>               runs a node through generated events, and writes how much there was and the last state
-  jorazhil live [OPTIONS] < SCRIPT           plays a live script beside its peers, and writes how much there was and the last state
-  jorazhil control <ENDPOINT> < SCRIPT       plays beside its peers, driven line by line by a program that connects to ENDPOINT
-"""
-REPLAY = b"Usage: jorazhil replay < SCRIPT\n"
-DECODE = b"Usage: jorazhil decode < DATAGRAMS\n"
-FILTER = b"Usage: jorazhil filter < PAIRS\n"
-MIDI = b"""\
-Usage: jorazhil midi <LENGTH> <BLOCKS> < SCRIPT
-
-Arguments:
-  <LENGTH>  how long each block is, in microseconds, from 1 to 1000000
-  <BLOCKS>  how many blocks, from 0 to 524288
-"""
-LOAD = b"""\
-Usage: jorazhil load <SEED> <COUNT>
-
-Arguments:
-  <SEED>   the seed of the events, from 0 to 18446744073709551615
-  <COUNT>  how many events, from 1 to 524288
-"""
-LIVE = b"""\
-Usage: jorazhil live [OPTIONS] < SCRIPT
-
-Options:
-      --events <N>   how many events the journal takes, from 1 to 524288 [default: 262144]
-      --blocks <N>   how many blocks of 20 milliseconds are played at most, from 0 to 524288 [default: 262144]
-      --quantum <N>  the length in microbeats that accents and phases are counted in at first, from 0, which is none, \
-to 1099511627776 [default: 4000000]
-      --group <N>    the group of the nodes that hear each other, from 0, which all Link programs are in, to 65535 [default: 0]
-      --record       also writes the run's replay script
-"""
-CONTROL = b"""\
-Usage: jorazhil control [OPTIONS] <ENDPOINT> < SCRIPT
-
-Arguments:
-  <ENDPOINT>  where the client connects, as 127.0.0.1:20900
-
-Options:
-      --events <N>   how many events the journal takes, from 1 to 524288 [default: 262144]
-      --quantum <N>  the length in microbeats that beats are counted in at first, from 0, which is none, \
-to 1099511627776 [default: 4000000]
-      --group <N>    the group of the nodes that hear each other, from 0, which all Link programs are in, to 65535 [default: 0]
-"""
+COMMANDS = common.read(common.HERE, "help", "usage.txt").encode()
+REPLAY, DECODE, FILTER, MIDI, LOAD, LIVE, CONTROL = (
+    common.page_of(word).encode() for word in ("replay", "decode", "filter", "midi", "load", "live", "control")
+)
 INPUT = b"jorazhil: standard input could not be read: %s; nothing was written\n"
 SINK = b"jorazhil: standard output could not be written: %s; what was written is the front of the output\n"
 DIRECTORY, DESCRIPTOR, FULL = b"Is a directory (os error 21)", b"Bad file descriptor (os error 9)", b"No space left on device (os error 28)"
@@ -640,11 +594,6 @@ CONTROL_RUNS = [
 ]
 
 
-def run(program, words, **streams):
-    done = subprocess.run([program, *words], stderr=subprocess.PIPE, timeout=60, check=False, **streams)
-    return done.returncode, done.stdout, done.stderr
-
-
 def allowed(count):
     """What a process calls before it begins, to have so many descriptors at most."""
     return lambda: resource.setrlimit(resource.RLIMIT_NOFILE, (count, count))
@@ -653,7 +602,7 @@ def allowed(count):
 def no_live_runs(program):
     """Words behind which nothing is read or written, and something is told."""
     for words in NO_LIVE_RUN:
-        status, output, error = run(program, words, input=LINK + LOOK, stdout=subprocess.PIPE)
+        status, output, error = common.ended([program, *words], LINK + LOOK)
         yield f"{words}", (status, output, error[:10], b"\n\nUsage: jorazhil " in error), (2, b"", b"jorazhil: ", True)
 
 
@@ -674,7 +623,7 @@ def live_runs(program):
         yield f"{words}", line, b"jorazhil: live at 127.0.0.1:0; %s\n" % b", ".join(told)
     recorded = ((["--record"], 4_000_000), (["--record", "--"], 4_000_000), (["--events", "9", "--record"], 4_000_000))
     for words, quantum in (([], None), *recorded, (["--record", "--quantum=2"], 2), (["--quantum", "0", "--record"], 0)):
-        status, output, _ = run(program, ["live", "--blocks", "0", *words], input=LINK + LOOK, stdout=subprocess.PIPE)
+        status, output, _ = common.ended([program, "live", "--blocks", "0", *words], LINK + LOOK)
         found = b"\nreplay 2\n" in output, [line for line in output.splitlines() if line.startswith(b"quantum ")]
         wanted = (False, []) if quantum is None else (True, [b"quantum %d" % quantum])
         yield f"the record of live {words}", (status, *found), (0, *wanted)
@@ -683,7 +632,7 @@ def live_runs(program):
 def control_runs(program):
     """What is told of a run under control that can't listen where it is told to, and so ends. Its number of events hangs on the clock."""
     for words, at, *told in CONTROL_RUNS:
-        status, _, error = run(program, ["control", *words], input=LINK, stdout=subprocess.PIPE)
+        status, _, error = common.ended([program, "control", *words], LINK)
         journal = b"the journal took "
         found = [line if not line.startswith(b"jorazhil: " + journal) else journal for line in error.splitlines(True)]
         yield (
@@ -706,7 +655,7 @@ def lines_at_fault(program):
     texts += [(words, text, line) for words in (["live"], ["control", CLIENT]) for text, line in HEAD_FAULTS]
     for words, text, line in texts:
         line = line or 1 + text.count(b"\n")
-        status, output, error = run(program, words, input=text, stdout=subprocess.PIPE)
+        status, output, error = common.ended([program, *words], text)
         if text.count(b"at ") + text.count(b"block ") > 4096 and b"#" not in text:
             yield f"{words} on {text[-40:]!r}", (status, output, error), (10, b"", TOO_MANY)
         else:
@@ -718,13 +667,11 @@ def read_failures(program):
     """A standard input that can't be read: a directory, and one that is closed."""
     for words in (["replay"], ["decode"], ["filter"], ["midi", "1", "1"], ["live"], ["control", "127.0.0.1:0"]):
         directory = os.open("/", os.O_RDONLY)
-        found = run(program, words, stdin=directory, stdout=subprocess.PIPE)
+        found = common.ended([program, *words], stdin=directory)
         os.close(directory)
         yield f"{words[0]} of a directory", found, (5, b"", INPUT % DIRECTORY)
-    closed = subprocess.run(
-        ["/bin/sh", "-c", 'exec "$0" replay <&-', program], stdout=subprocess.PIPE, stderr=subprocess.PIPE, timeout=60, check=False
-    )
-    yield "replay of a closed input", (closed.returncode, closed.stdout, closed.stderr), (5, b"", INPUT % DESCRIPTOR)
+    found = common.ended(["/bin/sh", "-c", 'exec "$0" replay <&-', program])
+    yield "replay of a closed input", found, (5, b"", INPUT % DESCRIPTOR)
 
 
 def write_failures(program):
@@ -740,19 +687,17 @@ def write_failures(program):
     ):
         if os.path.exists("/dev/full"):
             with open("/dev/full", "wb") as full:
-                status, _, error = run(program, words, input=text, stdout=full)
+                status, _, error = common.ended([program, *words], text, stdout=full)
             yield f"{words[0]} to a full device", (status, error), (7, told + SINK % FULL)
-    closed = subprocess.run(
-        ["/bin/sh", "-c", 'exec "$0" replay >&-', program], input=HEAD, stdout=subprocess.PIPE, stderr=subprocess.PIPE, timeout=60, check=False
-    )
-    yield "replay to a closed output", (closed.returncode, closed.stdout, closed.stderr), (7, b"", SINK % DESCRIPTOR)
+    found = common.ended(["/bin/sh", "-c", 'exec "$0" replay >&-', program], HEAD)
+    yield "replay to a closed output", found, (7, b"", SINK % DESCRIPTOR)
 
 
 def live_failures(program):
     """A live run goes on without the port or the device that failed, and past a full journal, and tells how much there was."""
 
     def begins(name, script, words, wanted, **streams):
-        status, output, error = run(program, ["live", *words], input=script, stdout=subprocess.PIPE, **streams)
+        status, output, error = common.ended([program, "live", *words], script, **streams)
         return f"live {name}", (status, output[: len(wanted[1])], error), wanted
 
     # No event but the opening tick and the end, and no block.
@@ -772,7 +717,7 @@ def live_failures(program):
         if os.path.exists("/dev/full"):
             # Of two causes the network's comes first.
             with open("/dev/full", "wb") as full:
-                found = run(program, ["live", "--blocks", "0"], input=taken + LOOK, stdout=full)
+                found = common.ended([program, "live", "--blocks", "0"], taken + LOOK, stdout=full)
             yield "live on a port in use, to a full device", found, (3, None, without_port(b"gate " + gate, IN_USE)[2])
     # Nobody holds that port any more but the run's own first gate.
     twice = taken + b"gate " + gate + b"\n"
@@ -788,7 +733,7 @@ def live_failures(program):
     yield begins("with the most room", LINK + LOOK, ["--blocks", "0", "--events", "524288"], (0, b"# live 2 1 0 1 0 0 0 0\n# state 0 ", most))
     full_journal = LIVE_AT % (b"127.0.0.1:0", b"1 event") + JOURNAL % (1, b"1 event") + EVENTS
     yield begins("with a full journal", LINK + LOOK, ["--blocks", "0", "--events", "1"], (6, b"# live 1 1 0 1 0 0 0 0\n# state 0 ", full_journal))
-    status, output, error = run(program, ["live", "--blocks", "0"], input=LINK + b"gate 127.0.0.1:0\n", stdout=subprocess.PIPE)
+    status, output, error = common.ended([program, "live", "--blocks", "0"], LINK + b"gate 127.0.0.1:0\n")
     both = LIVE_AT % (b"127.0.0.1:0 and 127.0.0.1:0", b"262144 events")
     took = JOURNAL % (int((output.split() + [b"0"] * 3)[2]), b"262144 events")
     yield "live without an at command", (status, error), (0, both + took + NO_AT)
@@ -849,36 +794,22 @@ def pipe_closed_after(program, count):
 
 def name_of_no_text(program):
     """The program under a name that is no UTF-8, which is none of its words."""
-    done = subprocess.run([b"\xff", b"replay"], executable=program, input=HEAD, stdout=subprocess.PIPE, stderr=subprocess.PIPE, timeout=60, check=False)
-    return "replay under a name that is no text", (done.returncode, done.stdout, done.stderr), (0, OPENING + b"done 0 1 0\n", b"")
+    found = common.ended([b"\xff", b"replay"], HEAD, executable=program)
+    return "replay under a name that is no text", found, (0, OPENING + b"done 0 1 0\n", b"")
 
 
 def main(program):
-    results = []
+    tally = common.Tally()
     for words, text, status, error in TEXTS:
-        found = run(program, words, input=text, stdout=subprocess.PIPE)
-        results.append((f"{words} on {text[-40:]!r}", found, (status, b"", error)))
-    results += no_live_runs(program)
-    results += live_runs(program)
-    results += control_runs(program)
-    results += lines_at_fault(program)
-    results += read_failures(program)
-    results += write_failures(program)
-    results += live_failures(program)
-    results.append(clicks_without_room(program))
-    results.append(pipe_closed_after(program, 1000))
-    results.append(name_of_no_text(program))
-    failed = 0
-    for name, found, wanted in results:
-        if found != wanted:
-            failed += 1
-            print(f"{name}: found {found!r}, wanted {wanted!r}")
-    print(f"{len(results) - failed} passed, {failed} failed")
-    return 1 if failed else 0
+        tally.compare(f"{words} on {text[-40:]!r}", common.ended([program, *words], text), (status, b"", error))
+    for part in (no_live_runs, live_runs, control_runs, lines_at_fault, read_failures, write_failures, live_failures):
+        for row in part(program):
+            tally.compare(*row)
+    tally.compare(*clicks_without_room(program))
+    tally.compare(*pipe_closed_after(program, 1000))
+    tally.compare(*name_of_no_text(program))
+    return tally.end()
 
 
 if __name__ == "__main__":
-    if len(sys.argv) != 2:
-        print(__doc__, file=sys.stderr)
-        sys.exit(2)
-    sys.exit(main(sys.argv[1]))
+    common.begin(main, __doc__)
