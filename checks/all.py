@@ -80,7 +80,6 @@ def examples():
 
 
 # The names of the checks, each with what it is and, of a script, what is told where it fails.
-RULES = ["tools/rules.py", "--check"] if (TOP / "tools" / "rules.py").exists() else ["checks/rules.py"]
 QUICK = {
     "handles": handles,
     "parse": parse,
@@ -90,7 +89,7 @@ QUICK = {
     "prose": (["checks/prose.py"], "a line of prose is longer than 140 characters"),
     "quotes": (["checks/quotes.py"], "code that a page quotes does not stand so in its file"),
     "links": (["checks/links.py"], "a link of a page leads to nothing, or a page of docs/ is not reached from README.md"),
-    "rules": (RULES, "docs/RULES.md is not as it has to be"),
+    "rules": (["tools/rules.py", "--check"], "docs/RULES.md is not what tools/rules.py writes"),
 }
 OF_PROGRAMS = {
     "examples": examples,
