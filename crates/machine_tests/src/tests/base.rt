@@ -14,6 +14,7 @@ mod offsets;
 mod outside;
 mod rows;
 mod states;
+mod together;
 
 use crate::tests::expect;
 use lk_base::{ClientStart, Timeline, clip};
