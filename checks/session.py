@@ -4,8 +4,8 @@
 Each examples/NAME.script is told as examples/NAME.told has it, by the program's own run and by stored output; docs/session.svg is the
 picture of three-peers.script. The marks that the tool puts between events change nothing: without the pongs to them the output is
 examples/NAME.expected. Then scripts made here: events of one moment, a ping that carries a session, ids that aren't text, a record with its
-summary, moments that fall, a session that is joined where nothing else changes, bars that change. Of pictures is looked at whether they are
-XML, and how many steps, marks and bands they have. Input that can't be told has to end with status 2 and one sentence on standard error.
+summary, moments that fall, a session that is joined where nothing else changes, two gates, bars that change. Of pictures it is looked at
+whether they are XML, and how many steps, marks and bands they have. Input that can't be told has to end with status 2 and one sentence on standard error.
 The last line is 'N passed, N failed'.
 """
 import os
@@ -175,6 +175,26 @@ BARS_TOLD = (
     "0:00.600  the recording ends: 6 events, 6 states shown, 1 datagram sent\n"
 )
 
+# Of two gates, at each of which a peer comes; the second one's brings a tempo.
+GATES_TEXT = (
+    head_of(0)
+    + "gate 10.8.0.1:17001\nto 10.8.0.2:17001\n"
+    + response(1_100_000, b"ABCDEFGH")
+    + response(1_200_000, b"IJKLMNOP").replace(" 0 127.0.0.1:20808 ", " 1 10.8.0.2:17001 ")
+    + response(1_300_000, b"IJKLMNOP", line=FAST).replace(" 0 127.0.0.1:20808 ", " 1 10.8.0.2:17001 ")
+    + "end 1500000\n"
+)
+ON_GATE = "IJKLMNOP at 10.8.0.2:17001 on the gate 10.8.0.1:17001"
+GATES_TOLD = (
+    OPENS.replace(" alone:", " alone at the gates 127.0.0.1:20809 and 10.8.0.1:17001:")
+    + "0:00.100  ABCDEFGH at 127.0.0.1:20808 on the gate 127.0.0.1:20809 comes: 1 peer\n"
+    f"0:00.200  {ON_GATE} comes: 2 peers\n"
+    f"0:00.300  the tempo is now 150.00 beats per minute, 400000 microseconds per beat (peer {ON_GATE})\n"
+    f"0:00.300  the beat moves: beat 0.000000 is now at 0:00.060000, and this moment is beat 0.600, as before (peer {ON_GATE})\n"
+    "0:00.500  the node says goodbye to 127.0.0.1:20808, 10.8.0.2:17001\n"
+    "0:00.500  the recording ends: 4 events, 4 states shown, 2 datagrams sent\n"
+)
+
 # In the group 258, with messages of other groups at the moments of those that are heard: none of them brought anything.
 GROUP_TEXT = (
     head_of(258)
@@ -280,6 +300,7 @@ def made_here(program, folder):
             counted(read(folder, "made.svg"))
     yield "messages of other groups", tell(run, GROUP_TEXT.encode()), (0, GROUP_TOLD, "")
     yield "a session that is joined beside a datagram", tell(run, JOINED_TEXT.encode()), (0, JOINED_TOLD, "")
+    yield "two gates", tell(run, GATES_TEXT.encode()), (0, GATES_TOLD, "")
     yield "bars that change", tell(run, BARS_TEXT.encode()), (0, BARS_TOLD, "")
     # Five marks, and two in the legend.
     yield "their picture", counted(read(folder, "made.svg")), (0, 0, 4, 1, 1, 0, 5 + 2)

@@ -38,7 +38,8 @@ DECODED = re.compile(
 
 # The moment is the node's, the greatest so far.
 Event = namedtuple("Event", "line kind now moment gate endpoint digits")
-Script = namedtuple("Script", "version name opened mpb sync group quantum places events")
+# Of gates there is the endpoint of each, of places the gate by its number and the endpoint.
+Script = namedtuple("Script", "version name opened mpb sync group quantum gates places events")
 # The session is in hex, or None in version 1.
 State = namedtuple("State", "line number mpb beat time playing start stamp sync peers moment apps audio session quantum")
 Sent = namedtuple("Sent", "line now gate endpoint digits")
@@ -60,8 +61,8 @@ def read_script(text):
     if version == 2:
         group, quantum, head = read_number(*said[2], "group", 65_535), read_number(*said[3], "quantum", 2**40), 4
     opened, (gates, places) = int(node[5]), read_gates(said[head:])
-    events = read_events(said[head + gates + len(places) : -1], opened, gates)
-    return Script(version, node[1], opened, int(node[3]), int(node[4]), group, quantum, places, events)
+    events = read_events(said[head + len(gates) + len(places) : -1], opened, len(gates))
+    return Script(version, node[1], opened, int(node[3]), int(node[4]), group, quantum, gates, places, events)
 
 
 def read_version(number, first):
@@ -81,14 +82,14 @@ def read_number(number, line, word, most):
 
 
 def read_gates(said):
-    """How many gates there are, and where each of their destinations is."""
-    gates, places = 0, []
+    """The gates, and where each of their destinations is."""
+    gates, places = [], []
     for number, line in said:
         words = (line or "").split(" ")
         if words[0] == "gate" and re.fullmatch(ENDPOINT, " ".join(words[1:])):
-            gates += 1
+            gates.append(words[1])
         elif words[0] == "to" and gates and re.fullmatch(ENDPOINT, " ".join(words[1:])):
-            places.append((gates - 1, words[1]))
+            places.append((len(gates) - 1, words[1]))
         else:
             break
     if not gates:

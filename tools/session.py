@@ -11,6 +11,7 @@ those of beats have microseconds. In brackets behind a change stands whose it wa
 A line of the output is told of the event that it follows from. So that the output tells which one that is, `replay` is given the recording
 with a mark behind each event: an empty ping of the same moment, from an endpoint that the recording doesn't have. The node answers it with
 a pong and does nothing else, so the pong ends what the event brought. A peer that is heard no more is told by the number of peers alone.
+Of a node of several gates it is told which one a peer's datagram came to.
 Which session the node is in, and how long its bars are, each state of a script of version 2 has. One of version 1 has bars of four beats,
 and the pong to the mark tells the session.
 """
@@ -150,6 +151,8 @@ class Story:
         shared = "starts are shared" if state.sync else "starts aren't shared"
         beat = f"beat {beat_words(state.beat)} is at {self.time(state.time, 6)}"
         opens = f"{self.script.name} opens alone" + (f" in the group {self.script.group}" if self.script.group else "")
+        if len(self.script.gates) > 1:
+            opens += f" at the gates {', '.join(self.script.gates[:-1])} and {self.script.gates[-1]}"
         self.tell(-1, OPENING, f"{opens}: {tempo_words(state.mpb)}, {beat}, {self.playing_words(state)}, {shared}")
         self.tempo.append(Change(state.moment, state.mpb, "", ""))
         self.peers.append(Change(state.moment, state.peers, "", ""))
@@ -184,8 +187,10 @@ class Story:
         return clock(host - self.script.opened, digits)
 
     def peer(self, event):
+        """Where there are several gates, with the one that it came to."""
         came = self.script.events[event]
-        return f"{id_words(self.told[came.digits][1])} at {came.endpoint}"
+        gate = f" on the gate {self.script.gates[came.gate]}" if len(self.script.gates) > 1 else ""
+        return f"{id_words(self.told[came.digits][1])} at {came.endpoint}{gate}"
 
     # A datagram that is sent.
 
