@@ -5,7 +5,8 @@ Each examples/NAME.script is told as examples/NAME.told has it, by the program's
 picture of three-peers.script. The marks that the tool puts between events change nothing: without the pongs to them the output is
 examples/NAME.expected. Then scripts made here: events of one moment, a ping that carries a session, ids that aren't text, a record with its
 summary, moments that fall, a session that is joined where nothing else changes, two gates, bars that change. Of pictures it is looked at
-whether they are XML, and how many steps, marks and bands they have. Input that can't be told has to end with status 2 and one sentence on standard error.
+whether they are XML, and how many steps, marks and bands they have. Input that can't be told has to end with status 2 and one sentence on
+standard error.
 The last line is 'N passed, N failed'.
 """
 import os
