@@ -10,7 +10,7 @@ in drawn ones and byte by byte; two lines sent at once, whose second answer wait
 several ways; lines of 64, of 65 and of 100,000 bytes, with and without a line feed; 4,096 lines and one more; no client, a second one, and
 one at another address; and each status that a run can end with, but for 9. The summaries count what was sent, and what a run tells on
 standard error from where it listens on, of its client too, is held line by line. Last, what tools/control.py tells through a pipe, of a
-run and of what is no run. No run is left behind.
+run, of bars that begin at any beat, and of what is no run. No run is left behind.
 The last line is 'N passed, N failed'.
 """
 import os
@@ -753,6 +753,30 @@ def tool_at_its_end(program):
     run.end(0, MOST_LINES, 0)
 
 
+def tool_and_bars(_):
+    """Bar and beat are counted from the origin, whatever beat is there. What answers here is no node, so that its clock is known. A beat of
+    3 seconds leaves room for a slow machine."""
+    with socket.create_server(("127.0.0.1", 0)) as server:
+
+        def serve():
+            for _ in cases:
+                client, _ = server.accept()
+                with client:
+                    client.recv(100)
+                    client.sendall(b"status 3000000 1234567 3000000 0 0\n")
+                    client.recv(100)
+
+        # Beats behind the origin, each with a tenth of one, for bars of four beats, of three and of none.
+        cases = [(0, "4", "bar 1.1"), (7, "4", "bar 2.4"), (7, "3", "bar 3.2"), (7, "0", "beat 8"), (-1, "4", "bar 0.4")]
+        threading.Thread(target=serve, daemon=True).start()
+        for beats, bar, wanted in cases:
+            began = time.time() - 3 * (beats + 1.1)
+            status, out, error = tell(["--bar", bar, "--began", f"{began:.6f}", "{}:{}".format(*server.getsockname())], "status\n")
+            want("its status and standard error", (status, error), (0, ""))
+            want(f"where the beat is that is {beats} behind the origin", out.strip().rpartition(", ")[2], wanted)
+            want("the origin", "beat 1.234567 is at 0:03.000000" in out, True)
+
+
 def tool_without_a_run(_):
     """Nobody, another program, one that goes away at once or behind an answer, and words at fault."""
     with socket.create_server(("127.0.0.1", 0)) as server:
@@ -812,6 +836,7 @@ def main(program, seed):
         ("other faults", other_faults, program),
         ("tools/control.py through a pipe", tool_in_a_pipe, program),
         ("tools/control.py at the end of the lines", tool_at_its_end, program),
+        ("tools/control.py and bars", tool_and_bars, program),
         ("tools/control.py without a run", tool_without_a_run, program),
         ("what the live run heard", beside.heard),
     ]

@@ -42,8 +42,11 @@ standard error, and those behind it are carried out all the same.
 Bar and beat. The node counts its times from its own start, and no answer tells which time it is. So bar and beat are known where --began
 tells when the run was started, as well as it tells that; and else from the first `tempo` on that changes the tempo by one in a hundred: the
 timelines before it and behind it meet at the moment of the change. For that this tool asks for the status before it and behind it, which
-are two lines more. Bars are counted from the timeline's origin, as the node counts its accents. No answer tells how long they are, so --bar
-does.
+are two lines more. Bars are counted from the timeline's origin, wherever that beat is, as the node counts its accents and Link programs
+their phase. No answer tells how long they are, so --bar does. The beats of `beat` and `time` are the node's own count, from its start on.
+
+No answer tells whether the node has a network either. Where a gate couldn't be bound the run says so on its standard error, serves its
+client without peers, and ends with status 3.
 
 4,096 lines are what a run answers. Each command is one, and `help`, `quit` and a command at fault are none. `watch` asks for the status as
 often as --every says, and counts the beats by itself meanwhile. Each time that half of the lines that were left are used it asks half as
