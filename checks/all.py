@@ -102,6 +102,8 @@ OF_PROGRAMS = {
     "script": (["checks/script.py", PROGRAM], "the script jorazhil doesn't do by itself what checks/script.py expects"),
     "readme": (["checks/readme.py"], "a command of README.md does not do what is told there"),
     "live": (["checks/live.py", PROGRAM], "two live runs beside each other are not what checks/live.py expects"),
+    "clicking": (["checks/clicking.py", PROGRAM], "live runs do not click together as checks/clicking.py expects"),
+    "sites": (["checks/sites.py", PROGRAM], "two networks are not one session as checks/sites.py expects"),
     "drums": (["checks/drums.py", PROGRAM, DRUMS], "the drum machine is not what checks/drums.py expects"),
     "control": (["checks/control.py", PROGRAM], "a run under control is not what checks/control.py expects"),
     "session": (["checks/session.py", PROGRAM], "what tools/session.py tells of a recording is not what checks/session.py expects"),
