@@ -41,6 +41,7 @@ PROGRAMS = {
     "drums": ["Usage: jorazhil drums < PATTERN", "<BLOCKS>", "<TEMPO>", "<LOCAL>", "from 60060 to 3000000", "examples/drums/four.pattern"],
 }
 TOOLS = {
+    "site": ["usage: jorazhil site --here PLACE", "--there PLACE", "--hours HOURS"],
     "client": ["usage: jorazhil client [", "--watch", "tempo BPM"],
     "session": ["usage: jorazhil session [", "--svg FILE"],
     "filter-plot": ["usage: jorazhil filter-plot [", "--svg FILE"],

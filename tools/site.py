@@ -4,8 +4,8 @@
 Each site has one machine with such a node. At the other sites the addresses change places (docs/ACROSS-NETWORKS.md). A place is an IPv4
 address, or one with a port, as 10.8.0.1:17001.
 
-  site.py --here 192.168.1.20 --way 10.8.0.1 --there 10.8.0.2 > site-a.script
-  site.py --here 192.168.2.30 --way 10.8.0.2 --there 10.8.0.1 > site-b.script
+  jorazhil site --here 192.168.1.20 --way 10.8.0.1 --there 10.8.0.2 > site-a.script
+  jorazhil site --here 192.168.2.30 --way 10.8.0.2 --there 10.8.0.1 > site-b.script
 """
 import array
 import errno
@@ -217,8 +217,8 @@ def run(program, site, group):
 
 
 def parser_of_words():
-    usage = "site.py --here PLACE --way PLACE --there PLACE [OPTIONS] > SCRIPT"
-    parser = Words("site.py", usage, __doc__, OPTIONS)
+    usage = "jorazhil site --here PLACE --way PLACE --there PLACE [OPTIONS] > SCRIPT"
+    parser = Words("jorazhil site", usage, __doc__, OPTIONS)
     parser.add_argument("--here", metavar="PLACE", help=f"this machine in its own network, that of its Link programs (port {HERE_PORT})")
     parser.add_argument("--way", metavar="PLACE", action="append", default=[], help=f"this machine on the way to other sites (port {WAY_PORT})")
     parser.add_argument("--there", metavar="PLACE", action="append", default=[], help=f"another site's --way (port {WAY_PORT}); for each site")
