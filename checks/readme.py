@@ -7,18 +7,22 @@ minute. Where a fenced block follows that begins with a digit or a bracket, it i
 behind the one before; two dots stand for anything, a time is any, and so is an id in round brackets or behind `the session of`.
 The last line is 'N blocks run, N failed', and the status is 1 where any failed or there are fewer than two.
 """
-import pathlib
+import os
 import re
+import signal
 import subprocess
 import sys
+from contextlib import suppress
 
-HERE = pathlib.Path(__file__).resolve().parent.parent
+sys.dont_write_bytecode = True
+from common import HERE, read, started  # noqa: E402
+
 MOST = 60
 
 
 def blocks():
     """The lines of each fenced block of README.md, with the number of its first line."""
-    lines, block, start = (HERE / "README.md").read_text(encoding="utf-8").split("\n"), None, 0
+    lines, block, start = read(HERE, "README.md").split("\n"), None, 0
     for number, line in enumerate(lines, 1):
         if not line.startswith("```"):
             if block is not None:
@@ -48,16 +52,21 @@ def pattern_of(line):
 
 
 def run(block):
-    """Runs the commands; answers what they printed, or what is wrong."""
+    """Runs the commands; answers what they printed, or what is wrong. Nothing that they started goes on behind them."""
     kept = [line for line in block if not line.startswith("rt ci")]
     script = "set -e -o pipefail\n" + "\n".join(kept) + "\nwait\n"
+    pipe = subprocess.PIPE
+    child = started(["bash", "-c", script], "", cwd=HERE, stdout=pipe, stderr=pipe, text=True, start_new_session=True)
     try:
-        done = subprocess.run(["bash", "-c", script], cwd=HERE, capture_output=True, text=True, timeout=MOST, stdin=subprocess.DEVNULL)
+        output, error = child.communicate(timeout=MOST)
     except subprocess.TimeoutExpired:
         return None, f"it didn't end within {MOST} seconds"
-    if done.returncode != 0:
-        return None, f"it ended with status {done.returncode}: {done.stderr.strip()[-300:]}"
-    return done.stdout, None
+    finally:
+        with suppress(ProcessLookupError):
+            os.killpg(child.pid, signal.SIGTERM)
+    if child.returncode != 0:
+        return None, f"it ended with status {child.returncode}: {error.strip()[-300:]}"
+    return output, None
 
 
 def lacking(wanted, text):
