@@ -38,7 +38,7 @@ PATIENCE, LOOKS, CUT = 40, 0.05, 10
 # Of the way, in seconds: how long it takes from the first site to the second and back at the least, how much longer at the most, and how
 # much longer still where a datagram is to come behind the next ones. Of a hundred datagrams so many have each fate.
 THERE, BACK, JITTER, LATE = 0.005, 0.025, 0.004, 0.03
-LOST, DOUBLED, REORDERED = 2, 3, 3
+LOST, DOUBLED, REORDERED = 3, 3, 3
 # How far ghost clocks may be off beside what the way makes, in microseconds: the machine is busy with other things too.
 SLACK = 5_000
 LISTENS = re.compile(r"^jorazhil: listening for a client at 127\.0\.0\.1:([0-9]+)$", re.M)

@@ -23,7 +23,7 @@ from shared import Refused, Words, end_of, quoted  # noqa: E402
 OPTIONS = """\
 Without words it tells which addresses this machine has. What isn't as it should be is told on standard error: an address that isn't this
 machine's, a port that is taken, a site without a route to it, more hours than the journal holds. The script is written all the same, since
-it may be for another machine; with --run nothing is run then, but for too many hours.
+it may be for another machine. With --run nothing is run then, except that of hours it is only told.
 
 Hours are reckoned by the events that a second brings, of which a journal takes 524,288 at most: 25 beside one Link program and one other
 node, 6 more for each further program of this network, 11 more for each further node, be it of another site or of this network. So beside
