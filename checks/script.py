@@ -107,7 +107,7 @@ PASSING = """case $1 in
 esac
 """
 # It is told of one crate at once, and of another one four seconds later, and then of none for half a minute.
-SLOW = PASSING.replace("  ci)\n", "  ci)\n    echo 'rt: lk_base proved'; sleep 4; echo 'rt: lk_outside proved'; sleep 33\n")
+SLOW = PASSING.replace("  ci)\n", "  ci)\n    echo 'rt: lk_base proved'; sleep 4; echo 'rt: lk_outside proved'; sleep 36\n")
 REFUSING = PASSING.replace("  ci)\n", "  ci)\n    echo 'src/main.rt:7:1: error: it is not proved'; echo 'rt: jorazhil NOT PROVED'; exec sleep 50\n")
 # At work, with a process of its own, until it is ended.
 ENDLESS = PASSING.replace("  ci)\n", '  ci)\n    sleep 100 & echo "$$ $!" >"$NOTES.new"; mv "$NOTES.new" "$NOTES"; wait\n')
@@ -238,8 +238,6 @@ def tools(folder):
 
 def first_builds(folder):
     """What isn't as wanted of first builds by a kit that keeps proofs, by what each shows; nothing where all is."""
-    slow = Copy(os.path.join(folder, "slow"), SLOW)
-    at_work = slow.begun(["replay"])
     copy = Copy(os.path.join(folder, "passing"), PASSING)
     tests = [line.split(":")[0] for line in read(HERE, "crates.txt").splitlines() if "_tests:" in line]
     for name, words, told in (("jorazhil", ["replay"], "ran replay\n"), ("drum_machine", ["drums", "5", "x"], "ran 5 x\n")):
@@ -272,12 +270,6 @@ def first_builds(folder):
     as_wanted = "ci" not in asked and "all check" in asked and asked[-2:][0] == "run -- replay"
     yield "jorazhil replay, where nothing can be kept", why or (None if as_wanted else f"rt was called, with {asked!r}")
     yield "the input of that run", None if read(copy.notes) == read(HERE, "crates", "jorazhil", "stdin") else "it isn't the stored one"
-    out, error = at_work.communicate(timeout=common.LONGEST)
-    far = [line for line in error.splitlines() if "crates are proved" in line]
-    of = f"of {linked('jorazhil')} crates are proved, after"
-    wanted = [f"jorazhil: {count} {of} 0 min" for count in (1, 2, 2, 3)]
-    yield "a build that takes a while", differs(0, ["ran replay\n"], ["it is proved first"], (at_work.returncode, out, error))
-    yield "how far it is told to be", None if far in (wanted, wanted[:3]) else f"found {far}, wanted {wanted}"
 
 
 def ended_builds(folder):
@@ -315,11 +307,23 @@ def tries(folder):
         yield f"a try that tells {line!r}", differs(125, ["tried"], [told], copy.run(["replay"], env=env))
 
 
+def told_how_far(at_work):
+    """What is told by a build that takes more than half a minute."""
+    out, error = at_work.communicate(timeout=common.LONGEST)
+    far = [line for line in error.splitlines() if "crates are proved" in line]
+    of = f"of {linked('jorazhil')} crates are proved, after"
+    wanted = [f"jorazhil: {count} {of} 0 min" for count in (1, 2, 2, 3)]
+    yield "a build that takes a while", differs(0, ["ran replay\n"], ["it is proved first"], (at_work.returncode, out, error))
+    yield "how far it is told to be", None if far in (wanted, wanted[:3]) else f"found {far}, wanted {wanted}"
+
+
 def main(*programs):
     tally = common.Tally()
     with tempfile.TemporaryDirectory() as folder:
-        for part in (answers, tools, first_builds, ended_builds, tries):
-            for what, why in part(folder):
+        at_work = Copy(os.path.join(folder, "slow"), SLOW).begun(["replay"])
+        parts = [(part, folder) for part in (answers, tools, first_builds, ended_builds, tries)]
+        for part, given in [*parts, (told_how_far, at_work)]:
+            for what, why in part(given):
                 tally.note(not why, f"failed: {what}: {why}")
         for program in programs:
             told = [common.ended([words], "")[2] for words in (os.path.join(folder, "answers", "copy", "jorazhil"), program)]
