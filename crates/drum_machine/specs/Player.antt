@@ -50,7 +50,8 @@ HasAsked count before after = BothTell (HasGiven count) before after
 abbrev pub start_from : ℤ → ℤ
 start_from begins = int_min (begins +ℤ pos 10) (pos (2 ^ 55))
 
--- what is committed of a start as of a moment, where a read shows this state, and the pass this one: nothing where somebody plays
+-- Rule: The drum machine starts nothing where somebody plays, or its own start is on its way.
+-- What is committed of a start as of a moment, where a read shows this state, and the pass this one.
 abbrev pub starts_over : ℤ → State → State → List Commit
 starts_over at state shown =
     if shown.start.playing then [] else commit_between state shown (changed_by change.Play at shown) at ∷ []

@@ -27,7 +27,7 @@ sounds_of_blocks pattern origin ages first (shown ∷ more) =
     sounds_from pattern shown origin ages first 960
     ++ sounds_of_blocks pattern origin (ages_from pattern shown origin ages first 960) (first + 960) more
 
--- a WAV of so many blocks: what stands before their samples, and these
+-- Rule: A WAV of some blocks is its header and their samples, 960 frames a block.
 unfoldable pub wav_of : ℕ → List ℤ → List ℕ
 wav_of blocks samples = header_of (blocks * 960) ++ samples_bytes samples
 

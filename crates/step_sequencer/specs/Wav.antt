@@ -20,7 +20,7 @@ header_of frames =
     ++ two_bytes 1 ++ two_bytes 1 ++ four_bytes 48_000 ++ four_bytes 96_000 ++ two_bytes 2 ++ two_bytes 16
     ++ codes "data" ++ four_bytes (2 * frames)
 
--- a sample in two's complement
+-- Rule: A sample is two bytes in two's complement, the lower first.
 abbrev pub sample_bytes : ℤ → List ℕ
 sample_bytes sample = two_bytes (cast_unsigned w16 sample)
 
