@@ -10,7 +10,7 @@ use Rattle.link_hostfilter.specs.declared.fault.FilterFault.TheVariants.{NotLate
 unfoldable pub last : {A : Type 0} → ℕ → List A → List A
 last n xs = drop (length xs - n) xs
 
--- Rule: The filter refuses a pair as too far where its sample count or host time is more than 2^31 from that of a kept pair.
+-- Rule: The filter refuses a pair as far whose sample count or host time is over 2^31 from that of one of the last 511 pairs.
 unfoldable pub is_far : Pair → Pair → Bool
 is_far new pair =
     int_lt (pos (2 ^ 31)) (new.sample -ℤ pair.sample) || nat_lt (2 ^ 31) (unsigned_abs (new.host -ℤ pair.host))

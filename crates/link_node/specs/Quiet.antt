@@ -35,7 +35,7 @@ IsFrom (Ok (message.OtherDiscovery kind)) id = ⊥
 IsFrom (Ok (message.OtherLink kind)) id = ⊥
 IsFrom (Err fault) id = ⊥
 
--- Rule: A node's row of a peer ends when the peer is heard anew or says bye on that gate, or at a tick at or after the row's limit.
+-- Rule: A node's row of a peer ends at most at a datagram of that peer on that gate, at a tick at or after its limit, or at a founding.
 abbrev pub EndsRow : Machine → EventValue → PeerRow → Type 0
 EndsRow m (Rx gate from bytes now) row = (gate ≡ row.gate) × IsFrom (reading_of bytes) row.id
 EndsRow m (Tick now) row = row.limit ≤ℤ int_max m.moment now

@@ -28,7 +28,8 @@ unfoldable pub founding_timeline_in : Machine → Timeline
 founding_timeline_in m =
     timeline_at (timeline_in m).mpb (beat_at (timeline_in m) (ghost_of (offset_in m) m.moment)) (pos 0)
 
--- alone in a session of a new id, whose ghost time is 0 now
+-- Rule: A node that founds a session is alone in it: all rows of peers and all other sessions are forgotten.
+-- Its id is new, and its ghost time is 0 now.
 unfoldable pub founded : Machine → Machine
 founded m = renewed (record m {
   drawn = m.drawn + 1;

@@ -82,6 +82,15 @@ const ROWS: &str = "\
     rx 1000100 0 127.0.0.1:20808 5f617364705f7601090500004142434445464748746d6c6e00000018000000000007a1200000000000000000000000000000000073657373000000084142434445464748737473740000001100000000000000000000000000000000006d657034000000067f0000015148\n\
     |%done 3 1 0\n\
     |\
+    a bye of another group ends no row|replay|0 0|\
+    =rx 2000000 0 127.0.0.1:20808 5f617364705f7601010500004142434445464748746d6c6e00000018000000000007a1200000000000000000000000000000000073657373000000085152535455565758737473740000001100000000000000000000000000000000006d657034000000067f0000015148\n\
+    rx 2000100 0 127.0.0.1:20808 5f617364705f7601030000014142434445464748\n\
+    rx 3000000 0 127.0.0.1:20808 5f617364705f7601030000004142434445464748\n\
+    |%tx 2000000 0 127.0.0.1:20808 &\n\
+    state 1 500000 0 1000000 0 0 0 1 1 2000000 0 0\n\
+    state 2 500000 0 1000000 0 0 0 1 0 3000000 0 0\n\
+    done 3 3 1\n\
+    |\
     a node in the group 1 hears that group alone, and answers in it|replay|0 0|replay 2\n\
     node QRSTUVWX 1 500000 1 1000000\n\
     group 1\n\
@@ -372,6 +381,8 @@ const LONGEST: &str = "\
 // rule: IsFiltered in a filter tells the nearest line, and refuses a late pair and a far one
 // rule: IsPairText in an empty line is no pair
 // rule: is_heard in its own id, another group, another kind
+// rule: is_heard in a bye of another group ends no row
+// rule: is_left in a bye of another group ends no row
 // rule: is_heard in a node in the group 1 hears that group alone, and answers in it
 // rule: IsPassedOver in its own id, another group, another kind
 // rule: pongs_to in a payload of 32 bytes is sent back

@@ -154,7 +154,7 @@ const CASES: &[Case] = &[
     },
 ];
 
-// rule: ControlRun.first_of, control_app, status_number_of, HasEndedControl
+// rule: ControlRun.first_of, control_app, HasEndedControl
 #[test]
 fn a_run_is_told_by_the_first_of_its_causes(rt: HostRuntime) -> Result<(), Fail> {
     for case in CASES {
