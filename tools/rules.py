@@ -74,7 +74,7 @@ A row is a rule. Behind its sentence stand:
 - **refused**: edits in `must-fail/`, wrong bodies that go against it, which the prover has to refuse;
 - **tested**: tests in Rattle whose cases were worked out apart from the code, in brackets by the rows of their table.
 
-At most four of each are told, and two dots stand for more. A part is left out where nothing names the rule.
+Each link leads to the line. At most four of each are told, and two dots stand for more. A part is left out where nothing names the rule.
 
 Bytes and texts are in [FORMATS.md](FORMATS.md), formulas in [FORMULAS.md](FORMULAS.md), and words of the field in
 [ARCHITECTURE.md](ARCHITECTURE.md).
@@ -102,11 +102,12 @@ class Definition(NamedTuple):
 
 
 class Function(NamedTuple):
-    """A function outside tests: its name with its type's, its file, whether it is of the crate's surface, whether it is a law, and the
-    definitions that stand in its clauses."""
+    """A function outside tests: its name with its type's, its file and line, whether it is of the crate's surface, whether it is a law, and
+    the definitions that stand in its clauses."""
 
     name: str
     file: Path
+    line: int
     is_public: bool
     is_law: bool
     cites: frozenset
@@ -287,7 +288,8 @@ class Sources:
             words, behind = contract_of(text, head.end())
             is_public = bool(head[1] or trait or declares) and (owner or head[2]) in surface
             name = f"{owner}::{head[2]}" if owner else head[2]
-            function = Function(name, file, is_public, is_law(text, behind), frozenset(cited(words, known)))
+            line = text.count("\n", 0, head.end()) + 1
+            function = Function(name, file, line, is_public, is_law(text, behind), frozenset(cited(words, known)))
             if declares:
                 self.promised[owner, head[2]] = words, function.cites
             if trait:
@@ -329,7 +331,8 @@ def functions_of(definition, specs, by_definition):
 
 
 def marks(specs):
-    """The edits and the tests that name each definition with a rule: the name, its file, and the row of a test's table, if any."""
+    """The edits and the tests that name each definition with a rule: the name, its file and a test's line, and the row of a test's table
+    with its line, if there is one."""
     edits, tests = defaultdict(list), defaultdict(list)
     for file in sorted(ROOT.glob("crates/*/must-fail/*.edit")):
         for number, line in enumerate(file.read_text(encoding="utf-8").split("\n"), 1):
@@ -342,24 +345,26 @@ def marks(specs):
                 behind = next((n for n in range(k, len(lines)) if not lines[n].strip().startswith("//")), k)
                 test = re.match(r"\s*#\[test\][^{]*?\bfn (\w+)", "\n".join(lines[behind : behind + 4]))
                 if test:
-                    mark(tests, specs, file, k + 1, line, test[1])
+                    mark(tests, specs, file, k + 1, line, test[1], behind + 1 + test[0].count("\n"))
                 else:
                     tell(file, k + 1, "no #[test] stands behind the rule")
     return edits, tests
 
 
-def mark(marked, specs, file, number, line, name):
+def mark(marked, specs, file, number, line, name, begins=None):
     """Takes a line `rule: ..` of a file, which stands for an edit or a test of this name."""
     there = MARK.fullmatch(line)
     if not there:
         tell(file, number, "it is not told as in `rule: NAME`, `rule: NAME, NAME` or `rule: NAME in ROW`")
         return
-    if there[2] and not re.search(rf"^(?!\s*//).*(?<!\w){re.escape(there[2])}(?!\w)", file.read_text(encoding="utf-8"), re.M):
+    text = file.read_text(encoding="utf-8")
+    row = re.search(rf"^(?!\s*//).*(?<!\w){re.escape(there[2])}(?!\w)", text, re.M) if there[2] else None
+    if there[2] and not row:
         tell(file, number, f"no row is named {there[2]!r}")
     for word in there[1].split(", "):
         found = specs.named(word, crate_of(file))
         if len(found) == 1:
-            marked[found[0]].append((name, file, there[2] or ""))
+            marked[found[0]].append((name, file, begins, row and (there[2], text.count("\n", 0, row.end()) + 1)))
         else:
             tell(file, number, f"{len(found) or 'no'} definitions with a rule are named {word}")
 
@@ -368,26 +373,26 @@ def mark(marked, specs, file, number, line, name):
 
 
 def link(text, file, line=None):
-    return f"[`{text}`](../{file.relative_to(ROOT)}{f'#L{line}' if line else ''})"
+    return f"[{text}](../{file.relative_to(ROOT)}{f'#L{line}' if line else ''})"
 
 
 def told(word, crate, *kinds):
-    """A part of a line: the word, and names with their files, those of the crate first of each kind, each with the rows that are told."""
+    """A part of a line: the word, and names with their places, those of the crate first of each kind, each with the rows that are told."""
     names = []
     for found in kinds:
-        rows = defaultdict(list)
-        for name, file, row in found:
-            rows[name, file].append(row)
-        for key in sorted(rows, key=lambda key: (crate_of(key[1]) != crate, key)):
-            names.append(link(*key) + (f" ({'; '.join(rows[key])})" if any(rows[key]) else ""))
+        rows = {}
+        for name, file, line, row in sorted(found, key=lambda one: (crate_of(one[1]) != crate, one[:2], one[2] or 0)):
+            there = rows.setdefault((name, file), (line, []))[1]
+            there += [link(row[0], file, row[1])] if row else []
+        names += [link(f"`{name}`", file, line) + (f" ({'; '.join(told)})" if told else "") for (name, file), (line, told) in rows.items()]
     return [f"{word} {', '.join(names[:MOST] + ['..'] * (len(names) > MOST))}"] if names else []
 
 
 def rows_of(definition, specs, by_definition, edits, tests):
     """A line for each rule of a definition."""
     file, line = specs.places[definition]
-    calls, laws, inner = ([(one.name, one.file, "") for one in found] for found in functions_of(definition, specs, by_definition))
-    parts = [link(f"{definition.module}.{definition.name}", file, line)]
+    calls, laws, inner = ([(one.name, one.file, one.line, None) for one in found] for found in functions_of(definition, specs, by_definition))
+    parts = [link(f"`{definition.module}.{definition.name}`", file, line)]
     for word, kinds in (("by", (calls, laws)), ("in", (inner,)), ("refused", (edits[definition],)), ("tested", (tests[definition],))):
         parts += told(word, definition.crate, *kinds)
     return [f"| {sentence} | {' · '.join(parts)} |" for sentence in specs.rules[definition]]
