@@ -51,7 +51,7 @@ SUBJECTS = [
     ("MIDI clock", "link_midi", "when MIDI starts and stops, continue, song position, pulse"),
     ("Drum machine", "step_sequencer drum_machine", "step, pattern, voices, WAV, its words and statuses"),
     ("Cells between threads", "audio_handoff triple_buffer", "rows, how many steps an audio read or a publish takes, notes"),
-    ("A node", "link_node", "when a broadcast is due, who is heard (group), ticks, joining, founding, sync, publishing"),
+    ("A node", "link_node", "when a broadcast is due, a bye of another group, ticks, joining, founding, sync, publishing"),
     ("Peers that agree", "link_world", "lost, repeated and reordered datagrams; who holds which timeline"),
     ("Captures, commits and the journal", "link_shared", "hub, queue, overtaken audio commit, full journal"),
     ("A live run", "link_live", "what a run promises, blocks, commands, how it ends"),
