@@ -8,4 +8,5 @@ pub mod StepLemmas
 pub mod SaidLemmas
 pub mod OriginLemmas
 pub mod RoundLemmas
+pub mod HolderLemmas
 pub mod WorldLemmas

@@ -1,5 +1,5 @@
 -- Members and places of lists.
-use Rattle.std.proofs.Common.{◌≡◌, ◌<◌, ◌≤◌, ◌+◌, ◌⊎◌, inl, inr, ℕ, zero, suc, Bool, true, false, List, [], ◌∷◌, ◌++◌, length, map, set, take, take_all, get_or, Some, refl, sym, ap, subst, ◌∙◌}
+use Rattle.std.proofs.Common.{◌≡◌, ◌<◌, ◌≤◌, ◌+◌, ◌⊎◌, inl, inr, ℕ, zero, suc, Bool, true, false, List, [], ◌∷◌, ◌++◌, length, map, set, take, take_all, get_or, Some, refl, sym, ap, subst, ◌∙◌, arith}
 use Rattle.std.proofs.lemmas.List.{map-append, take_more}
 use Rattle.std.specs.Prelude.{cond}
 use Rattle.std.specs.List.{AllByRecursion, slice_get}
@@ -20,6 +20,18 @@ pub has_got : {A : Type 0} (xs : List A) (k : ℕ) (x : A) → slice_get xs k �
 has_got [] k x e = absurd (cc)
 has_got (a ∷ xs) zero x e = inl (cc)
 has_got (a ∷ xs) (suc k) x e = inr (has_got xs k x e)
+
+-- what is found at a place of the first of two lists is found there in both
+pub got_first : {A : Type 0} (xs ys : List A) (k : ℕ) → k < length xs → slice_get (xs ++ ys) k ≡ slice_get xs k
+got_first [] ys k within = absurd (omega arith)
+got_first (a ∷ xs) ys zero within = refl
+got_first (a ∷ xs) ys (suc k) within = got_first xs ys k (omega arith)
+
+-- and past the first it is of the second
+pub got_second : {A : Type 0} (xs ys : List A) (k : ℕ) (x : A) → length xs ≤ k → slice_get (xs ++ ys) k ≡ Some x → Has ys x
+got_second [] ys k x past at = has_got ys k x at
+got_second (a ∷ xs) ys zero x past at = absurd (omega arith)
+got_second (a ∷ xs) ys (suc k) x past at = got_second xs ys k x (omega arith) at
 
 -- after a write there is what was written, and what was there before
 pub has_set : {A : Type 0} (xs : List A) (k : ℕ) (v x : A) → Has (set xs k v) x → (v ≡ x) ⊎ Has xs x

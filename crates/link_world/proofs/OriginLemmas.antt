@@ -150,14 +150,20 @@ tidy_state laws Made m endpoint sound stored = record {
   };
 }
 
+-- this is so of a machine's session and the timeline that counts there
+abbrev pub IsHeld : (NodeId → Timeline → Type 0) → Machine → Type 0
+IsHeld P m = P (session_in m) (timeline_in m)
+
+held_from : Laws → (Made : NodeId → Timeline → Type 0) (m : Machine) → IsSound Made m → IsHeld (IsFrom Made) m
+held_from laws Made m sound =
+    sound.taken (session_in m) (timeline_in m) (taken_now m (timeline_in m) (best_there (m.sessions.current.first ∷ m.sessions.current.later) (timeline_in m) (laws.best m)))
+
 -- what is read as this state tells what the machine's session holds
-told_state : Laws → (Made : NodeId → Timeline → Type 0) (m : Machine) (endpoint : Option Endpoint) → IsSound Made m → (session : NodeId) (tl : Timeline)
-    → (session_in m ≡ session) × (tidy_of (timeline_in m) ≡ tl) → IsFrom Made session tl
-told_state laws Made m endpoint sound session tl tells =
-    let held = m.sessions.current.first ∷ m.sessions.current.later in
-    let same : timeline_in m ≡ tl = sym (tidy_stays (timeline_in m) (timeline_tidy laws m sound.machine)) ∙ tells.1 in
-    let from = sound.taken (session_in m) (timeline_in m) (taken_now m (timeline_in m) (best_there held (timeline_in m) (laws.best m))) in
-    subst (λ (id : NodeId). IsFrom Made id tl) tells.0 (subst (λ (t : Timeline). IsFrom Made (session_in m) t) same from)
+told_state : Laws → (P : NodeId → Timeline → Type 0) (m : Machine) → IsMachine m → IsHeld P m → (session : NodeId) (tl : Timeline)
+    → (session_in m ≡ session) × (tidy_of (timeline_in m) ≡ tl) → P session tl
+told_state laws P m is held session tl tells =
+    let same : timeline_in m ≡ tl = sym (tidy_stays (timeline_in m) (timeline_tidy laws m is)) ∙ tells.1 in
+    subst (λ (id : NodeId). P id tl) tells.0 (subst (λ (t : Timeline). P (session_in m) t) same held)
 
 tells_nothing : (reading : Result MessageValue WireFault) (session : NodeId) (tl : Timeline) → TellsNoState reading → TellsTimeline reading session tl → ⊥
 tells_nothing (Ok (message.Alive msg)) session tl none tells = none
@@ -170,14 +176,14 @@ tells_nothing (Ok (message.OtherLink kind)) session tl none tells = tells
 tells_nothing (Err fault) session tl none tells = tells
 
 -- and so is a state that it tells
-read_state : Laws → (Made : NodeId → Timeline → Type 0) (m : Machine) (w : StateMsg → Written) (read : StateMsg → MessageValue) (msg : StateMsg) → IsSound Made m → IsStateOf m msg
-    → (IsTidyMessage msg → reading_of (spelled_of (w msg)) ≡ Ok (read msg))
+read_state : Laws → (Made P : NodeId → Timeline → Type 0) (m : Machine) (w : StateMsg → Written) (read : StateMsg → MessageValue) (msg : StateMsg) → IsSound Made m → IsHeld P m
+    → IsStateOf m msg → (IsTidyMessage msg → reading_of (spelled_of (w msg)) ≡ Ok (read msg))
     → ((session : NodeId) (tl : Timeline) → TellsTimeline (Ok (read msg)) session tl → (msg.fields.session ≡ session) × (tidy_of msg.fields.timeline ≡ tl))
-    → (session : NodeId) (tl : Timeline) → TellsTimeline (reading_of (spelled_of (w msg))) session tl → IsFrom Made session tl
-read_state laws Made m w read msg sound state is_read means session tl tells =
+    → (session : NodeId) (tl : Timeline) → TellsTimeline (reading_of (spelled_of (w msg))) session tl → P session tl
+read_state laws Made P m w read msg sound held state is_read means session tl tells =
     let is_tidy = subst (λ (k : StateMsg). IsTidyMessage k) (sym state.is) (tidy_state laws Made m state.endpoint sound state.stored) in
     let told = subst (λ (r : Result MessageValue WireFault). TellsTimeline r session tl) (is_read is_tidy) tells in
-    told_state laws Made m state.endpoint sound session tl
+    told_state laws P m sound.machine held session tl
     (subst (λ (k : StateMsg). (k.fields.session ≡ session) × (tidy_of k.fields.timeline ≡ tl)) state.is (means session tl told))
 
 -- what is told before a broadcast is told after it
@@ -196,32 +202,34 @@ state_after b after msg alike state =
           ∙ ap (λ (l : List SessionStart). told after.config.group after.id after.sessions l) alike.starts;
     }
 
-said_from : Laws → (Made : NodeId → Timeline → Type 0) (m after : Machine) (e : EventValue) → IsSound Made m → IsSound Made after → TellsAlike (before_broadcast e m) after
-    → (w : Written) → IsSaid m e w → (session : NodeId) (tl : Timeline) → TellsTimeline (reading_of (spelled_of w)) session tl → IsFrom Made session tl
-said_from laws Made m after e sound sound_after alike (written.Alive msg) said session tl tells =
-    read_state laws Made after (λ k. written.Alive k) (λ k. message.Alive k) msg sound_after (state_after (before_broadcast e m) after msg alike said)
+said_from : Laws → (Made P : NodeId → Timeline → Type 0) (m after : Machine) (e : EventValue) → IsSound Made m → IsSound Made after → IsHeld P m → IsHeld P after
+    → TellsAlike (before_broadcast e m) after → (w : Written) → IsSaid m e w
+    → (session : NodeId) (tl : Timeline) → TellsTimeline (reading_of (spelled_of w)) session tl → P session tl
+said_from laws Made P m after e sound sound_after held held_after alike (written.Alive msg) said session tl tells =
+    read_state laws Made P after (λ k. written.Alive k) (λ k. message.Alive k) msg sound_after held_after (state_after (before_broadcast e m) after msg alike said)
     (λ is_tidy. laws.read (written.Alive msg) (message.Alive msg) is_tidy refl) (λ _ _ h. h) session tl tells
-said_from laws Made m after e sound sound_after alike (written.Response msg) said session tl tells =
-    read_state laws Made m (λ k. written.Response k) (λ k. message.Response k) msg sound said
+said_from laws Made P m after e sound sound_after held held_after alike (written.Response msg) said session tl tells =
+    read_state laws Made P m (λ k. written.Response k) (λ k. message.Response k) msg sound held said
     (λ is_tidy. laws.read (written.Response msg) (message.Response msg) is_tidy refl) (λ _ _ h. h) session tl tells
-said_from laws Made m after e sound sound_after alike (written.Bye id ttl group) said session tl tells =
+said_from laws Made P m after e sound sound_after held held_after alike (written.Bye id ttl group) said session tl tells =
     let short : ttl < 256 = subst (λ (n : ℕ). n < 256) (sym said.1) (lit< tt) in
     let few : group < 2 ^ 16 = subst (λ (n : ℕ). n < 2 ^ 16) (sym said.2) sound.group in
     let own : IsStoredId id = subst (λ (i : NodeId). IsStoredId i) (sym said.0) sound.id in
     let read = laws.read (written.Bye id ttl group) (message.Bye id ttl group) (short, few, own) refl in
     absurd (subst (λ (r : Result MessageValue WireFault). TellsTimeline r session tl) read tells)
-said_from laws Made m after e sound sound_after alike (written.Ping ping) said session tl tells =
+said_from laws Made P m after e sound sound_after held held_after alike (written.Ping ping) said session tl tells =
     absurd (tells_nothing (reading_of (spelled_of (written.Ping ping))) session tl (laws.ping ping) tells)
-said_from laws Made m after e sound sound_after alike (written.Pong pong ghost_time echo) said session tl tells =
+said_from laws Made P m after e sound sound_after held held_after alike (written.Pong pong ghost_time echo) said session tl tells =
     absurd (tells_nothing (reading_of (spelled_of (written.Pong pong ghost_time echo))) session tl (laws.pong pong ghost_time echo) tells)
 
-told_sends : Laws → (Made : NodeId → Timeline → Type 0) (m : Machine) (e : EventValue) → IsSound Made m → IsSound Made (step_of m e)
-    → (sending : SendingValue) → Has (sends_of m e) sending → (session : NodeId) (tl : Timeline) → TellsTimeline (reading_of sending.bytes) session tl → IsFrom Made session tl
-told_sends laws Made m e sound sound_after sending has session tl tells =
+-- what holds of the session's timeline before the step and after it holds of what the step's datagrams tell
+pub told_sends : Laws → (Made P : NodeId → Timeline → Type 0) (m : Machine) (e : EventValue) → IsSound Made m → IsSound Made (step_of m e) → IsHeld P m → IsHeld P (step_of m e)
+    → (sending : SendingValue) → Has (sends_of m e) sending → (session : NodeId) (tl : Timeline) → TellsTimeline (reading_of sending.bytes) session tl → P session tl
+told_sends laws Made P m e sound sound_after held held_after sending has session tl tells =
     let alike = after_step m e in
     let own = subst (λ (config : ConfigValue). AllByRecursion IsStoredGate config.gates) (sym alike.config) sound_after.gates in
     let said = each (IsSaidIn m e) (sends_of m e) sending (all_said m e sound.gates own) has in
-    said_from laws Made m (step_of m e) e sound sound_after alike said.0 said.2 session tl
+    said_from laws Made P m (step_of m e) e sound sound_after held held_after alike said.0 said.2 session tl
     (subst (λ (bytes : List ℕ). TellsTimeline (reading_of bytes) session tl) said.1 tells)
 
 -- ---- a turn
@@ -269,7 +277,7 @@ sound_turn laws Made turn before after sound (inl step) makes =
       told = λ sending has session tl tells.
           elim (has_parts before.sent (sends_of m e) sending has) as (λ _. IsFrom Made session tl) [
             | inl old ↦ sound.told sending old session tl tells
-            | inr new ↦ told_sends laws Made m e was next sending new session tl tells
+            | inr new ↦ told_sends laws Made (IsFrom Made) m e was next (held_from laws Made m was) (held_from laws Made (step_of m e) next) sending new session tl tells
           ];
     })
 

@@ -20,7 +20,7 @@ use Rattle.link_world.proofs.StandingLemmas.{some_same, no_some}
 
 -- ---- the machine of a number after a step
 
-get_set : {A : Type 0} (xs : List A) (k : ℕ) (v x : A) → slice_get xs k ≡ Some x → slice_get (set xs k v) k ≡ Some v
+pub get_set : {A : Type 0} (xs : List A) (k : ℕ) (v x : A) → slice_get xs k ≡ Some x → slice_get (set xs k v) k ≡ Some v
 get_set [] k v x at = absurd (no_some x at)
 get_set (y ∷ ys) zero v x at = refl
 get_set (y ∷ ys) (suc k) v x at = get_set ys k v x at
@@ -103,7 +103,7 @@ first_in : (k : ℕ) (session : NodeId) (drawn : ℕ) (world : WorldValue) (turn
 first_in k session drawn world [] stays = stays
 first_in k session drawn world (turn ∷ turns) stays = stays.1
 
-stays_after : Laws → (k : ℕ) (session : NodeId) (drawn : ℕ) (tl : Timeline) (before : WorldValue) (turns : List TurnValue) → AreSound Any before
+pub stays_after : Laws → (k : ℕ) (session : NodeId) (drawn : ℕ) (tl : Timeline) (before : WorldValue) (turns : List TurnValue) → AreSound Any before
     → StaysIn k session drawn before turns → Taken k tl before → Leads k tl before turns
 stays_after laws k session drawn tl before [] sound stays took = record { world = before; led = refl; taken = took }
 stays_after laws k session drawn tl before (turn ∷ turns) sound stays took =

@@ -110,7 +110,11 @@ delivered sent values index peer gate from now sending bytes are at same =
 
 -- ---- a schedule that goes on
 
+pub after_both : (before between after : WorldValue) (turns later : List TurnValue)
+    → IsAfter before turns between → IsAfter between later after → IsAfter before (turns ++ later) after
+after_both before between after [] later led rest = subst (λ (w : WorldValue). IsAfter w later after) led rest
+after_both before between after (turn ∷ turns) later led rest = (led.0, led.1, after_both led.0 between after turns later led.2 rest)
+
 pub after_more : (before between after : WorldValue) (turns : List TurnValue) (turn : TurnValue)
     → IsAfter before turns between → Happens turn between after → IsAfter before (turns ++ turn ∷ []) after
-after_more before between after [] turn led happens = (after, subst (λ (w : WorldValue). Happens turn w after) led happens, refl)
-after_more before between after (first ∷ turns) turn led happens = (led.0, led.1, after_more led.0 between after turns turn led.2 happens)
+after_more before between after turns turn led happens = after_both before between after turns (turn ∷ []) led (after, happens, refl)

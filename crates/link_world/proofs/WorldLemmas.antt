@@ -1,9 +1,10 @@
 -- Origin, agreement and convergence.
-use Rattle.std.proofs.Common.{◌≡◌, inl, inr, ℤ, ◌+ℤ◌, ◌-ℤ◌, List, Some, sym, subst}
+use Rattle.std.proofs.Common.{◌≡◌, ◌≤ℤ◌, inl, inr, ℕ, ℤ, ◌+ℤ◌, ◌-ℤ◌, List, Some, sym, subst}
 use Rattle.std.specs.Prelude.{slice_get}
 use Rattle.std.specs.List.{AllByRecursion}
 use Rattle.lk_base.specs.Ranges.{IsMoment}
 use Rattle.lk_base.specs.Timeline.{IsTidy}
+use Rattle.lk_base.specs.declared.ids.NodeId.{NodeId}
 use Rattle.lk_base.specs.declared.timeline.Timeline.{Timeline}
 use Rattle.peer_gateway.specs.Happenings.{Has}
 use Rattle.session_choice.specs.Best.{IsBest}
@@ -12,7 +13,7 @@ use Rattle.client_state.specs.Timelines.{Follows, IsInReachOf}
 use Rattle.link_node.specs.Config.{ConfigValue, IsConfig}
 use Rattle.link_node.specs.Machine.{Machine, session_in, timeline_in, offset_in}
 use Rattle.link_node.specs.Brought.{taken_in}
-use Rattle.link_world.specs.Agreement.{HasOrigins, Agrees, Converges, OneRoundSuffices, ClickTogether, IsPeer}
+use Rattle.link_world.specs.Agreement.{HasOrigins, Agrees, Converges, OneRoundSuffices, OneMessageSuffices, ClickTogether, IsPeer, HaveOwnOrigins}
 use Rattle.link_world.specs.Made.{IsMade}
 use Rattle.link_world.specs.Stored.{IsStoredConfig}
 use Rattle.link_world.specs.World.{WorldValue, TurnValue, IsWorldOf, opened_world}
@@ -21,7 +22,8 @@ use Rattle.link_world.proofs.LowerLaws.{Laws}
 use Rattle.link_world.proofs.Lists.{has_got}
 use Rattle.link_world.proofs.OneLemmas.{one_after}
 use Rattle.link_world.proofs.OriginLemmas.{sound_after, sound_opening, taken_now}
-use Rattle.link_world.proofs.RoundLemmas.{Any, heard_after}
+use Rattle.link_world.proofs.RoundLemmas.{Any, Leads, heard_after}
+use Rattle.link_world.proofs.HolderLemmas.{hears_of_holder, held_after}
 
 -- what is known of two clients of a session
 pub record ClientsClick : Type 0 where
@@ -54,12 +56,11 @@ converges configs now turns w has_origins m peer took_all own =
       λ tl made. best_greatest (taken_in m) (timeline_in m) tl best (took_all tl made),
     )
 
--- who heard the greatest told has taken it, and nothing greater was made
-pub one_round : Laws → (configs : List ConfigValue) (now : ℤ) (turns : List TurnValue) (w : WorldValue) → AllByRecursion IsConfig configs → AllByRecursion IsStoredConfig configs
-    → IsMoment now → IsWorldOf configs now turns w → OneRoundSuffices configs now turns w
-one_round laws configs now turns w are stored moment led k m tl there hears own greatest =
-    let opening = sound_opening laws Any configs now are stored moment (λ _ _ _. tt) in
-    let leads = heard_after laws k (session_in m) tl (opened_world configs now) turns opening hears in
+-- who has taken the greatest holds it: nothing greater was made
+greatest_held : Laws → (configs : List ConfigValue) (now : ℤ) (turns : List TurnValue) (w : WorldValue) → AllByRecursion IsConfig configs → AllByRecursion IsStoredConfig configs
+    → IsMoment now → IsWorldOf configs now turns w → (k : ℕ) (m : Machine) (tl : Timeline) → slice_get w.machines k ≡ Some m → Leads k tl (opened_world configs now) turns
+    → HaveOwnOrigins (IsMade configs now turns (session_in m)) → ((other : Timeline) → IsMade configs now turns (session_in m) other → other.beat ≤ℤ tl.beat) → timeline_in m ≡ tl
+greatest_held laws configs now turns w are stored moment led k m tl there leads own greatest =
     let is : leads.world ≡ w = one_after (opened_world configs now) leads.world w turns leads.led led in
     let took : Has (taken_in m) tl = leads.taken m (subst (λ (z : WorldValue). slice_get z.machines k ≡ Some m) (sym is) there) in
     let has_origins = origins laws configs now turns w are stored moment led in
@@ -69,6 +70,28 @@ one_round laws configs now turns w are stored moment led k m tl there hears own 
     let tl_made = has_origins.taken m peer (session_in m) tl (taken_now m tl took) in
     own (timeline_in m) tl held_made tl_made
     (le_both (timeline_in m).beat tl.beat (greatest (timeline_in m) held_made) (best_greatest (taken_in m) (timeline_in m) tl best took))
+
+-- who heard the greatest told has taken it
+pub one_round : Laws → (configs : List ConfigValue) (now : ℤ) (turns : List TurnValue) (w : WorldValue) → AllByRecursion IsConfig configs → AllByRecursion IsStoredConfig configs
+    → IsMoment now → IsWorldOf configs now turns w → OneRoundSuffices configs now turns w
+one_round laws configs now turns w are stored moment led k m tl there hears own greatest =
+    let opening = sound_opening laws Any configs now are stored moment (λ _ _ _. tt) in
+    let leads = heard_after laws k (session_in m) tl (opened_world configs now) turns opening hears in
+    greatest_held laws configs now turns w are stored moment led k m tl there leads own greatest
+
+-- and so has who heard it of one that held it, or holds it
+pub one_message : Laws → (configs : List ConfigValue) (now : ℤ) (turns : List TurnValue) (w : WorldValue) → AllByRecursion IsConfig configs → AllByRecursion IsStoredConfig configs
+    → IsMoment now → IsWorldOf configs now turns w → OneMessageSuffices configs now turns w
+one_message laws configs now turns w are stored moment led session tl own greatest k m there same either =
+    let start = opened_world configs now in
+    let opening = sound_opening laws Any configs now are stored moment (λ _ _ _. tt) in
+    let leads = elim either as (λ _. Leads k tl start turns) [
+      | inl hears ↦ heard_after laws k session tl start turns opening (hears_of_holder laws k session tl start turns opening hears)
+      | inr holds ↦ held_after laws k session tl start turns opening holds
+    ] in
+    greatest_held laws configs now turns w are stored moment led k m tl there leads
+    (subst (λ (id : NodeId). HaveOwnOrigins (IsMade configs now turns id)) (sym same) own)
+    (λ other made. greatest other (subst (λ (id : NodeId). IsMade configs now turns id other) same made))
 
 -- each shows a timeline that follows its session's
 pub click_together : Laws → ClientsClick → (configs : List ConfigValue) (now : ℤ) (turns : List TurnValue) (w : WorldValue) → AllByRecursion IsConfig configs

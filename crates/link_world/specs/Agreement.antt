@@ -1,5 +1,5 @@
 -- What holds of the peers of a world, whatever the network did.
-use Rattle.std.specs.Prelude.{◌≡◌, ℕ, ℤ, ◌↔◌, ◌≤ℤ◌, ◌+ℤ◌, ◌-ℤ◌, List, Some, slice_get}
+use Rattle.std.specs.Prelude.{◌≡◌, ℕ, ℤ, ◌⊎◌, ◌↔◌, ◌≤ℤ◌, ◌+ℤ◌, ◌-ℤ◌, List, Some, slice_get}
 use Rattle.lk_base.specs.declared.ids.NodeId.{NodeId}
 use Rattle.lk_base.specs.declared.timeline.Timeline.{Timeline}
 use Rattle.asdp_messages.specs.Reading.{reading_of}
@@ -12,7 +12,7 @@ use Rattle.link_node.specs.Config.{ConfigValue}
 use Rattle.link_node.specs.Event.{SendingValue}
 use Rattle.link_node.specs.Machine.{Machine, session_in, timeline_in, offset_in}
 use Rattle.link_world.specs.Made.{IsMade}
-use Rattle.link_world.specs.Round.{HearsTold}
+use Rattle.link_world.specs.Round.{HearsTold, HearsHolder, HoldsAndStays}
 use Rattle.link_world.specs.World.{WorldValue, TurnValue, opened_world}
 
 -- one of the peers
@@ -67,6 +67,17 @@ OneRoundSuffices configs now turns world =
     → ((other : Timeline) → IsMade configs now turns (session_in machine) other → other.beat ≤ℤ tl.beat)
     → timeline_in machine ≡ tl
 
+-- Rule: One message to each suffices: each peer of a session that hears one datagram which a holder of the greatest timeline sent, or holds
+-- that timeline itself, and stays there, holds it.
+-- Different timelines made for the session have different beat origins.
+abbrev pub OneMessageSuffices : List ConfigValue → ℤ → List TurnValue → WorldValue → Type 0
+OneMessageSuffices configs now turns world =
+    (session : NodeId) (tl : Timeline) → HaveOwnOrigins (IsMade configs now turns session)
+    → ((other : Timeline) → IsMade configs now turns session other → other.beat ≤ℤ tl.beat)
+    → (k : ℕ) (machine : Machine) → slice_get world.machines k ≡ Some machine → session_in machine ≡ session
+    → HearsHolder k session tl (opened_world configs now) turns ⊎ HoldsAndStays k session tl (opened_world configs now) turns
+    → timeline_in machine ≡ tl
+
 -- ---- clicks
 
 -- Rule: Two peers that hold the same timeline click in the same microseconds of ghost time, with the same accents.
@@ -84,4 +95,5 @@ ClickTogether world =
 pub record IsSoundWorld (configs : List ConfigValue) (now : ℤ) (turns : List TurnValue) (world : WorldValue) : Type 0 where
   pub origin : HasOrigins configs now turns world
   pub round : OneRoundSuffices configs now turns world
+  pub message : OneMessageSuffices configs now turns world
   pub clicks : ClickTogether world

@@ -5,7 +5,7 @@ use Rattle.link_node.specs.Event.{EventValue, Fits, sending_value}
 use Rattle.link_node.specs.Machine.{Machine}
 use Rattle.link_node.specs.Standing.{StandsFor}
 use Rattle.link_node.specs.Step.{step_of, sends_of}
-use Rattle.link_world.specs.Agreement.{HasOrigins, Agrees, Converges, OneRoundSuffices, ClickTogether}
+use Rattle.link_world.specs.Agreement.{HasOrigins, Agrees, Converges, OneRoundSuffices, OneMessageSuffices, ClickTogether}
 use Rattle.link_world.specs.World.{WorldValue, TurnValue, IsWorldOf}
 use Rattle.link_world.specs.declared.peer.Peer.{Peer}
 use Rattle.link_world.specs.declared.world.World.{World}
@@ -38,6 +38,8 @@ pub record IsRun (configs : List ConfigValue) (now : ℤ) (turns : List TurnValu
   pub convergence : Converges configs now turns value
   -- and who heard the greatest of it told, once, holds that
   pub round : OneRoundSuffices configs now turns value
+  -- so one message of one who holds that suffices for each
+  pub message : OneMessageSuffices configs now turns value
   -- who holds the same clicks at the same ghost times
   pub clicks : ClickTogether value
 

@@ -1,6 +1,6 @@
 use Rattle.std.proofs.Common.{[]}
 use Rattle.link_node.specs.Runs.{machine_after}
-use Rattle.link_world.proofs.WorldLemmas.{origins, one_round, click_together, ClientsClick}
+use Rattle.link_world.proofs.WorldLemmas.{origins, one_round, one_message, click_together, ClientsClick}
 use Rattle.link_world.proofs.LowerLaws.{Laws}
 use Rattle.link_world.proofs.laws.worlds_are_sound.Goals as goal
 
@@ -32,5 +32,6 @@ returns c =
     λ configs now turns w are stored moment led. record {
       origin = origins laws configs now turns w are stored moment led;
       round = one_round laws configs now turns w are stored moment led;
+      message = one_message laws configs now turns w are stored moment led;
       clicks = click_together laws clicks configs now turns w are stored moment led;
     }

@@ -27,6 +27,7 @@ returns-clause-run c =
       agreement = c.the_same_agree.ensures s.0;
       convergence = c.who_took_all_converges.ensures values c.args.now turns s.0 sound.origin;
       round = sound.round;
+      message = sound.message;
       clicks = sound.clicks;
     })
     (subst (λ (n : ℤ). IfOk c.after.result (λ (world : World). (w : WorldValue) × IsWorldOf values n turns w × StandsForWorld world w))
