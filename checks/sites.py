@@ -397,6 +397,13 @@ AT_FAULT = [
     ([*RIGHT, "--hours", "0"], '--hours is a number above 0, at most 1000, as in `--hours 5` or `--hours 0.5`, found "0"'),
     ([*RIGHT, "--hours", "all night"], "--hours is a number above 0"),
     ([*RIGHT, "--programs", "-1"], "--programs is how many Link programs this site has, from 0 to 999"),
+    ([*RIGHT, "--there", "127.0.2.3"], "each site is one --there, each node of this network one --node, found 127.0.2.3:17001 twice"),
+    ([*RIGHT, "--node", "127.0.2.3:17001"], "each site is one --there, each node of this network one --node, found 127.0.2.3:17001 twice"),
+    ([*RIGHT, "--node", "127.0.1.1"], "--node is another node's gate, and 127.0.1.1:17000 is this one's own"),
+    ([*RIGHT, "--control", "127.0.0.1"], "--control takes an IPv4 address of this machine and a port, as 127.0.0.1:20900, found"),
+    ([*RIGHT, "--control", "127.0.0.1:65536"], "--control takes an IPv4 address of this machine and a port"),
+    ([*RIGHT, "--control", ANY, "--hours", "3"], "--hours is of `live`, and --control of `control`, which its client ends"),
+    ([*RIGHT, "--group", "65536"], "--group is a number from 0, that of Link programs, to 65535, found"),
     ([*RIGHT, "--bogus"], "unrecognized arguments: --bogus; --help tells all"),
     (["--here", "198.51.100.1", *RIGHT[2:], "--run"], "--here: 198.51.100.1 isn't an address of this machine, which has 127.0.0.1 (lo)"),
 ]
@@ -414,13 +421,23 @@ def told_by_the_tool(_):
     with taken("127.0.1.1") as held:
         for words, front in (
             (["--here", "198.51.100.1", *RIGHT[2:]], "--here: 198.51.100.1 isn't an address of this machine, which has "),
+            (["--here", "127.255.255.255", *RIGHT[2:]], "--here: 127.255.255.255 isn't an address of this machine, which has "),
             (["--here", text_of(held), *RIGHT[2:]], f"--here: another program has the port {held[1]} of 127.0.1.1"),
             ([*RIGHT, "--hours", "6"], "--hours: a journal of 524,288 events lasts 5 hours 49 minutes at 25 a second"),
             ([*RIGHT, "--hours", "5", "--programs", "4"], "--hours: a journal of 524,288 events lasts 3 hours 23 minutes at 43 a second"),
+            ([*RIGHT, "--programs", "4"], "the run ends after 3 hours 23 minutes, since a journal of 524,288 events lasts 3 hours 23 minutes at 43"),
+            ([*RIGHT, "--control", ANY], "a journal of 524,288 events lasts 5 hours 49 minutes at 25 a second; end the client before that"),
         ):
             status, output, error = common.of_tool(TOOL, words)
             want(f"whether {front!r} is told of {words}: {error!r}", f"site: {front}" in error, True)
             want(f"the status and the script of {words}", (status, output[:20]), (0, b"# The node of a site"))
+    for words, first, last in (
+        ([], "live --blocks 0 --events 524288", "at 18000000000 look"),
+        (["--programs", "4", "--group", "7"], "live --blocks 0 --events 524288 --group 7", "at 12180000000 look"),
+        (["--control", ANY], f"control {ANY} --events 524288", "to 224.76.78.75:20808"),
+    ):
+        lines = script_of([*RIGHT, *words]).splitlines()
+        want(f"the command and the last line of the script of {words}", (lines[0].split(": jorazhil ")[-1], lines[-1]), (first, last))
     status, output, error = common.of_tool(TOOL, [])
     want("this machine's addresses", (status, re.search(r"^127\.0\.0\.1 +lo +in 127\.0\.0\.0/8$", output.decode(), re.M) is None, error), (0, False, ""))
     status, output, error = common.of_tool(TOOL, ["--help"])
