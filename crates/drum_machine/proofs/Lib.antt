@@ -1,4 +1,8 @@
 mod CallbackLemmas
+mod CountLemmas
+mod TextLemmas
+mod ScoreLemmas
+mod RehearsalLemmas
 mod PlayerLemmas
 mod PlayedLemmas
 mod SessionLemmas

@@ -19,7 +19,7 @@ use Rattle.link_midi.specs.declared.message.MidiEvent.{MidiEvent}
 use Rattle.link_shared.specs.Audio.{AudioView, HasReadAudio, after_making, last_of}
 use Rattle.drum_machine.specs.Callback.{changed_by}
 use Rattle.drum_machine.specs.declared.callback.Change.TheVariants as change
-use Rattle.drum_machine.specs.Player.{BeginsAt, HasAsked, HasGiven, HasPlayed, HasStarted, start_from, starts_over}
+use Rattle.drum_machine.specs.Player.{BeginsAt, HasAsked, HasBegun, HasGiven, HasPlayed, HasStarted, start_from, starts_over}
 use Rattle.drum_machine.specs.Written.{shown_of}
 
 at_most_one : (made : List Commit) → length made ≤ length made + 1
@@ -55,7 +55,7 @@ played_on before pass after played more stays = record {
 -- ---- the start
 
 -- what a capture shows is what is shown of the row that was read
-shown_by : (before after : AudioView) (number : ℕ) (state shown : State) (read : HasReadAudio before after number state shown) → shown ≡ shown_of before.made (number, read.row)
+pub shown_by : (before after : AudioView) (number : ℕ) (state shown : State) (read : HasReadAudio before after number state shown) → shown ≡ shown_of before.made (number, read.row)
 shown_by before after number state shown read = read.shown_is ∙ ap (λ (s : State). shown_over (last_of before.made) s.audio s) read.state_is
 
 -- somebody plays, and nothing is committed
@@ -108,14 +108,9 @@ has_played_start before pass after number state shown commit read edited =
       once = omega (arith, ap length made_is, length-append before.made (commit ∷ []));
     }
 
--- where frame 0 is, and the start as of there
-pub record IsBegun (audio : Option AudioContents) (origin : ℤ) (before after : AudioView) : Type 0 where
-  pub begins : BeginsAt audio origin
-  pub started : HasStarted (start_from origin) before after
-
 -- from where the first block begins, by its number and that of the start as they are stored
 pub is_begun : (audio : Option AudioContents) (origin at : ℤ) (before after : AudioView) → BeginsAt audio origin → IsMoment origin → IsMoment at
-    → at ≡ start_from (to_z w64 (of_z w64 origin)) → HasStarted (to_z w64 (of_z w64 at)) before after → IsBegun audio (to_z w64 (of_z w64 origin)) before after
+    → at ≡ start_from (to_z w64 (of_z w64 origin)) → HasStarted (to_z w64 (of_z w64 at)) before after → HasBegun (to_z w64 (of_z w64 origin)) audio before after
 is_begun audio origin at before after begins first moment is started = record {
   begins = subst (λ (n : ℤ). BeginsAt audio n) (sym (to_z-of_z w64 origin (moment_fits origin first))) begins;
   started = subst (λ (n : ℤ). HasStarted n before after) (to_z-of_z w64 at (moment_fits at moment) ∙ is) started;
@@ -123,9 +118,9 @@ is_begun audio origin at before after begins first moment is started = record {
 
 -- what is read afterwards takes nothing from it
 pub begun_on : (audio : Option AudioContents) (origin origin_then : ℤ) (before pass after : AudioView) → origin_then ≡ origin → after.made ≡ pass.made
-    → HasPlayed pass after → IsBegun audio origin before pass → IsBegun audio origin_then before after
+    → HasPlayed pass after → HasBegun origin audio before pass → HasBegun origin_then audio before after
 begun_on audio origin origin_then before pass after same stays more begun =
-    let on : IsBegun audio origin before after = record {
+    let on : HasBegun origin audio before after = record {
       begins = begun.begins;
       started = record {
         pair = begun.started.pair;
@@ -137,9 +132,23 @@ begun_on audio origin origin_then before pass after same stays more begun =
         made = stays ∙ begun.started.made;
       };
     } in
-    subst (λ (n : ℤ). IsBegun audio n before after) (sym same) on
+    subst (λ (n : ℤ). HasBegun n audio before after) (sym same) on
 
 -- ---- the blocks that are asked for
+
+none_given : (contents : AudioContents) → HasGiven 0 contents contents
+none_given contents = record { blocks = []; given = sym (append-nil contents.given); count_is = refl; plays = refl }
+
+none_asked : (told : Option AudioContents) → HasAsked 0 told told
+none_asked None = tt
+none_asked (Some contents) = none_given contents
+
+pub asked_none : (told told_then : Option AudioContents) → told_then ≡ told → HasAsked 0 told told_then
+asked_none told told_then stays = subst (λ (t : Option AudioContents). HasAsked 0 told t) (sym stays) (none_asked told)
+
+-- a device that gives no more leaves what was given
+pub asked_still : (n : ℕ) (first told told_then : Option AudioContents) → told_then ≡ told → HasAsked n first told → HasAsked n first told_then
+asked_still n first told told_then stays asked = subst (λ (t : Option AudioContents). HasAsked n first t) (sym stays) asked
 
 first_given : (block : Block) (before after : AudioContents) → GivesBlock block before after → HasGiven 1 before after
 first_given block before after gives = record { blocks = block ∷ []; given = gives.given; count_is = refl; plays = gives.plays }

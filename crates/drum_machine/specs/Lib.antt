@@ -3,5 +3,7 @@ pub mod Statuses
 pub mod Words
 pub mod Written
 pub mod Ends
+pub mod Score
+pub mod Rehearsal
 pub mod Player
 pub mod Session

@@ -1,5 +1,5 @@
 -- What the loop of the audio thread owes and promises: of its pass, of each block, and as a whole.
-use Rattle.std.specs.Prelude.{◌≡◌, ℕ, ℤ, pos, ◌+ℤ◌, ◌+◌, ◌^◌, ◌<◌, ◌≤◌, List, [], ◌∷◌, ◌++◌, length, Option, IfSome, if◌then◌else◌}
+use Rattle.std.specs.Prelude.{◌≡◌, ℕ, ℤ, pos, ◌+ℤ◌, ◌+◌, ◌^◌, ◌<◌, ◌≤◌, Bool, List, [], ◌∷◌, ◌++◌, length, Option, IfSome, if◌then◌else◌}
 use Rattle.std.specs.Int.{int_min}
 use Rattle.audio_handoff.specs.Cell.{Grows, NumbersNeverFall, Pair}
 use Rattle.lk_base.specs.Ranges.{IsMoment}
@@ -13,12 +13,13 @@ use Rattle.lk_outside.specs.Contents.{BothTell}
 use Rattle.lk_outside.specs.Sink.{Appends}
 use Rattle.link_midi.specs.Events.{events_of, running_after}
 use Rattle.link_shared.specs.Audio.{AudioView}
-use Rattle.step_sequencer.specs.Sound.{sounds_from, ages_from}
+use Rattle.step_sequencer.specs.Sound.{Ages, sounds_from, ages_from}
 use Rattle.step_sequencer.specs.Wav.{samples_bytes}
+use Rattle.step_sequencer.specs.declared.pattern.Pattern.{Pattern}
 use Rattle.drum_machine.specs.Callback.{block_from, changed_by}
 use Rattle.drum_machine.specs.declared.callback.Change.TheVariants as change
 use Rattle.drum_machine.specs.Ends.{Counts, HasPlayCause}
-use Rattle.drum_machine.specs.Written.{AreWrittenByReads, midi_lines_of, shown_of}
+use Rattle.drum_machine.specs.Written.{AppendsFront, AreCutShortByReads, AreWrittenByReads, midi_lines_of, shown_of}
 use Rattle.drum_machine.specs.declared.callback.Drums.{Drums}
 use Rattle.drum_machine.specs.declared.player.PlayEnd.{PlayEnd}
 use Rattle.drum_machine.specs.declared.player.PlayEnd.TheVariants as play_end
@@ -62,6 +63,12 @@ pub record HasStarted (at : ℤ) (before after : AudioView) : Type 0 where
   pub seen : Grows (before.seen ++ pair ∷ []) after.seen
   pub made : after.made ≡ before.made ++ starts_over at (state_of_words pair.1) (shown_of before.made pair)
 
+-- The first frame is where the device's first block begins, where it tells that, and from its middle on it plays, from beat 0, if nobody
+-- did.
+pub record HasBegun (origin : ℤ) (told : Option AudioContents) (pass pass_then : AudioView) : Type 0 where
+  pub begins : BeginsAt told origin
+  pub started : HasStarted (start_from origin) pass pass_then
+
 -- all that it had read and committed stays, no read is older than one before, and it commits once at most
 pub record HasPlayed (before after : AudioView) : Type 0 where
   pub seen : Grows before.seen after.seen
@@ -79,11 +86,53 @@ pub record HasPlayedBlock (first : ℕ) (drums drums_then : Drums) (before after
   pub sounded : Appends sound (samples_bytes (sounds_from drums.pattern (shown_of before.made pair) drums.origin drums.kit first 960)) sound_then
   pub told : Appends midi (midi_lines_of (events_of (shown_of before.made pair) drums.clock (block_from drums.origin first))) midi_then
 
+-- Only for proofs: the block from the frame `first` on began, and writing failed: one read of the pass was made, and of the sound and the
+-- MIDI clock of what that showed a front was written.
+pub record HasCutBlock (first : ℕ) (drums : Drums) (before after : AudioView) (sound sound_then midi midi_then : Option (List ℕ)) : Type 0 where
+  pub pair : Pair
+  pub seen : after.seen ≡ before.seen ++ pair ∷ []
+  pub front : AppendsFront (samples_bytes (sounds_from drums.pattern (shown_of before.made pair) drums.origin drums.kit first 960))
+      (midi_lines_of (events_of (shown_of before.made pair) drums.clock (block_from drums.origin first))) sound sound_then midi midi_then
+
+-- ---- the ends of the loop
+
+-- Where all blocks were played: all were written. The device was asked for one block more, which begins where the last one ends.
+pub record IsPlayedWhole (blocks : ℕ) (pattern : Pattern) (ages : Ages) (running : Bool) (told told_then : Option AudioContents) (pass pass_then : AudioView) (sound sound_then midi midi_then : Option (List ℕ)) : Type 0 where
+  pub origin : ℤ
+  pub begun : HasBegun origin told pass pass_then
+  pub asked : HasAsked (blocks + 1) told told_then
+  pub written : AreWrittenByReads blocks blocks pattern origin ages running pass_then sound sound_then midi midi_then
+
+-- Where the device ended it: the header was written, and the blocks that the device gave, if it gave any.
+pub record IsPlayedInPart (blocks : ℕ) (pattern : Pattern) (ages : Ages) (running : Bool) (told told_then : Option AudioContents) (pass pass_then : AudioView) (sound sound_then midi midi_then : Option (List ℕ)) : Type 0 where
+  pub origin : ℤ
+  pub given : ℕ
+  pub few : given ≤ blocks
+  pub begun : 0 < given → HasBegun origin told pass pass_then
+  pub asked : HasAsked given told told_then
+  pub written : AreWrittenByReads blocks given pattern origin ages running pass_then sound sound_then midi midi_then
+
+-- Where sound or MIDI could not be written: the first of what the blocks give that the device gave, if it gave any.
+pub record IsCutOff (blocks : ℕ) (pattern : Pattern) (ages : Ages) (running : Bool) (told told_then : Option AudioContents) (pass pass_then : AudioView) (sound sound_then midi midi_then : Option (List ℕ)) : Type 0 where
+  pub origin : ℤ
+  pub given : ℕ
+  pub few : given ≤ blocks
+  pub begun : 0 < given → HasBegun origin told pass pass_then
+  pub asked : HasAsked given told told_then
+  pub written : AreCutShortByReads blocks given pattern origin ages running pass_then sound sound_then midi midi_then
+
+-- what was asked for and written, by how the loop ended
+abbrev pub IsPlayed : ℕ → Pattern → Ages → Bool → Option AudioContents → Option AudioContents → AudioView → AudioView
+    → Option (List ℕ) → Option (List ℕ) → Option (List ℕ) → Option (List ℕ) → PlayEnd → Type 0
+IsPlayed blocks pattern ages running told told_then pass pass_then sound sound_then midi midi_then play_end.Played =
+    IsPlayedWhole blocks pattern ages running told told_then pass pass_then sound sound_then midi midi_then
+IsPlayed blocks pattern ages running told told_then pass pass_then sound sound_then midi midi_then play_end.Device =
+    IsPlayedInPart blocks pattern ages running told told_then pass pass_then sound sound_then midi midi_then
+IsPlayed blocks pattern ages running told told_then pass pass_then sound sound_then midi midi_then play_end.Output =
+    IsCutOff blocks pattern ages running told told_then pass pass_then sound sound_then midi midi_then
+
 -- Only for proofs: all that the loop promises, as threads that are joined have one clause.
-pub record HasDrummed (blocks : ℕ) (drums drums_then : Drums) (pass pass_then : AudioView) (before after : Counts) (told told_then : Option AudioContents) (sound sound_then midi midi_then : Option (List ℕ)) (end : PlayEnd) : Type 0 where
+pub record HasDrummed (blocks : ℕ) (drums : Drums) (pass pass_then : AudioView) (before after : Counts) (told told_then : Option AudioContents) (sound sound_then midi midi_then : Option (List ℕ)) (end : PlayEnd) : Type 0 where
   pub played : HasPlayed pass pass_then
-  pub begun : end ≡ play_end.Played → BeginsAt told drums_then.origin × HasStarted (start_from drums_then.origin) pass pass_then
-  pub asked : end ≡ play_end.Played → HasAsked (blocks + 1) told told_then
-  pub whole : end ≡ play_end.Played
-      → AreWrittenByReads blocks drums.pattern drums_then.origin drums.kit drums.clock pass_then sound sound_then midi midi_then
+  pub written : IsPlayed blocks drums.pattern drums.kit drums.clock told told_then pass pass_then sound sound_then midi midi_then end
   pub cause : HasPlayCause before after told_then end

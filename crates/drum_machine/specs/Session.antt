@@ -1,5 +1,5 @@
 -- What a session leaves: what its node recorded, published and sent, and what was played of it.
-use Rattle.std.specs.Prelude.{◌≡◌, ◌⊎◌, ℕ, ◌+◌, ℤ, pos, Bool, true, false, List, [], ◌∷◌, length, Option, None}
+use Rattle.std.specs.Prelude.{◌≡◌, ◌⊎◌, ℕ, ℤ, pos, Bool, true, false, List, [], ◌∷◌, length, Option, None}
 use Rattle.rand_pcg.specs.Lcg.{started, increment_of}
 use Rattle.rand_pcg.specs.Pcg.{multiplier_64}
 use Rattle.audio_handoff.specs.Cell.{NumbersNeverFall}
@@ -15,13 +15,12 @@ use Rattle.link_shared.specs.Audio.{AudioView}
 use Rattle.link_shared.specs.Ending.{WerePublished}
 use Rattle.link_shared.specs.Journal.{AreCarried, last_audio_in}
 use Rattle.link_live.specs.Headline.{IsRecorded, new_audio}
-use Rattle.link_live.specs.Report.{ReportValue}
+use Rattle.link_live.specs.NodeRun.{recorded_of}
 use Rattle.step_sequencer.specs.Sound.{silent}
 use Rattle.step_sequencer.specs.declared.pattern.Pattern.{Pattern}
 use Rattle.drum_machine.specs.Ends.{Counts, HasPlayCause, counted}
-use Rattle.drum_machine.specs.Player.{BeginsAt, HasAsked, HasStarted, start_from}
+use Rattle.drum_machine.specs.Player.{IsCutOff, IsPlayedInPart, IsPlayedWhole}
 use Rattle.drum_machine.specs.Statuses.{ended_as}
-use Rattle.drum_machine.specs.Written.{AreWrittenByReads}
 use Rattle.drum_machine.specs.declared.player.PlayEnd.{PlayEnd}
 use Rattle.drum_machine.specs.declared.player.PlayEnd.TheVariants as play_end
 use Rattle.drum_machine.specs.declared.status.Status.{Status}
@@ -62,20 +61,6 @@ devices_seen port_faults port gates audio_faults audio sound_faults sound midi_f
   midi = midi m;
 }
 
--- what is told of a node that was opened so, whatever was played
-abbrev pub recorded_of : ConfigValue → ℤ → List EventValue → List State → ReportValue
-recorded_of config opened_at events published = record {
-  config = config;
-  now = opened_at;
-  events = events;
-  published = published;
-  reads = [];
-  captures = [];
-  app_commits = [];
-  audio_commits = [];
-  plays = [];
-}
-
 -- What the node recorded: it heard, sent and published what replay gives for its events. What the audio thread's pass read are states that
 -- were published, none older than one before; of its commits those among the events carry what was made under their numbers, which rise,
 -- and the last one made is there, unless an event found no room.
@@ -88,21 +73,14 @@ pub record IsSessionRecorded (config : ConfigValue) (opened_at : ℤ) (failed fu
   pub commits : AreCarried pass.made events
   pub last_commit : full ≡ false → last_audio_in 0 events ≡ length pass.made
 
--- All blocks of a session were written, from silence and before any MIDI clock. The first frame is where the device's first block begins,
--- where it tells that, and from its middle on it plays, from beat 0, if nobody did. The device was asked for one block more, which begins
--- where the last one ends.
-pub record IsPlayedWhole (blocks : ℕ) (pattern : Pattern) (audio audio_then : Option AudioContents) (pass : AudioView) (sound sound_then midi midi_then : Option (List ℕ)) : Type 0 where
-  pub origin : ℤ
-  pub begins : BeginsAt audio origin
-  pub asked : HasAsked (blocks + 1) audio audio_then
-  pub started : HasStarted (start_from origin) new_audio pass
-  pub written : AreWrittenByReads blocks pattern origin silent false pass sound sound_then midi midi_then
-
--- what a session met: how its loop ended, whether the port failed, whether an event found no room; and what is promised of it then
+-- What a session met: how its loop ended, whether the port failed, whether an event found no room; and what is promised of it then. What
+-- was written begins with silence and before any MIDI clock.
 pub record HasSession (blocks : ℕ) (pattern : Pattern) (config : ConfigValue) (opened_at : ℤ) (before after : DevicesSeen) (end : PlayEnd) (failed full : Bool) : Type 0 where
   pub pass : AudioView
   pub recorded : IsSessionRecorded config opened_at failed full before.port after.port after.gates pass
-  pub whole : end ≡ play_end.Played → IsPlayedWhole blocks pattern before.audio after.audio pass before.sound after.sound before.midi after.midi
+  pub whole : end ≡ play_end.Played → IsPlayedWhole blocks pattern silent false before.audio after.audio new_audio pass before.sound after.sound before.midi after.midi
+  pub part : end ≡ play_end.Device → IsPlayedInPart blocks pattern silent false before.audio after.audio new_audio pass before.sound after.sound before.midi after.midi
+  pub cut : end ≡ play_end.Output → IsCutOff blocks pattern silent false before.audio after.audio new_audio pass before.sound after.sound before.midi after.midi
   pub cause : HasPlayCause before.counts after.counts after.audio end
   pub port_works : failed ≡ false → after.port_faults ≡ before.port_faults
   pub port_fails : failed ≡ true → Rose before.port_faults after.port_faults

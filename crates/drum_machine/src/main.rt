@@ -1,14 +1,16 @@
 //! A drum machine that embeds the runtime: a pattern of 16 steps, on the beat of a session and at its tempo.
 //!
 //! In reading order: `callback` (the audio callback, and an edit of its own); `rehearsal` (four bars in memory, in one thread), `score`
-//! (what it tells); `player` (the loop of the audio thread), `sides` (that loop beside the network's), `session` (both over one link, and
-//! its end); last `words`, `input` and `status`.
+//! (what it tells); `player` (the loop of the audio thread), `sides` (that loop as what runs beside the network's), `session` (both over
+//! one link), which stands on `rig` and `config`; last `words`, `input` and `status`.
 #![tactic(auto)]
 
 mod callback;
+mod config;
 mod input;
 mod player;
 mod rehearsal;
+mod rig;
 mod score;
 mod session;
 mod sides;
@@ -20,7 +22,8 @@ ghost use Rattle.lk_base.specs.Ranges.{IsMoment};
 use crate::callback::QUANTUM;
 use crate::input::read_input;
 use crate::rehearsal::rehearse;
-use crate::session::{Devices, EVENTS, play_session};
+use crate::rig::{Devices, EVENTS, Outlet};
+use crate::session::play_session;
 use crate::status::Status;
 use crate::words::{Words, read_words};
 use link_adapters::{About, BehindName, ClickAudio, HostClock, StdSink, StdSource, UdpPort};
@@ -157,9 +160,11 @@ fn devices_of<
         seed,
         opened_at,
         port,
-        audio,
-        sound: StdSink::new(sound),
-        midi: StdSink::new(midi),
+        outlet: Outlet {
+            audio,
+            sound: StdSink::new(sound),
+            midi: StdSink::new(midi),
+        },
     }
 }
 

@@ -7,10 +7,11 @@ ghost use Rattle.lk_outside.specs.Audio.{GivesBlock};
 ghost use Rattle.lk_outside.specs.Contents.{BothTell};
 ghost use Rattle.lk_outside.specs.Faults.{Rose};
 ghost use Rattle.lk_outside.specs.Sink.{Appends};
+ghost use Rattle.lk_outside.specs.Transfer.{AppendsPrefix};
 ghost use Rattle.link_midi.specs.Messages.{IsMessage};
 ghost use Rattle.step_sequencer.specs.Wav.{samples_bytes};
-ghost use Rattle.drum_machine.specs.Player.{BeginsAt, CanPlay, HasAsked, HasPlayed, HasPlayedBlock, HasStarted, start_from};
-ghost use Rattle.drum_machine.specs.Written.{AreWrittenByReads, midi_line_of, midi_lines_of};
+ghost use Rattle.drum_machine.specs.Player.{BeginsAt, CanPlay, HasCutBlock, HasPlayed, HasPlayedBlock, HasStarted, IsPlayed, start_from};
+ghost use Rattle.drum_machine.specs.Written.{AppendsFront, midi_line_of, midi_lines_of};
 ghost use Rattle.drum_machine.specs.Ends.{HasPlayCause, HasNoMore, counted};
 
 use crate::callback::{Change, Drums, FRAMES, callback, edit};
@@ -52,12 +53,8 @@ pub fn play<C: StateCell<11, Way = ()>, N: LinkName, A: Audio, W: Sink, M: Sink>
 ) -> PlayEnd
     requires ready { CanPlay pass.old drums.old.origin blocks }
     ensures played { HasPlayed pass.old pass.new }
-    ensures begun { result ≡ PlayEnd.Played → BeginsAt (A.contents audio.old) drums.new.origin
-        × HasStarted (start_from drums.new.origin) pass.old pass.new }
-    // It is asked for one block more, which begins where the last one has been played.
-    ensures asked { result ≡ PlayEnd.Played → HasAsked (blocks + 1) (A.contents audio.old) (A.contents audio.new) }
-    ensures whole { result ≡ PlayEnd.Played → AreWrittenByReads blocks drums.old.pattern drums.new.origin drums.old.kit drums.old.clock pass.new
-        (W.written sound.old) (W.written sound.new) (M.written midi.old) (M.written midi.new) }
+    ensures written { IsPlayed blocks drums.old.pattern drums.old.kit drums.old.clock (A.contents audio.old) (A.contents audio.new) pass.old pass.new
+        (W.written sound.old) (W.written sound.new) (M.written midi.old) (M.written midi.new) result }
     ensures cause { HasPlayCause (counted (A.faults audio.old) (W.faults sound.old) (M.faults midi.old))
         (counted (A.faults audio.new) (W.faults sound.new) (M.faults midi.new)) (A.contents audio.new) result }
 {
@@ -89,6 +86,7 @@ fn next_block<A: Audio>(audio: &mut A) -> Option<Block>
     ensures some { IfSome result (λ block. IsMoment block.start × (A.faults audio.new ≡ A.faults audio.old)) }
     ensures begins { IfSome result (λ block. BeginsAt (A.contents audio.old) block.start) }
     ensures given { IfSome result (λ block. BothTell (GivesBlock block) (A.contents audio.old) (A.contents audio.new)) }
+    ensures stays { IfNone result (A.contents audio.new ≡ A.contents audio.old) }
     ensures none { IfNone result (HasNoMore (counted (A.faults audio.old) 0 0) (counted (A.faults audio.new) 0 0) (A.contents audio.new)) }
 {
     match audio.next() {
@@ -114,6 +112,8 @@ fn play_block<C: StateCell<11, Way = ()>, N: LinkName, W: Sink, M: Sink>(
     ensures played { HasPlayed pass.old pass.new }
     ensures stays { (drums.new.pattern ≡ drums.old.pattern) × (drums.new.origin ≡ drums.old.origin) × (pass.new.made ≡ pass.old.made) }
     ensures block { OnTrue result (HasPlayedBlock first drums.old drums.new pass.old pass.new
+        (W.written sound.old) (W.written sound.new) (M.written midi.old) (M.written midi.new)) }
+    ensures cut { OnFalse result (HasCutBlock first drums.old pass.old pass.new
         (W.written sound.old) (W.written sound.new) (M.written midi.old) (M.written midi.new)) }
     ensures works { OnTrue result ((W.faults sound.new ≡ W.faults sound.old) × (M.faults midi.new ≡ M.faults midi.old)) }
     ensures fails { OnFalse result (Rose (W.faults sound.old) (W.faults sound.new) ⊎ Rose (M.faults midi.old) (M.faults midi.new)) }
@@ -177,6 +177,8 @@ impl Sheet {
         requires messages { All (λ event. IsMessage event.message) self.old.events.items }
         ensures sound { OnTrue result (Appends (W.written sound.old) (samples_bytes self.old.samples.items) (W.written sound.new)) }
         ensures midi { OnTrue result (Appends (M.written midi.old) (midi_lines_of self.old.events.items) (M.written midi.new)) }
+        ensures front { OnFalse result (AppendsFront (samples_bytes self.old.samples.items) (midi_lines_of self.old.events.items)
+            (W.written sound.old) (W.written sound.new) (M.written midi.old) (M.written midi.new)) }
         ensures works { OnTrue result ((W.faults sound.new ≡ W.faults sound.old) × (M.faults midi.new ≡ M.faults midi.old)) }
         ensures fails { OnFalse result (Rose (W.faults sound.old) (W.faults sound.new) ⊎ Rose (M.faults midi.old) (M.faults midi.new)) }
     {
@@ -192,6 +194,7 @@ impl Sheet {
 fn write_lines<M: Sink>(events: &[MidiEvent], line: &mut LineBuf, midi: &mut M) -> bool
     requires { All (λ event. IsMessage event.message) events.now }
     ensures lines { OnTrue result (Appends (M.written midi.old) (midi_lines_of events.now) (M.written midi.new)) }
+    ensures part { OnFalse result (AppendsPrefix (M.written midi.old) (midi_lines_of events.now) (M.written midi.new)) }
     ensures works { OnTrue result (M.faults midi.new ≡ M.faults midi.old) }
     ensures fails { OnFalse result (Rose (M.faults midi.old) (M.faults midi.new)) }
 {

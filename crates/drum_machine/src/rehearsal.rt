@@ -1,7 +1,7 @@
 //! A rehearsal: four bars over a node in memory, in one thread, so that each run prints the same. It begins with 120 beats a minute; its
 //! own callback starts to play and goes over to 128 in the third bar, and a peer to 150 in the fourth.
 
-ghost use Rattle.std.specs.Prelude.{◌≡◌, ◌≤◌, ◌<◌, ◌+◌, ◌^◌, [], length};
+ghost use Rattle.std.specs.Prelude.{pos, ◌≡◌, ◌≤◌, ◌<◌, ◌+◌, ◌^◌, [], length};
 ghost use Rattle.std.specs.Bool.{OnTrue, OnFalse};
 ghost use Rattle.lk_base.specs.Ranges.{IsMoment};
 ghost use Rattle.lk_outside.specs.Faults.{Rose};
@@ -9,6 +9,8 @@ ghost use Rattle.client_state.specs.State.{IsTidyState};
 ghost use Rattle.link_node.specs.Config.{config_value, IsConfig};
 ghost use Rattle.link_shared.specs.Hub.{IsOnGate};
 ghost use Rattle.drum_machine.specs.Ends.{EndsRehearsal};
+ghost use Rattle.drum_machine.specs.Rehearsal.{AreTold, HasEdited, IsRehearsed, begins_at, change_with};
+ghost use Rattle.link_live.specs.NodeRun.{ArePartsOf};
 
 use crate::callback::{BLOCK_LENGTH, Change, Drums, FRAMES, QUANTUM, callback, edit};
 use crate::score::Score;
@@ -61,6 +63,7 @@ const PEERS_ENDPOINT: Endpoint = Endpoint {
 /// Rehearses four bars of a pattern, and writes a line for each step that begins, one where the tempo shown has changed, and last how many
 /// steps and MIDI events there were.
 pub fn rehearse<R: Wait, K: Sink>(rt: &R, alloc: Global, pattern: Pattern, out: &mut K) -> Status
+    ensures told { result ≡ Status.Done → IsRehearsed 373 pattern (K.written out.old) (K.written out.new) }
     ensures ends { EndsRehearsal (K.faults out.old) (K.faults out.new) result }
 {
     let config = config_of_one();
@@ -111,10 +114,9 @@ fn rehearse_bars<N: LinkName, R: Wait, K: Sink>(
     pattern: Pattern,
     out: &mut K,
 ) -> bool
-    requires cells { (parts.app_states ≡ N.app_states) × (parts.audio_states ≡ N.audio_states) × (parts.audio_commits ≡ N.audio_commits) }
-    requires queue { parts.queue ≡ N.queue }
-    requires ledger { (parts.ledger ≡ N.name) × (parts.shares ≡ N.parts) × (N.whole ≡ N.parts) }
+    requires link { ArePartsOf N.app_states N.audio_states N.audio_commits N.queue N.name N.parts N.whole parts }
     requires gates { length parts.config.gates ≡ 1 }
+    ensures told { OnTrue result (IsRehearsed 373 pattern (K.written out.old) (K.written out.new)) }
     ensures works { OnTrue result (K.faults out.new ≡ K.faults out.old) }
     ensures fails { OnFalse result (Rose (K.faults out.old) (K.faults out.new)) }
 {
@@ -131,7 +133,10 @@ fn rehearse_bars<N: LinkName, R: Wait, K: Sink>(
     let now = start_of(block);
     hub.hand_in(app);
     let _ended = hub.last_turn(rt, link, &(), pass, now, &mut sends);
-    written && score.tell_done(out)
+    if !written {
+        return false;
+    }
+    score.tell_done(out)
 }
 
 // For each block a turn of the hub, the edit that is due, and the callback, until a line isn't written. Answers which block would be next,
@@ -149,6 +154,8 @@ fn play_bars<N: LinkName, R: Wait, K: Sink>(
 ) -> (u32, bool)
     requires gates { length hub.old.config.gates ≡ 1 }
     requires unmade { pass.old.made ≡ [] }
+    requires untold { score.old.mpb ≡ pos 0 }
+    ensures told { OnTrue result.1 (AreTold 373 pattern (K.written out.old) (K.written out.new)) }
     ensures block { result.0 ≤ 373 }
     ensures handed { hub.new.handed ≡ hub.old.handed }
     ensures works { OnTrue result.1 (K.faults out.new ≡ K.faults out.old) }
@@ -157,43 +164,55 @@ fn play_bars<N: LinkName, R: Wait, K: Sink>(
     let mut drums = Drums::new(pattern, OPENED_AT);
     let mut samples = Samples::new();
     let mut midi = MidiEvents::new();
-    let mut written = true;
     let mut block = 0;
-    while block <= LAST_BLOCK && written {
+    while block <= LAST_BLOCK {
         let now = start_of(block);
         let first = block * FRAMES;
         let _turned = hub.turn(rt, link, &(), now, got_at(block, session), sends);
         edit_due(link, pass, block, now);
         let capture = callback(link, pass, &mut drums, first, &mut samples, &mut midi);
-        written = score.tell_block(&capture, &drums, first, midi.len(), out);
+        if !score.tell_block(&capture, &drums, first, midi.len(), out) {
+            return (block + 1, false);
+        }
         block += 1;
     }
-    (block, written)
+    (block, true)
 }
 
 // The host time at which a block begins.
 fn start_of(block: u32) -> i64
     requires { block ≤ 373 }
-    ensures { IsMoment result }
+    ensures moment { IsMoment result }
+    ensures value { result ≡ begins_at block }
 {
     OPENED_AT + i64::from(block) * BLOCK_LENGTH
 }
 
-// The own edits: it plays as of the first block, and is faster from the third bar on. Waits: no. Memory: none.
+// The change that is due with a block: it plays as of the first, and is faster from the third bar on.
+fn change_due(block: u32) -> Option<Change>
+    ensures { result ≡ change_with block }
+{
+    match block {
+        0 => Some(Change::Play),
+        THIRD_BAR => Some(Change::Tempo(468_750)),
+        _ => None,
+    }
+}
+
+// The own edits. Waits: no. Memory: none.
 fn edit_due<C: StateCell<11, Way = ()>, N: LinkName>(
     link: &Link<C, N>,
     pass: &mut AudioPass<C, N>,
     block: u32,
     now: i64,
 )
-    requires moment { IsMoment now }
+    requires moment { IsMoment now × (now ≡ begins_at block) }
     requires room { length pass.old.made + 1 < 2 ^ 60 }
-    ensures { length pass.new.made ≤ length pass.old.made + 1 }
+    ensures edited { HasEdited block pass.old pass.new }
+    ensures few { length pass.new.made ≤ length pass.old.made + 1 }
 {
-    let change = match block {
-        0 => Change::Play,
-        THIRD_BAR => Change::Tempo(468_750),
-        _ => return,
+    let Some(change) = change_due(block) else {
+        return;
     };
     let capture = link.capture_audio(&(), pass);
     edit(link, pass, &capture, change, now);

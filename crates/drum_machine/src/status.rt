@@ -1,8 +1,9 @@
 //! How a run of the program ends.
 
 ghost use Rattle.std.specs.Prelude.{◌≡◌};
-ghost use Rattle.drum_machine.specs.Statuses.{status_number_of};
+ghost use Rattle.drum_machine.specs.Statuses.{ended_as, status_number_of};
 
+use crate::player::PlayEnd;
 use std::fmt;
 
 /// How a run ended. Its number is the exit status, its text is for the person who ran it.
@@ -42,6 +43,20 @@ impl Status {
             Status::Pattern { .. } | Status::TooLong => 8,
             Status::Memory => 9,
         }
+    }
+}
+
+/// The status of a session by how its loop ended, whether its port failed and whether its journal was full: that of the first cause that
+/// holds.
+pub fn status_of(end: PlayEnd, failed: bool, full: bool) -> Status
+    ensures { result ≡ ended_as end failed full }
+{
+    match end {
+        PlayEnd::Output => Status::Output,
+        PlayEnd::Device => Status::Audio,
+        PlayEnd::Played if failed => Status::Network,
+        PlayEnd::Played if full => Status::Events,
+        PlayEnd::Played => Status::Done,
     }
 }
 

@@ -1,9 +1,7 @@
 -- What is logged and answered for one line more.
-use Rattle.std.proofs.Common.{◌≡◌, refl, sym, ◌∙◌, ap, ℕ, ℤ, suc, ◌+◌, List, [], ◌∷◌, ◌++◌, length, Option, Some, None, option_map, append_assoc, append-nil}
-use Rattle.audio_handoff.specs.Cell.{Pair}
+use Rattle.std.proofs.Common.{◌≡◌, refl, sym, ◌∙◌, ap, ℕ, suc, List, [], ◌∷◌, ◌++◌, length, Option, Some, None, option_map, append_assoc, append-nil}
 use Rattle.client_state.specs.Shown.{shown_over}
 use Rattle.client_state.specs.Words.{state_of_words}
-use Rattle.client_state.specs.declared.commit.Commit.{Commit}
 use Rattle.client_state.specs.declared.state.State.{State}
 use Rattle.link_shared.specs.declared.capture.Capture.{Capture}
 use Rattle.link_live.specs.Clients.{commit_of_act}

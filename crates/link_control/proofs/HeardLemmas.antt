@@ -1,19 +1,17 @@
 -- What is read of a client, piece by piece, to the end.
-use Rattle.std.proofs.Common.{◌≡◌, refl, sym, ◌∙◌, ap, subst, inl, inr, arith, ℕ, ℤ, pos, ◌+◌, ◌<◌, ◌≤◌, List, [], ◌∷◌, ◌++◌, length, get_or, take, drop, All, Option, Some, None, append_assoc, append-nil}
+use Rattle.std.proofs.Common.{◌≡◌, refl, sym, ◌∙◌, ap, subst, inl, inr, arith, ℕ, ℤ, pos, ◌+◌, ◌<◌, ◌≤◌, List, [], ◌∷◌, ◌++◌, length, get_or, take, drop, Option, Some, None, append_assoc, append-nil}
 use Rattle.std.specs.Option.{option_map}
 use Rattle.std.proofs.lemmas.List.{take_all, take_more, take-append-drop}
 use Rattle.std.proofs.lemmas.List.Elements.{All-nil}
-use Rattle.audio_handoff.specs.Cell.{Grows}
 use Rattle.link_shared.specs.Passes.{AppView}
 use Rattle.lk_outside.specs.Faults.{Rose}
 use Rattle.lk_outside.specs.Sink.{Appends}
 use Rattle.lk_outside.specs.Source.{IsAtEnd, Takes}
 use Rattle.link_text.specs.ControlLine.{IsAsked}
-use Rattle.link_control.specs.Answers.{answers_of}
 use Rattle.link_control.specs.Lines.{whole_lines_of}
-use Rattle.link_control.specs.Log.{Answered, Numbered, commits_in, entries_of, own_behind}
-use Rattle.link_control.specs.Serving.{AreLate, EndsServing, HasServed, HasUsed, IsAnswered, TalkSeen, lines_in}
-use Rattle.link_control.specs.ServingNow.{AreLogged, GoesOn, HasStopped, IsHeard, IsServing, StopsServing}
+use Rattle.link_control.specs.Log.{Answered, Numbered, commits_in, own_behind}
+use Rattle.link_control.specs.Serving.{AreLate, EndsServing, HasServed, HasUsed, TalkSeen, lines_in}
+use Rattle.link_control.specs.ServingNow.{GoesOn, HasStopped, IsHeard, IsServing, StopsServing}
 use Rattle.link_control.specs.declared.log.LineLog.{LineLog}
 use Rattle.link_control.specs.declared.server.Served.{Served}
 use Rattle.link_control.specs.declared.server.Served.TheVariants as served

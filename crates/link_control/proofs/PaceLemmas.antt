@@ -1,5 +1,5 @@
 -- The moments that a pace answers, one line after another.
-use Rattle.std.proofs.Common.{◌≡◌, refl, sym, ◌∙◌, ap, subst, arith, ℕ, ℤ, pos, zero, suc, ◌+◌, ◌*◌, ◌^◌, ◌+ℤ◌, min, List, [], ◌∷◌, ◌++◌, Option, Some, None}
+use Rattle.std.proofs.Common.{◌≡◌, refl, sym, ◌∙◌, ap, subst, arith, ℕ, ℤ, pos, zero, suc, ◌+◌, ◌*◌, ◌^◌, ◌+ℤ◌, List, [], ◌∷◌, ◌++◌, Option, Some, None}
 use Rattle.std.specs.Int.{int_min}
 use Rattle.std.proofs.lemmas.Int.{ints, clamps}
 use mathlib.Core.Option.{some, some-injective, some-ne-none}

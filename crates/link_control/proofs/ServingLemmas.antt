@@ -1,5 +1,5 @@
 -- A line of a client: it is answered, or serving ends there.
-use Rattle.std.proofs.Common.{◌≡◌, refl, sym, ◌∙◌, ap, subst, arith, ℕ, ℤ, pos, suc, ◌+◌, ◌-◌, ◌<◌, ◌≤◌, List, [], ◌∷◌, ◌++◌, length, map, take, drop, All, Option, Some, None, append_assoc, append-nil, length-append, FitsSigned, of_z, to_z, w64}
+use Rattle.std.proofs.Common.{◌≡◌, refl, sym, ◌∙◌, ap, subst, arith, ℕ, ℤ, pos, suc, ◌+◌, ◌-◌, ◌<◌, ◌≤◌, List, [], ◌∷◌, ◌++◌, length, take, drop, Option, Some, None, append_assoc, append-nil, length-append, FitsSigned, of_z, to_z, w64}
 use Rattle.std.specs.Option.{option_map}
 use Rattle.std.proofs.Math.Seq.{take-add}
 use Rattle.std.proofs.lemmas.List.{length-map, map-append, take_rest}
@@ -19,8 +19,8 @@ use Rattle.link_script.specs.declared.live_script.Act.{Act}
 use Rattle.link_live.specs.Clients.{commit_of_act}
 use Rattle.link_control.specs.Answers.{answer_of, answers_of}
 use Rattle.link_control.specs.Lines.{whole_lines_of}
-use Rattle.link_control.specs.Log.{Answered, Numbered, act_asked, commits_in, entries_of, entry_of, own_after, own_behind, put_before}
-use Rattle.link_control.specs.Serving.{HasUsed, IsCutShort, TalkSeen, lines_in, pairs_in}
+use Rattle.link_control.specs.Log.{Answered, Numbered, act_asked, commits_in, entries_of, entry_of, own_after, own_behind}
+use Rattle.link_control.specs.Serving.{HasUsed, TalkSeen, lines_in, pairs_in}
 use Rattle.link_control.specs.ServingNow.{AreCut, AreLogged, HasMade, HasStopped, IsDone, IsServing, IsWrittenInPart, StopsServing, number_of}
 use Rattle.link_control.specs.declared.log.LineLog.{LineLog}
 use Rattle.link_control.specs.declared.server.Served.{Served}

@@ -1,6 +1,6 @@
 -- What a run under control promises, however it ends: what is recorded, published and sent, what the client was answered, and what was
 -- captured and committed for it.
-use Rattle.std.specs.Prelude.{◌≡◌, ◌⊎◌, ◌≤◌, ℕ, ℤ, Bool, true, false, if◌then◌else◌, List, [], map, Option, Some, None}
+use Rattle.std.specs.Prelude.{◌≡◌, ◌⊎◌, ◌≤◌, ℕ, ℤ, Bool, true, false, if◌then◌else◌, List, [], map, Option, Some}
 use Rattle.std.specs.Vec.{vec_capacity}
 use Rattle.audio_handoff.specs.Cell.{Grows}
 use Rattle.lk_base.specs.declared.endpoint.Endpoint.{Endpoint}
@@ -11,6 +11,7 @@ use Rattle.link_node.specs.Event.{event_value}
 use Rattle.link_shared.specs.Journal.{AreCarried, app_commits_in}
 use Rattle.link_shared.specs.Passes.{AppView}
 use Rattle.link_live.specs.Headline.{ArePublished, IsRecorded}
+use Rattle.link_live.specs.NodeRun.{new_app}
 use Rattle.link_live.specs.Report.{ReportValue}
 use Rattle.link_control.specs.Log.{AreCounted, captures_in, commits_in}
 use Rattle.link_control.specs.Serving.{HasServed, TalkSeen}
@@ -57,16 +58,17 @@ first_of served.Failed failed full = if failed then end.Port else end.Talk
 first_of served.Ended failed full = if failed then end.Port else (if full then end.Events else end.Well)
 first_of served.Lines failed full = if failed then end.Port else (if full then end.Events else end.Lines)
 
--- the only pass of a link that is opened, which has captured and committed nothing
-abbrev pub only_pass : AppView
-only_pass = record { seen = []; pushed = []; made = 0; own = None; room = 65_535; sole = true }
+-- Only for proofs: the pass is that of a link that is opened, and the log is empty and has the room that it will need.
+pub record CanServe (pass : AppView) (session : SessionLog) : Type 0 where
+  pub fresh : pass ≡ new_app
+  pub log : (session.lines.items ≡ []) × (4_096 ≤ vec_capacity session.lines)
 
 -- Rule: The talk of `control` is opened at the endpoint given; where it can't be, nothing is heard, written or logged.
 abbrev pub IsTalked : Endpoint → Option ℤ → TalkSeen → TalkSeen → AppView → List LineLog → Served → Type 0
 IsTalked at late talk talk_then pass log ended =
-    HasServed late (record talk { opened = Some at }) talk_then only_pass pass log ended
+    HasServed late (record talk { opened = Some at }) talk_then new_app pass log ended
     ⊎ ((ended ≡ served.Failed) × Rose talk.faults talk_then.faults × (talk_then ≡ record talk { faults = talk_then.faults })
-    × (log ≡ []) × (pass ≡ only_pass))
+    × (log ≡ []) × (pass ≡ new_app))
 
 -- Rule: The client's commits count from 1 and stand in the journal each once and in order.
 -- What was captured and committed for the client, and answered: the report tells just what the log does. Each capture is a state that was

@@ -3,5 +3,4 @@ pub mod Log
 pub mod Answers
 pub mod Serving
 pub mod ServingNow
-pub mod Sides
 pub mod ControlRun

@@ -1,5 +1,5 @@
 -- What is done at each line of a client: what is captured, and what is committed.
-use Rattle.std.specs.Prelude.{◌≡◌, ℕ, ℤ, ◌+◌, List, [], ◌∷◌, ◌++◌, map, Option, Some, None, option_map}
+use Rattle.std.specs.Prelude.{◌≡◌, ℕ, ℤ, ◌+◌, List, [], ◌∷◌, map, Option, Some, None, option_map}
 use Rattle.audio_handoff.specs.Cell.{Pair}
 use Rattle.client_state.specs.Shown.{shown_over}
 use Rattle.client_state.specs.Words.{state_of_words}

@@ -1,7 +1,7 @@
 //! Control: a program beside the runtime drives a node, line by line.
 //!
 //! In reading order: `line` (the line that is read), `log` (what is done at each line), `answer` (the text of an answer, and how it is
-//! written), `server` (serving a client), `sides` (what joins that with the loop of the network), `room`, `run` (both beside one another,
+//! written), `server` (serving a client), `sides` (the client's side of a run), `room`, `run` (that side beside the loop of the network,
 //! and the end).
 #![tactic(auto)]
 

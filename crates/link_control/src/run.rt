@@ -1,11 +1,11 @@
 //! A run under control: the loop of the network beside the client's, over one link, and its end.
 
-ghost use Rattle.std.specs.Prelude.{◌≡◌, ◌≤◌, ◌<◌, ◌+◌, ◌++◌, pos, if◌then◌else◌, true, false, Some, [], length, map, vec_capacity, vec_len};
-ghost use Rattle.lk_outside.specs.Faults.{Rose};
+ghost use Rattle.std.specs.Prelude.{◌≡◌, ◌≤◌, ◌<◌, ◌+◌, ◌++◌, pos, if◌then◌else◌, [], length, map, vec_capacity, vec_len};
 ghost use Rattle.lk_outside.specs.Pace.{IsPaced};
 ghost use Rattle.link_node.specs.Config.{config_value, IsConfig};
 ghost use Rattle.link_node.specs.Event.{event_value};
 ghost use Rattle.link_node.specs.Runs.{AreFitting};
+ghost use Rattle.link_live.specs.NodeRun.{ArePartsOf};
 ghost use Rattle.link_control.specs.ControlRun.{EndsControlRun, EndsTell, IsReady, first_of, told_of};
 ghost use Rattle.link_control.specs.Log.{captures_in, commits_in, put_before};
 ghost use Rattle.link_control.specs.Serving.{seen_talk};
@@ -13,16 +13,15 @@ ghost use Rattle.link_control.specs.Serving.{seen_talk};
 use crate::log::{LineLog, SessionLog};
 use crate::room::ControlRoom;
 use crate::server::Served;
-use crate::sides::run_sides;
+use crate::sides::Client;
 use client_state::{Commit, State};
-use link_live::{bind, post, run_laws};
-use link_node::{
-    Config, Event, best_timelines_are_told, clients_follow_sessions, datagrams_go_out_on_gates,
-};
-use link_shared::{Capture, Link, LinkName, Opened, Parts};
+use link_live::{Idle, run_node};
+use link_node::{Config, Event};
+use link_shared::{Capture, LinkName, Parts};
 use lk_base::Endpoint;
-use lk_outside::{Bound, Pace, Port, Talk};
+use lk_outside::{Pace, Port, Talk};
 use std::alloc::Global;
+use std::mem::replace;
 use std::sync::Wait;
 use std::thread::Threads;
 use triple_buffer::Triple;
@@ -57,8 +56,8 @@ pub struct ControlRun {
 }
 
 /// Makes a link of the parts, binds the port to the config's gates, opens the talk at an endpoint, and runs two threads: the network's
-/// loop, and the one that serves the client and then asks the other to end. Where the talk can't be opened, no line is served. Then it
-/// ends the link.
+/// loop, and the one that serves the client, after which the other is asked to end. Where the talk can't be opened, no line is served.
+/// Then it ends the link.
 ///
 /// Waits: for the threads, and in the port, the talk and the pace. Memory: two notes for each capture.
 pub fn control_run<
@@ -79,9 +78,7 @@ pub fn control_run<
     pace: &mut T,
     log: &mut SessionLog,
 ) -> ControlRun
-    requires cells { (parts.app_states ≡ N.app_states) × (parts.audio_states ≡ N.audio_states) × (parts.audio_commits ≡ N.audio_commits) }
-    requires queue { parts.queue ≡ N.queue }
-    requires ledger { (parts.ledger ≡ N.name) × (parts.shares ≡ N.parts) × (N.whole ≡ N.parts) }
+    requires link { ArePartsOf N.app_states N.audio_states N.audio_commits N.queue N.name N.parts N.whole parts }
     requires config { (parts.config ≡ config_value config.now) × IsConfig parts.config }
     requires opening { IsPaced (T.late pace.old) (pos 0) parts.opened_at }
     requires ready { IsReady room log.old }
@@ -91,62 +88,42 @@ pub fn control_run<
         (told_of parts.config parts.opened_at result) log.new.lines.items result.end }
     ensures fitting { AreFitting (length parts.config.gates) 0 0 (map event_value result.events.items) }
 {
-    // Laws, for the proof.
-    run_laws();
-    best_timelines_are_told();
-    clients_follow_sessions();
-    datagrams_go_out_on_gates();
     let ControlRoom {
-        mut sends,
+        sends,
         mut captures,
         mut commits,
     } = room;
-    let Opened {
-        link,
-        mut hub,
-        audio: audio_pass,
-        app: mut app_pass,
-    } = Link::<Triple<11>, N>::make(parts);
-    let bound = bind(port, config);
-    let opened = listen(talk, at);
-    let ends = run_sides(
-        rt,
+    let mut client = Client {
         alloc,
-        &link,
-        &mut hub,
+        at,
+        log: replace(
+            log,
+            SessionLog {
+                lines: Vec::new(alloc),
+            },
+        ),
+    };
+    let run = run_node::<N, P, Idle, (), Client, L, T, R>(
+        rt,
+        parts,
+        config,
+        sends,
         port,
-        bound,
-        &mut sends,
-        &mut app_pass,
+        &mut Idle,
+        &mut (),
+        &mut client,
         talk,
-        opened,
         pace,
-        log,
     );
-    hub.hand_in(app_pass);
-    let ended = hub.last_turn(rt, link, &(), audio_pass, ends.net.clock, &mut sends);
-    let failed = post(port, sends.list(), ends.net.failed);
-    tell_captures(&log.lines, &mut captures);
-    tell_commits(&log.lines, &mut commits);
+    tell_captures(&client.log.lines, &mut captures);
+    tell_commits(&client.log.lines, &mut commits);
+    *log = client.log;
     ControlRun {
-        end: end_of(ends.served, failed, ended.full),
-        events: ended.events,
-        published: ended.published,
+        end: end_of(run.app, run.failed, run.full),
+        events: run.events,
+        published: run.published,
         captures,
         commits,
-    }
-}
-
-// Opens the talk at an endpoint. Answers whether it is. Waits: in the talk. Memory: none.
-fn listen<L: Talk>(talk: &mut L, at: Endpoint) -> bool
-    ensures opens { result ≡ true → (L.opened talk.new ≡ Some at) × (L.faults talk.new ≡ L.faults talk.old) }
-    ensures fails { result ≡ false → (L.opened talk.new ≡ L.opened talk.old) × Rose (L.faults talk.old) (L.faults talk.new) }
-    ensures left { L.left talk.new ≡ L.left talk.old }
-    ensures written { L.written talk.new ≡ L.written talk.old }
-{
-    match talk.listen(at) {
-        Bound::Ready => true,
-        Bound::Failed => false,
     }
 }
 

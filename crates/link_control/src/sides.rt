@@ -1,161 +1,98 @@
-//! The two loops of a run under control beside one another.
-//!
-//! As in a live run, what joins threads knows each side by a trait alone.
+//! The client's side of a run under control.
 
-ghost use Rattle.std.specs.Prelude.{Bool};
-ghost use Rattle.link_control.specs.Sides.{CanServe, WasServed};
+ghost use Rattle.std.specs.Prelude.{◌≡◌, true, false, Some};
+ghost use Rattle.lk_outside.specs.Faults.{Rose};
+ghost use Rattle.link_control.specs.ControlRun.{CanServe, IsTalked};
 ghost use Rattle.link_control.specs.Serving.{seen_talk};
-ghost use Rattle.link_control.specs.declared.log.SessionLog.{SessionLog as AnyLog};
-ghost use Rattle.link_control.specs.declared.server.Served.{Served as AnyServed};
 
 use crate::log::SessionLog;
 use crate::server::{Served, serve};
 use audio_handoff::StateCell;
-use link_live::{NetEnd, NetworkSide, ask_to_end};
-use link_node::Sends;
+use link_live::Side;
 use link_shared::{AppPass, Link, LinkName};
-use lk_outside::{Pace, Talk};
+use lk_base::Endpoint;
+use lk_outside::{Bound, Pace, Talk};
 use std::alloc::Global;
 use std::sync::Wait;
-use std::thread;
-use std::thread::Threads;
 use triple_buffer::Triple;
 
-/// The client's side.
-pub trait ClientSide<R, L, D, T> {
-    /// What it owes, and what it promises.
-    ghost starts: { Self → D → Bool → AnyLog → Type 0 };
-
-    ghost runs: { Self → Self → D → D → T → Bool → AnyLog → AnyServed → Type 0 };
-
-    /// Serves the client where the talk was opened, and then asks the network's loop to end.
-    fn answer(
-        &mut self,
-        rt: &R,
-        alloc: Global,
-        link: &L,
-        talk: &mut D,
-        opened: bool,
-        pace: &mut T,
-        log: &mut SessionLog,
-    ) -> Served
-        requires { starts self.old talk.old opened log.old }
-        ensures { runs self.old self.new talk.old talk.new pace.old opened log.new result };
+/// The client, who is listened for at an endpoint, with the log of the session.
+#[derive(Drop)]
+pub(crate) struct Client {
+    pub(crate) alloc: Global,
+    pub(crate) at: Endpoint,
+    pub(crate) log: SessionLog,
 }
 
-impl<N: LinkName, D: Talk, T: Pace, R: Wait> ClientSide<R, Link<Triple<11>, N>, D, T>
-    for AppPass<Triple<11>, N> {
-    ghost starts = { λ pass talk opened log. CanServe opened (D.opened talk) log };
+impl<N: LinkName, D: Talk, T: Pace, R: Wait> Side<
+    R,
+    Link<Triple<11>, N>,
+    AppPass<Triple<11>, N>,
+    D,
+    T,
+> for Client {
+    type End = Served;
 
-    ghost runs = { λ pass pass_then talk talk_then pace opened log ended. WasServed opened (T.late pace)
-        (seen_talk D.left D.written D.opened D.faults talk) (seen_talk D.left D.written D.opened D.faults talk_then)
-        pass pass_then log.lines.items ended };
+    ghost starts = { λ client pass talk pace. CanServe pass client.log };
 
-    fn answer(
+    ghost runs = { λ client client_then pass pass_then talk talk_then pace pace_then ended.
+        IsTalked client.at (T.late pace) (seen_talk D.left D.written D.opened D.faults talk)
+        (seen_talk D.left D.written D.opened D.faults talk_then) pass_then client_then.log.lines.items ended };
+
+    fn run(
         &mut self,
         rt: &R,
-        alloc: Global,
         link: &Link<Triple<11>, N>,
+        pass: &mut AppPass<Triple<11>, N>,
         talk: &mut D,
-        opened: bool,
         pace: &mut T,
-        log: &mut SessionLog,
     ) -> Served {
-        client_loop(rt, alloc, link, &(), self, talk, opened, pace, log)
+        serve_at(
+            rt,
+            self.alloc,
+            link,
+            &(),
+            self.at,
+            pass,
+            talk,
+            pace,
+            &mut self.log,
+        )
     }
 }
 
-// Serves the client where the talk was opened, and fails at once where it wasn't. Then it asks the network's loop to end.
+// Opens the talk at an endpoint and serves the client; fails at once where it can't be opened.
 // Waits: as in `serve`. Memory: two notes for each capture.
-fn client_loop<C: StateCell<11>, N: LinkName, D: Talk, T: Pace, R: Wait>(
+fn serve_at<C: StateCell<11>, N: LinkName, D: Talk, T: Pace, R: Wait>(
     rt: &R,
     alloc: Global,
     link: &Link<C, N>,
     way: &C::Way,
+    at: Endpoint,
     pass: &mut AppPass<C, N>,
     talk: &mut D,
-    opened: bool,
     pace: &mut T,
     log: &mut SessionLog,
 ) -> Served
-    requires ready { CanServe opened (D.opened talk.old) log.old }
-    ensures served { WasServed opened (T.late pace.old) (seen_talk D.left D.written D.opened D.faults talk.old)
-        (seen_talk D.left D.written D.opened D.faults talk.new) pass.old pass.new log.new.lines.items result }
+    requires ready { CanServe pass.old log.old }
+    ensures served { IsTalked at (T.late pace.old) (seen_talk D.left D.written D.opened D.faults talk.old)
+        (seen_talk D.left D.written D.opened D.faults talk.new) pass.new log.new.lines.items result }
 {
-    let ended = serve_opened(rt, alloc, link, way, pass, talk, opened, pace, log);
-    ask_to_end(rt, link);
-    ended
-}
-
-// Serves the client where the talk was opened. Waits and memory: as in `client_loop`.
-fn serve_opened<C: StateCell<11>, N: LinkName, D: Talk, T: Pace, R: Wait>(
-    rt: &R,
-    alloc: Global,
-    link: &Link<C, N>,
-    way: &C::Way,
-    pass: &mut AppPass<C, N>,
-    talk: &mut D,
-    opened: bool,
-    pace: &mut T,
-    log: &mut SessionLog,
-) -> Served
-    requires ready { CanServe opened (D.opened talk.old) log.old }
-    ensures served { WasServed opened (T.late pace.old) (seen_talk D.left D.written D.opened D.faults talk.old)
-        (seen_talk D.left D.written D.opened D.faults talk.new) pass.old pass.new log.new.lines.items result }
-{
-    if opened {
-        return serve(rt, alloc, link, way, pass, talk, pace, log);
+    if !listen(talk, at) {
+        return Served::Failed;
     }
-    Served::Failed
+    serve(rt, alloc, link, way, pass, talk, pace, log)
 }
 
-/// How the two loops have ended.
-#[derive(Clone, Copy, Debug, PartialEq, Eq)]
-pub struct SideEnds {
-    pub net: NetEnd,
-    pub served: Served,
-}
-
-/// Runs the two loops beside one another.
-///
-/// Waits: for the threads, and in the loops. Memory: two notes for each capture.
-pub fn run_sides<
-    R: Threads + Wait + Sync,
-    L: Sync,
-    P: Send,
-    D: Send,
-    T: Send,
-    H: NetworkSide<R, L, P> + Send,
-    V: ClientSide<R, L, D, T> + Send,
->(
-    rt: &R,
-    alloc: Global,
-    link: &L,
-    hub: &mut H,
-    port: &mut P,
-    bound: bool,
-    sends: &mut Sends,
-    app: &mut V,
-    talk: &mut D,
-    opened: bool,
-    pace: &mut T,
-    log: &mut SessionLog,
-) -> SideEnds
-    requires network { H.starts hub.old port.old bound }
-    requires client { V.starts app.old talk.old opened log.old }
-    ensures network { H.runs hub.old hub.new port.old port.new bound result.net }
-    ensures client { V.runs app.old app.new talk.old talk.new pace.old opened log.new result.served }
+// Opens the talk at an endpoint. Answers whether it is. Waits: in the talk. Memory: none.
+fn listen<L: Talk>(talk: &mut L, at: Endpoint) -> bool
+    ensures opens { result ≡ true → (L.opened talk.new ≡ Some at) × (L.faults talk.new ≡ L.faults talk.old) }
+    ensures fails { result ≡ false → (L.opened talk.new ≡ L.opened talk.old) × Rose (L.faults talk.old) (L.faults talk.new) }
+    ensures left { L.left talk.new ≡ L.left talk.old }
+    ensures written { L.written talk.new ≡ L.written talk.old }
 {
-    let (net, served) = thread::join_mut(
-        rt,
-        &mut || -> NetEnd
-            requires { H.starts hub.now port.now bound }
-            ensures { H.runs hub.entry.now hub.exit.now port.entry.now port.exit.now bound result }
-        { hub.run(rt, link, port, bound, sends) },
-        &mut || -> Served
-            requires { V.starts app.now talk.now opened log.now }
-            ensures { V.runs app.entry.now app.exit.now talk.entry.now talk.exit.now pace.entry.now opened log.exit.now result }
-        { app.answer(rt, alloc, link, talk, opened, pace, log) },
-    );
-    SideEnds { net, served }
+    match talk.listen(at) {
+        Bound::Ready => true,
+        Bound::Failed => false,
+    }
 }

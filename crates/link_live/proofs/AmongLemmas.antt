@@ -1,5 +1,5 @@
 -- Pairs that stand among others, each at a place of its own and in order.
-use Rattle.std.proofs.Common.{◌≡◌, refl, ap, inl, inr, ⊎_elim, zero, suc, ◌⊎◌, List, [], ◌∷◌, ◌++◌}
+use Rattle.std.proofs.Common.{◌≡◌, refl, ap, inl, inr, ⊎_elim, zero, suc, List, [], ◌∷◌, ◌++◌}
 use Rattle.std.specs.List.{AllByRecursion}
 use mathlib.Core.Option.{some}
 use Rattle.audio_handoff.specs.Cell.{Pair}

@@ -14,8 +14,9 @@ pub mod ScriptLemmas
 pub mod EndLemmas
 pub mod RecordedLemmas
 pub mod NetworkLemmas
-pub mod PlayedLemmas
 pub mod AppLemmas
+pub mod NodeRunLemmas
+pub mod PlayedLemmas
 pub mod TakenLemmas
 pub mod EditLemmas
 pub mod CommitLemmas

@@ -1,29 +1,23 @@
 //! A live run: three threads over one link, and its end.
 
-ghost use Rattle.std.specs.Prelude.{◌≡◌, ◌≤◌, ◌<◌, ◌^◌, ◌+◌, pos, [], None, Bool, true, false, length, map, not, All, vec_capacity};
-ghost use Rattle.lk_outside.specs.Faults.{Rose};
+ghost use Rattle.std.specs.Prelude.{◌≡◌, ◌≤◌, pos, Bool, true, false, length, map};
 ghost use Rattle.lk_outside.specs.Pace.{IsPaced};
-ghost use Rattle.link_node.specs.Config.{config_value, gate_value, IsConfig};
+ghost use Rattle.link_node.specs.Config.{config_value, IsConfig};
 ghost use Rattle.link_node.specs.Event.{event_value};
 ghost use Rattle.link_node.specs.Runs.{AreFitting};
 ghost use Rattle.link_live.specs.LiveRun.{EndsLiveRun, IsReady, first_of, setup_of, told_of};
-ghost use Rattle.link_live.specs.Network.{locals_of};
+ghost use Rattle.link_live.specs.NodeRun.{ArePartsOf};
 
 use crate::audio::AudioReport;
-use crate::network::{post, run_laws};
+use crate::node_run::run_node;
 use crate::room::Room;
 use crate::script::ScriptReport;
-use crate::sides::run_loops;
-use arrayvec::ArrayVec;
+use crate::sides::{Player, Script};
 use client_state::State;
-use link_node::{
-    Config, Event, GateSetup, best_timelines_are_told, clients_follow_sessions,
-    datagrams_go_out_on_gates,
-};
+use link_node::{Config, Event};
 use link_script::LiveScript;
-use link_shared::{Link, LinkName, Opened, Parts};
-use lk_base::Endpoint;
-use lk_outside::{Audio, Bound, Pace, Port};
+use link_shared::{LinkName, Parts};
+use lk_outside::{Audio, Pace, Port};
 use std::alloc::Global;
 use std::sync::Wait;
 use std::thread::Threads;
@@ -76,9 +70,7 @@ pub fn live_run<
     audio: &mut A,
     pace: &mut T,
 ) -> LiveRun
-    requires cells { (parts.app_states ≡ N.app_states) × (parts.audio_states ≡ N.audio_states) × (parts.audio_commits ≡ N.audio_commits) }
-    requires queue { parts.queue ≡ N.queue }
-    requires ledger { (parts.ledger ≡ N.name) × (parts.shares ≡ N.parts) × (N.whole ≡ N.parts) }
+    requires link { ArePartsOf N.app_states N.audio_states N.audio_commits N.queue N.name N.parts N.whole parts }
     requires config { (parts.config ≡ config_value config.now) × IsConfig parts.config }
     requires opening { IsPaced (T.late pace.old) (pos 0) parts.opened_at }
     requires ready { IsReady script.now blocks room }
@@ -89,49 +81,39 @@ pub fn live_run<
     ensures few { length result.audio.plays.items ≤ blocks }
     ensures fitting { AreFitting (length parts.config.gates) 0 0 (map event_value result.events.items) }
 {
-    // Laws, for the proof.
-    run_laws();
-    best_timelines_are_told();
-    clients_follow_sessions();
-    datagrams_go_out_on_gates();
     let Room {
-        mut sends,
-        audio: mut audio_report,
-        script: mut script_report,
-    } = room;
-    let Opened {
-        link,
-        mut hub,
-        audio: mut audio_pass,
-        app: mut app_pass,
-    } = Link::<Triple<11>, N>::make(parts);
-    let bound = bind(port, config);
-    let ends = run_loops(
-        rt,
-        alloc,
-        &link,
-        script,
-        blocks,
-        &mut hub,
-        port,
-        bound,
-        &mut sends,
-        &mut audio_pass,
-        audio,
-        &mut audio_report,
-        &mut app_pass,
-        pace,
-        &mut script_report,
-    );
-    hub.hand_in(app_pass);
-    let ended = hub.last_turn(rt, link, &(), audio_pass, ends.net.clock, &mut sends);
-    let failed = post(port, sends.list(), ends.net.failed);
-    LiveRun {
-        end: end_of(ends.captured, failed, ends.played, ended.full),
-        events: ended.events,
-        published: ended.published,
+        sends,
         audio: audio_report,
         script: script_report,
+    } = room;
+    let mut player = Player {
+        script,
+        blocks,
+        report: audio_report,
+    };
+    let mut client = Script {
+        alloc,
+        script,
+        report: script_report,
+    };
+    let run = run_node::<N, P, Player<'_>, A, Script<'_>, T, (), R>(
+        rt,
+        parts,
+        config,
+        sends,
+        port,
+        &mut player,
+        audio,
+        &mut client,
+        pace,
+        &mut (),
+    );
+    LiveRun {
+        end: end_of(run.app, run.failed, run.audio, run.full),
+        events: run.events,
+        published: run.published,
+        audio: player.report,
+        script: client.report,
     }
 }
 
@@ -165,28 +147,3 @@ pub fn ends_tell_courses()
     ensures port { (captured failed played full : Bool) → LiveEnd.Port ≡ first_of captured failed played full
         → (captured ≡ true) × (failed ≡ true) }
 {}
-
-/// Binds the config's gates. Answers whether the port did. Waits: in the port. Memory: none.
-pub fn bind<P: Port>(port: &mut P, config: &Config) -> bool
-    requires config { IsConfig (config_value config.now) }
-    ensures gates { result ≡ true → P.bound port.new ≡ locals_of (config_value config.now) }
-    ensures works { result ≡ true → P.faults port.new ≡ P.faults port.old }
-    ensures fails { result ≡ false → Rose (P.faults port.old) (P.faults port.new) }
-    ensures contents { P.contents port.new ≡ P.contents port.old }
-{
-    match port.bind(&locals(&config.gates)) {
-        Bound::Ready => true,
-        Bound::Failed => false,
-    }
-}
-
-/// The local endpoints of gates. Memory: none.
-pub fn locals(gates: &ArrayVec<GateSetup, 4>) -> ArrayVec<Endpoint, 4>
-    ensures { result.items ≡ map (λ gate. gate.local) (map gate_value gates.now.items) }
-{
-    let mut locals = ArrayVec::new();
-    for gate in gates.as_slice() {
-        locals.push(gate.local);
-    }
-    locals
-}

@@ -2,6 +2,7 @@ ghost use Rattle.std.specs.Prelude.{◌≡◌, ◌≤◌, length};
 ghost use Rattle.std.specs.Option.{ForSome};
 ghost use Rattle.client_state.specs.Commit.{IsTidyCommit, IsTidyStart};
 ghost use Rattle.link_node.specs.Config.{config_value, IsConfig};
+ghost use Rattle.link_live.specs.NodeRun.{ArePartsOf};
 
 use arrayvec::ArrayVec;
 use audio_handoff::{SeqState, StateCell};
@@ -25,6 +26,7 @@ mod cells;
 mod full_queue;
 mod hand_over;
 mod runs;
+mod steps;
 mod threads;
 
 /// The host time at which each node opens.
@@ -191,9 +193,7 @@ fn try_link<C: StateCell<11>, N: LinkName, R: Wait + Abort>(
     sends: Sends,
     trial: Trial,
 )
-    requires cells { (parts.app_states ≡ N.app_states) × (parts.audio_states ≡ N.audio_states) × (parts.audio_commits ≡ N.audio_commits) }
-    requires queue { parts.queue ≡ N.queue }
-    requires ledger { (parts.ledger ≡ N.name) × (parts.shares ≡ N.parts) × (N.whole ≡ N.parts) }
+    requires link { ArePartsOf N.app_states N.audio_states N.audio_commits N.queue N.name N.parts N.whole parts }
     requires gate { length parts.config.gates ≡ 1 }
 {
     let mut bench = Bench::<C, N>::open(rt, alloc, way, parts, sends);
@@ -245,9 +245,7 @@ fn thread_link<
 ) -> (Ended, Reports)
 where
     C::Way: Sync,
-    requires cells { (parts.app_states ≡ N.app_states) × (parts.audio_states ≡ N.audio_states) × (parts.audio_commits ≡ N.audio_commits) }
-    requires queue { parts.queue ≡ N.queue }
-    requires ledger { (parts.ledger ≡ N.name) × (parts.shares ≡ N.parts) × (N.whole ≡ N.parts) }
+    requires link { ArePartsOf N.app_states N.audio_states N.audio_commits N.queue N.name N.parts N.whole parts }
     requires gate { length parts.config.gates ≡ 1 }
 {
     let bench = Bench::<C, N>::open(rt, alloc, way, parts, sends);

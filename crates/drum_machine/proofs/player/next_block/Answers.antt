@@ -1,4 +1,4 @@
-use Rattle.drum_machine.proofs.SessionLemmas.{begins_there}
+use Rattle.drum_machine.proofs.CountLemmas.{begins_there, stays_at_last}
 use Rattle.drum_machine.proofs.player.next_block.Goals as goal
 
 pub returns-in-Block-clause-begins : goal.returns-in-Block-clause-begins
@@ -7,3 +7,6 @@ returns-in-Block-clause-begins g c =
 
 pub returns-in-Block-clause-given : goal.returns-in-Block-clause-given
 returns-in-Block-clause-given g c = c.in-Block.ensures.contents
+
+pub returns-in-Closed-clause-stays : goal.returns-in-Closed-clause-stays
+returns-in-Closed-clause-stays g c = stays_at_last (g.A.Audio.contents c.args.audio.now) (g.A.Audio.contents c.next.new.self) c.in-Closed.ensures.contents

@@ -1,4 +1,4 @@
-use Rattle.drum_machine.proofs.PlayedLemmas.{block_played}
+use Rattle.drum_machine.proofs.PlayedLemmas.{block_cut, block_played}
 use Rattle.drum_machine.proofs.PlayerLemmas.{block_messages, has_played_one}
 use Rattle.drum_machine.proofs.player.play_block.Goals as goal
 
@@ -14,3 +14,7 @@ pub returns-clause-block : goal.returns-clause-block
 returns-clause-block g c =
     block_played _ _ _ _ _ _ _ _ _ _ _ _ _ _ _ c.callback.ensures.read c.callback.ensures.sounds c.callback.ensures.kit c.callback.ensures.events c.callback.ensures.clock
     c.write.ensures.sound c.write.ensures.midi
+
+pub returns-clause-cut : goal.returns-clause-cut
+returns-clause-cut g c =
+    block_cut _ _ _ _ _ _ _ _ _ _ _ _ _ _ c.callback.ensures.read c.callback.ensures.sounds c.callback.ensures.events c.write.ensures.front

@@ -1,4 +1,4 @@
-use Rattle.std.proofs.Common.{◌≡◌, to_z, of_z, refl, inl, inr, ◌∙◌, w64}
+use Rattle.std.proofs.Common.{◌≡◌, to_z, of_z, refl, inl, ◌∙◌, w64}
 use Rattle.std.proofs.lemmas.Int.{to_z-of_z}
 use Rattle.link_live.proofs.AskLemmas.{moment_fits}
 use Rattle.drum_machine.proofs.SessionLemmas.{session_of}
@@ -15,13 +15,4 @@ returns g c =
     let at = c.args.devices.now.opened_at in
     let stored : to_z w64 (of_z w64 at) ≡ at = to_z-of_z w64 at (moment_fits at c.args.devices.now.moment) in
     let given = c.in-Ok-new.ensures.given in
-    let ends = c.play_parts.ensures.ends in
-    record {
-      ends = inr (
-        ends.0,
-        ends.1,
-        ends.2,
-        ends.3,
-        session_of _ _ _ _ _ _ _ _ _ _ _ _ c.new-drums.ensures.given.0 (given.0 ∙ c.config_of-config.ensures.value) (given.1 ∙ stored) ends.4,
-      );
-    }
+    record { ends = session_of _ _ _ _ _ _ _ _ _ _ c.new-drums.ensures.given.0 (given.0 ∙ c.config_of-config.ensures.value) (given.1 ∙ stored) c.play_parts.ensures.ends }

@@ -3,6 +3,7 @@
 ghost use Rattle.std.specs.Prelude.{◌≡◌, ◌≤◌, [], None, vec_capacity, IsSome};
 ghost use Rattle.lk_outside.specs.ListTalk.{opened_of};
 ghost use Rattle.client_state.specs.Commit.{IsTidyCommit};
+ghost use Rattle.link_live.specs.NodeRun.{ArePartsOf};
 
 use super::node::config;
 use super::session::{open, talk_of};
@@ -96,9 +97,7 @@ fn served_late<N: LinkName, R: Wait>(
     talk: &mut ListTalk,
     log: &mut SessionLog,
 ) -> Served
-    requires cells { (parts.app_states ≡ N.app_states) × (parts.audio_states ≡ N.audio_states) × (parts.audio_commits ≡ N.audio_commits) }
-    requires queue { parts.queue ≡ N.queue }
-    requires ledger { (parts.ledger ≡ N.name) × (parts.shares ≡ N.parts) × (N.whole ≡ N.parts) }
+    requires link { ArePartsOf N.app_states N.audio_states N.audio_commits N.queue N.name N.parts N.whole parts }
     requires opened { IsSome (opened_of talk.old) }
     requires log { (log.old.lines.items ≡ []) × (4_096 ≤ vec_capacity log.old.lines) }
 {

@@ -8,6 +8,7 @@ ghost use Rattle.lk_outside.specs.ListPace.{late_of};
 ghost use Rattle.lk_outside.specs.Pace.{IsPaced};
 ghost use Rattle.link_node.specs.Config.{config_value, IsConfig};
 ghost use Rattle.link_control.specs.ControlRun.{IsReady};
+ghost use Rattle.link_live.specs.NodeRun.{ArePartsOf};
 
 use super::node::{HERE, config};
 use super::session::{append, talk_of};
@@ -254,9 +255,7 @@ fn run_of<N: LinkName + Send + Sync, R: Threads + Wait + Sync>(
     pace: &mut ListPace,
     log: &mut SessionLog,
 ) -> ControlRun
-    requires cells { (parts.app_states ≡ N.app_states) × (parts.audio_states ≡ N.audio_states) × (parts.audio_commits ≡ N.audio_commits) }
-    requires queue { parts.queue ≡ N.queue }
-    requires ledger { (parts.ledger ≡ N.name) × (parts.shares ≡ N.parts) × (N.whole ≡ N.parts) }
+    requires link { ArePartsOf N.app_states N.audio_states N.audio_commits N.queue N.name N.parts N.whole parts }
     requires config { (parts.config ≡ config_value config.now) × IsConfig parts.config }
     requires opening { IsPaced (late_of pace.old) (pos 0) parts.opened_at }
     requires ready { IsReady room log.old }

@@ -9,6 +9,7 @@ mod told;
 ghost use Rattle.std.specs.Prelude.{◌≡◌, ◌≤◌, [], All, length};
 ghost use Rattle.link_script.specs.LiveScript.{IsCommand, app as app_command, block as block_command};
 ghost use Rattle.link_live.specs.LiveRun.{IsReady};
+ghost use Rattle.link_live.specs.NodeRun.{ArePartsOf};
 
 use super::devices::{Blocks, device_of};
 use super::lines::Text;
@@ -80,9 +81,7 @@ fn played_over<C: StateCell<11, Way = ()>, N: LinkName>(
     room: &mut Room,
     device: &mut ListAudio,
 ) -> bool
-    requires cells { (parts.app_states ≡ N.app_states) × (parts.audio_states ≡ N.audio_states) × (parts.audio_commits ≡ N.audio_commits) }
-    requires queue { parts.queue ≡ N.queue }
-    requires ledger { (parts.ledger ≡ N.name) × (parts.shares ≡ N.parts) × (N.whole ≡ N.parts) }
+    requires link { ArePartsOf N.app_states N.audio_states N.audio_commits N.queue N.name N.parts N.whole parts }
     requires few { length script.now.blocks.items ≤ 99 }
     requires ready { IsReady script.now row.now.blocks room.old }
 {

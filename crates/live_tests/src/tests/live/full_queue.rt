@@ -4,6 +4,7 @@
 
 ghost use Rattle.std.specs.Prelude.{◌≡◌};
 ghost use Rattle.std.specs.Thread.{IsSync};
+ghost use Rattle.link_live.specs.NodeRun.{ArePartsOf};
 
 use super::nodes::config_of;
 use audio_handoff::StateCell;
@@ -56,9 +57,7 @@ fn quit_over<C: StateCell<11> + Sync, N: LinkName + Send + Sync, R: Threads + Wa
 )
 where
     C::Way: Sync,
-    requires cells { (parts.app_states ≡ N.app_states) × (parts.audio_states ≡ N.audio_states) × (parts.audio_commits ≡ N.audio_commits) }
-    requires queue { parts.queue ≡ N.queue }
-    requires ledger { (parts.ledger ≡ N.name) × (parts.shares ≡ N.parts) × (N.whole ≡ N.parts) }
+    requires link { ArePartsOf N.app_states N.audio_states N.audio_commits N.queue N.name N.parts N.whole parts }
 {
     let Opened {
         link,

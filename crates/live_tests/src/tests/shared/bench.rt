@@ -1,6 +1,7 @@
 //! A link whose node has one gate, with two applications.
 ghost use Rattle.std.specs.Prelude.{◌≡◌, ◌≤◌, ◌<◌, ◌+◌, length};
 ghost use Rattle.link_shared.specs.Hub.{IsOnGate};
+ghost use Rattle.link_live.specs.NodeRun.{ArePartsOf};
 
 use super::{OPENING, endpoint};
 use audio_handoff::StateCell;
@@ -68,9 +69,7 @@ impl<C: StateCell<11>, N: LinkName> Bench<C, N> {
         parts: Parts<C>,
         sends: Sends,
     ) -> Bench<C, N>
-        requires cells { (parts.app_states ≡ N.app_states) × (parts.audio_states ≡ N.audio_states) × (parts.audio_commits ≡ N.audio_commits) }
-        requires queue { parts.queue ≡ N.queue }
-        requires ledger { (parts.ledger ≡ N.name) × (parts.shares ≡ N.parts) × (N.whole ≡ N.parts) }
+        requires link { ArePartsOf N.app_states N.audio_states N.audio_commits N.queue N.name N.parts N.whole parts }
         requires gate { length parts.config.gates ≡ 1 }
     {
         let mut opened = Link::<C, N>::make(parts);

@@ -6,6 +6,7 @@ ghost use Rattle.lk_outside.specs.ListPort.{bound_of};
 ghost use Rattle.client_state.specs.Commit.{IsTidyCommit};
 ghost use Rattle.link_node.specs.Config.{config_value, IsConfig};
 ghost use Rattle.link_live.specs.Network.{locals_of};
+ghost use Rattle.link_live.specs.NodeRun.{ArePartsOf};
 
 use super::super::nodes::config_of;
 use super::given::{Given, bind, commit_of, is_app_commit, most_of, opening_of, port_of};
@@ -60,9 +61,7 @@ fn told_of<C: StateCell<11>, N: LinkName, R: Wait + Abort>(
     bound: bool,
     sends: &mut Sends,
 ) -> Told
-    requires cells { (parts.app_states ≡ N.app_states) × (parts.audio_states ≡ N.audio_states) × (parts.audio_commits ≡ N.audio_commits) }
-    requires queue { parts.queue ≡ N.queue }
-    requires ledger { (parts.ledger ≡ N.name) × (parts.shares ≡ N.parts) × (N.whole ≡ N.parts) }
+    requires link { ArePartsOf N.app_states N.audio_states N.audio_commits N.queue N.name N.parts N.whole parts }
     requires gates { bound ≡ true → bound_of watch.old.port ≡ locals_of parts.config }
 {
     let mut opened = Link::<C, N>::make(parts);

@@ -3,6 +3,7 @@
 ghost use Rattle.std.specs.Prelude.{◌≡◌, ◌≤◌, All, length};
 ghost use Rattle.link_script.specs.LiveScript.{IsCommand, app as app_command, block as block_command};
 ghost use Rattle.link_live.specs.LiveRun.{IsReady};
+ghost use Rattle.link_live.specs.NodeRun.{ArePartsOf};
 
 use super::super::lines::{Text, put};
 use super::super::nodes::config_of;
@@ -50,10 +51,7 @@ fn told_of<C: StateCell<11>, N: LinkName, R: Wait + Abort>(
     script: &LiveScript,
     room: &mut Room,
 ) -> Text
-    requires cells { (parts.app_states ≡ N.app_states) × (parts.audio_states ≡ N.audio_states)
-        × (parts.audio_commits ≡ N.audio_commits) }
-    requires queue { parts.queue ≡ N.queue }
-    requires ledger { (parts.ledger ≡ N.name) × (parts.shares ≡ N.parts) × (N.whole ≡ N.parts) }
+    requires link { ArePartsOf N.app_states N.audio_states N.audio_commits N.queue N.name N.parts N.whole parts }
     requires ready { IsReady script.now 0 room.old }
 {
     let mut opened = Link::<C, N>::make(parts);

@@ -1,7 +1,7 @@
 use Rattle.std.proofs.Common.{◌≡◌, map, take}
 use Rattle.arrayvec.specs.ArrayVec.{array_vec_len}
 use Rattle.link_node.specs.Config.{GateValue, gate_value}
-use Rattle.link_live.proofs.run.locals.Given as goal
+use Rattle.link_live.proofs.node_run.locals.Given as goal
 
 abbrev pub invariant-loop-gate : goal.invariant-loop-gate
 invariant-loop-gate l = record {
