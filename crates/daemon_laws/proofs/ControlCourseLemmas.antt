@@ -8,8 +8,9 @@ use Rattle.lk_outside.specs.Port.{PortContents}
 use Rattle.lk_outside.specs.Source.{IsAtEnd, Takes}
 use Rattle.link_shared.specs.Passes.{AppView}
 use Rattle.link_live.specs.Journal.{has_ended}
+use Rattle.link_live.specs.NodeRun.{new_app}
 use Rattle.link_live.specs.Report.{ReportValue}
-use Rattle.link_control.specs.ControlRun.{ControlSetup, EndsControlRun, EndsTell, IsTalked, only_pass}
+use Rattle.link_control.specs.ControlRun.{ControlSetup, EndsControlRun, EndsTell, IsTalked}
 use Rattle.link_control.specs.Lines.{whole_lines_of}
 use Rattle.link_control.specs.Log.{Answered}
 use Rattle.link_control.specs.Serving.{HasServed, TalkSeen, lines_in}
@@ -69,7 +70,7 @@ module _ (at : Endpoint) (late : Option ℤ) (talk talk_then : TalkSeen) (pass :
   ended_met : IsTalked at late talk talk_then pass log served.Ended → (talk_then.faults ≡ talk.faults) × SendsFew talk.left talk_then.left
   ended_met (inl client) = (
     client.ends.2.quiet,
-    few_served late (record talk { opened = Some at }) talk_then only_pass pass log client,
+    few_served late (record talk { opened = Some at }) talk_then new_app pass log client,
   )
   ended_met (inr (failed, rose, stays, none, idle)) = absurd (cc failed)
 
