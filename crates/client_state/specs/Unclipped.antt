@@ -29,8 +29,8 @@ wide_decoded_of tl beat q =
 abbrev pub IsUnclippedTempo : Timeline → ℤ → ℤ → Type 0
 IsUnclippedTempo tl mpb at = IsWithinLimit (wide_time_at (timeline_at (clamped_of mpb) (beat_at tl at) at) tl.beat)
 
--- Rule: After `force_beat` the beat at that time is the forced one but for whole quanta and at most 17 microbeats, where nothing is
--- clipped.
+-- Rule: Where nothing is clipped, `force_beat` makes the beat at that time, counted from the beat origin, the forced one but for whole
+-- quanta and at most 17 microbeats, and with the quantum 0 the beat itself exactly that.
 pub record IsUnclippedForce (tl : Timeline) (beat at q : ℤ) : Type 0 where
   pub before : IsWithinLimit (wide_beat_at tl at)
   pub shift : IsWithinLimit (shift_of tl beat at q)

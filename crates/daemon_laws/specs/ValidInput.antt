@@ -106,8 +106,8 @@ CompletesControl =
     → Ends words seed input input' before after end
     → (end ≡ status.Done) ⊎ (end ≡ status.Memory)
 
--- Rule: A valid input within its limit ends with status 0 where nothing fails, with 9 for want of memory, or, of `live` and `control`, with
--- 6 for a full journal.
+-- Rule: A run of valid words, input and talk within their limits ends with status 0, or 9 for want of memory, where no count of failures
+-- rose and, of `live` and `control`, no event found the journal full (status 6).
 abbrev pub CompleteValid : Type 0
 CompleteValid =
     CompletesValid name.Replay replay_command IsScriptText

@@ -22,8 +22,8 @@ status_text_of shown =
 unfoldable pub ok_text_of : ℕ → List ℕ
 ok_text_of number = line_of (codes "ok" ∷ decimal number ∷ [])
 
--- Rule: A line that asks for nothing that there is, such as any line of more than 25 bytes (65 bytes, say), is answered by `bad` and
--- changes nothing.
+-- Rule: A line that asks for nothing that there is, so any line of more than 25 bytes (65 bytes, say), is answered by `bad` and makes no
+-- commit.
 unfoldable pub bad_text : List ℕ
 bad_text = line_of (codes "bad" ∷ [])
 

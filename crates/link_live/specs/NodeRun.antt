@@ -41,8 +41,8 @@ recorded_of config opened_at events published = record {
   plays = [];
 }
 
--- Rule: What both passes of a run read was published, and what they committed stands in its journal, all of it unless an event found no
--- room.
+-- Rule: What both passes read was published; of the audio thread's commits the last one made stands in the journal, and of the
+-- applications' all, each once and in order, unless an event found no room.
 -- Of the audio thread's commits those in the journal carry what was made under their numbers, which rise, the last one made among them; of
 -- the applications' the first stand there, each once and in order.
 pub record FitsJournal (full : Bool) (audio : AudioView) (app : AppView) (events : List EventValue) (published : List State) : Type 0 where

@@ -40,11 +40,12 @@ pub record IsSetUp (words : List (String Global)) (seed : ℕ) (input input' : S
   pub quantum : setup.config.quantum ≡ options.quantum
   pub group : setup.config.group ≡ options.group
 
--- Rule: The record of a run is a replay script of just its node and its events.
+-- Rule: The record of a run is a replay script of just its node and its events, also where its journal was full (status 6).
 abbrev pub IsReplayable : ReportValue → Type 0
 IsReplayable report = IsScriptOf (live_text_of report true) 2 report.config report.now report.events
 
--- Rule: After the statuses 3, 4 and 6 the run's report stands and is written as far as the output takes it.
+-- Rule: After the statuses 3, 4 and 6, and after 9 where a run had begun, the run's report stands and is written as far as the output takes
+-- it.
 -- A run ended so, which holds to all that is promised of a run whatever it met, and of the text of its report so much was written.
 pub record HasEndedRun (setup : LiveSetup) (recorded : Bool) (before after : Outside) (ended : LiveEnd) (Writes : Stream → Stream → List ℕ → Type 0) : Type 0 where
   pub run : EndsLiveRun setup before.late before.port.told after.port.told after.port.gates before.port.faults after.port.faults before.audio.told after.audio.told before.audio.faults after.audio.faults after.report ended

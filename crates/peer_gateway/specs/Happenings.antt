@@ -16,7 +16,7 @@ pub data Happening : Type 0 where
   goodbye : (gate : Gate) → (id : NodeId) → Happening
   pruning : (moment : ℤ) → Happening
 
--- Rule: A peer's row ends when the peer is seen anew or says goodbye on that gate, or when rows are pruned at or after its limit.
+-- the happening ends the row: the peer is seen anew or says goodbye on that gate, or rows are pruned at or after its limit
 abbrev pub Ends : Happening → PeerRow → Type 0
 Ends (sighting next) row = (next.gate ≡ row.gate) × (next.id ≡ row.id)
 Ends (goodbye gate id) row = (gate ≡ row.gate) × (id ≡ row.id)
@@ -42,7 +42,8 @@ outlives row (sighting next) = not (is_row_of next.gate next.id row)
 outlives row (goodbye gate id) = not (is_row_of gate id row)
 outlives row (pruning moment) = lives moment row
 
--- Rule: The table of peers has one row a gate and id, that of the last sighting that nothing has ended.
+-- Rule: A peer has at most one row a gate: its last sighting there that found room, unless a later goodbye on that gate or a pruning at or
+-- after the row's limit has ended it.
 -- in order of their sightings
 unfoldable pub rows_of : List Happening → List PeerRow
 rows_of [] = []
@@ -63,6 +64,8 @@ abbrev pub row_seen : Gate → NodeId → ℕ → NodeId → Option Endpoint →
 row_seen gate id ttl session endpoint now =
     record { gate = gate; id = id; session = session; endpoint = endpoint; limit = now +ℤ pos ((ttl + 1) * 1_000_000) }
 
+-- Rule: A sighting ends the peer's row on that gate, if there is one, and its own row stands there from then on; one that is answered full
+-- changes nothing.
 -- a sighting for which there is no room didn't happen
 abbrev pub life_after : Seen → PeerRow → List Happening → List Happening
 life_after TableFull row life = life

@@ -64,7 +64,7 @@ counted_outcome life pong now =
     if nat_lt 100 (length points) then Done (record { offset = offset_of points })
     else Again (record { host = now; previous = Some pong.ghost_time })
 
--- Rule: A pong of another session ends the measurement, which has failed.
+-- Rule: A pong of the target that is of another session ends the measurement, which has failed.
 unfoldable pub pong_outcome : Life → Gate → Endpoint → PongFields → ℤ → Outcome
 pong_outcome life gate from pong now =
     if is_over life || not (is_from life.target gate from) then Idle

@@ -84,7 +84,8 @@ verdict_by (Some other) h offset now =
     if wins_over other.session offset h.current.session h.offset now then Joined else Stayed
 verdict_by None h offset now = Unknown
 
--- Rule: A measured offset is the current session's new offset, or joins a session that wins; otherwise it changes nothing.
+-- Rule: The offset measured of the current session becomes its offset; one of another known session joins that where it wins over the
+-- current one; otherwise nothing changes.
 unfoldable pub measured_of : History → NodeId → ℤ → ℤ → Verdict
 measured_of h session offset now =
     if is_current session h then Remeasured else verdict_by (other_in session h) h offset now

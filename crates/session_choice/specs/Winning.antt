@@ -8,8 +8,8 @@ use Rattle.lk_base.specs.declared.ids.NodeId.{NodeId}
 unfoldable pub lead_of : ℤ → ℤ → ℤ → ℤ
 lead_of offset other now = ghost_of offset now -ℤ ghost_of other now
 
--- Rule: A session wins whose ghost time is over 500,000 microseconds ahead; closer than that the lesser id wins; at just half a second and
--- behind, the current session stays.
+-- Rule: Another session wins over the current one where its ghost time is over 500,000 microseconds ahead of that one's, or its id is the
+-- lesser and it is less than 500,000 ahead or behind; else the current session stays.
 abbrev pub Wins : NodeId → ℤ → NodeId → ℤ → ℤ → Type 0
 Wins new offset current other now =
     (pos 500_000 <ℤ lead_of offset other now)

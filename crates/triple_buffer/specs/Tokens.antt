@@ -63,11 +63,13 @@ pub record RestsAsNote (me : Sat) : Type 0 where
   pub is : me.0 ≡ Notes (note_in me.0)
   pub bare : me.1 ≡ []
 
--- Rule: A publish takes W + 1 atomic steps for a row of W words, whatever the reader does: 12 steps for a state.
+-- Rule: Over a triple buffer, which tells its atomic steps, a publish takes W + 1 of them for a row of W words, whatever the reader does:
+-- 12 for a state (`steps` of `StateCell::publish` in `audio_handoff/src/cell.rt`).
 abbrev pub writing_of : TableId → View → WriterView
 writing_of table view = record { cell = table; made = (writer_in view).made; steps = (writer_in view).steps }
 
--- Rule: An audio read takes W + 1 or W + 2 atomic steps for a row of W words, whatever the writer does: 12 or 13 steps for a state.
+-- Rule: Over a triple buffer, an audio read takes W + 1 or W + 2 atomic steps for a row of W words, whatever the writer does: 12 or 13 for
+-- a state (`steps` of `StateCell::read` in `audio_handoff/src/cell.rt`).
 abbrev pub reading_of : TableId → View → ReaderView
 reading_of table view =
     let reader = reader_in view in

@@ -233,7 +233,7 @@ fn play(rt: &impl Abort, alloc: Global, gates: u8, steps: &[Step]) -> Result<(),
     Ok(())
 }
 
-// rule: Ends, said_goodbye, was_pruned, rows_of, seen_of, row_seen, peers_in, target_of
+// rule: life_after, said_goodbye, was_pruned, rows_of, seen_of, row_seen, peers_in, target_of
 #[test]
 fn rows_are_seen_and_end_and_answer(rt: HostRuntime) -> Result<(), Fail> {
     play(&rt, rt.alloc(), 4, STEPS)?;
