@@ -114,7 +114,8 @@ IsDiscoveryReadAs bytes answer =
     (MatchBool (kind_in bytes == 3) (answer ≡ Ok (Bye (sender_in bytes) (ttl_in bytes) (group_in bytes)))
     (answer ≡ Ok (OtherDiscovery (kind_in bytes)))))
 
--- Rule: Of measurement datagrams the kind 1 is a ping and 2 a pong; the payload of a ping is all behind its nine bytes of header.
+-- Rule: Of measurement datagrams the kind 1 is a ping, whose payload is all behind its nine bytes of header, and 2 a pong; another kind is
+-- read without its payload.
 -- a measurement datagram, by its kind
 unfoldable pub IsLinkReadAs : List ℕ → Result MessageValue WireFault → Type 0
 IsLinkReadAs bytes answer =

@@ -87,7 +87,8 @@ IsNoteOfWriter cell writer note = (note.cell ≡ cell) × (note.number + 1 ≡ l
 abbrev pub IsNoteOfReader : TableId → ReaderView → NoteView → Type 0
 IsNoteOfReader cell reader note = (note.cell ≡ cell) × (note.number ≡ reader.number) × (note.seen ≡ reader.seen)
 
--- Rule: A read of a cell answers one row with its number, no older than the row made last when it looked.
+-- Rule: A read of a cell answers one row with its number, which is at least the number that its look found; and that is at least the number
+-- read last and the greatest told.
 -- What one read adds: the pair that it answers, and its look. The look is no older than the row last read and than each row told of
 -- before, and the pair's number is no older than the look. That the look is the number of the last row made at the step that looked is
 -- what each cell's own rule keeps of that step; it isn't said here, where the rows made aren't known

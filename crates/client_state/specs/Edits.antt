@@ -12,7 +12,8 @@ use Rattle.timeline_math.specs.Tidying.{clamped_of}
 abbrev pub timeline_at : ℤ → ℤ → ℤ → Timeline
 timeline_at mpb beat time = record { mpb = mpb; beat = beat; time = time }
 
--- Rule: Setting a tempo (`set_tempo`) clamps it and keeps the beat at the time given and the beat origin.
+-- Rule: Setting a tempo (`set_tempo`) clamps it, keeps the beat origin, and keeps the beat at the time given but for at most 8 microbeats,
+-- where the new time origin isn't clipped.
 unfoldable pub tempo_set_of : Timeline → ℤ → ℤ → Timeline
 tempo_set_of tl mpb at =
     let there = timeline_at (clamped_of mpb) (beat_at tl at) at in

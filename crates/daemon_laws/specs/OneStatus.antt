@@ -40,9 +40,9 @@ pub record CanFail (all : AllSeen) : Type 0 where
 abbrev pub TellsTalk : List (String Global) → AllSeen → Type 0
 TellsTalk words all = BeginsControl words → IsSome all.talk.left
 
--- Rule: A run has one status: two that fit the same run are equal, want of memory apart.
--- One run over an input that tells, and a talk that does, has one status, its line at fault and its limit among it, want of memory apart.
--- The words that say to people why a line is at fault are left out.
+-- Rule: Over an input, and of `control` a talk, that tell what they hold, a run has one status: two that fit it have the same number, line
+-- at fault and limit, want of memory apart.
+-- The counts of failures can still rise, and the words that say to people why a line is at fault are left out.
 abbrev pub HasOneStatus : Type 0
 HasOneStatus =
     (words : List (String Global)) (seed : ℕ) (input input' : Stream) (before after : AllSeen) (one other : Status)

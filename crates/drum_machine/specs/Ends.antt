@@ -32,7 +32,7 @@ HasPlayCause before after told_then play_end.Played = after ≡ before
 HasPlayCause before after told_then play_end.Device = HasNoMore before after told_then × (after.sound ≡ before.sound) × (after.midi ≡ before.midi)
 HasPlayCause before after told_then play_end.Output = (after.audio ≡ before.audio) × IsUnwritten before after
 
--- Rule: A rehearsal is done where all of its lines were written, and failed where some could not be.
+-- Rule: A rehearsal ends as done, or for want of memory, only where no write failed, and as failed only where one did.
 abbrev pub EndsRehearsal : (faults faults_then : ℕ) → Status → Type 0
 EndsRehearsal faults faults_then status.Done = faults_then ≡ faults
 EndsRehearsal faults faults_then status.Output = Rose faults faults_then
@@ -45,7 +45,8 @@ EndsRehearsal faults faults_then status.Events = ⊥
 EndsRehearsal faults faults_then (status.Pattern line) = ⊥
 EndsRehearsal faults faults_then status.TooLong = ⊥
 
--- Rule: A pattern isn't read where the source failed, it has more than 4,096 bytes, or its text has a first line at fault.
+-- Rule: A pattern isn't read where the source failed, it has more than 4,096 bytes, its text has a first line at fault, or memory is
+-- wanting.
 -- Why no pattern was read: the source failed, it has more bytes than are read, or its text has its first fault in a line. Only want of
 -- memory is free, and no other status is told.
 abbrev pub IsUnread : (left left_then : Option (List ℕ)) → (faults faults_then : ℕ) → Status → Type 0

@@ -48,12 +48,13 @@ abbrev pub posted_at : Result ℕ Error → Posted
 posted_at (Ok count) = posted.Sent
 posted_at (Err error) = if is_among codes_of_gone (raw_os_error error) then posted.Failed else posted.Dropped
 
--- Rule: A datagram that is received is told with its sender and its length, up to 513 bytes.
+-- Rule: A datagram that is received is told with its sender and its length, and passed over where its sender has no IPv4 address.
 abbrev pub taken_from : ℕ → Option Endpoint → Taken
 taken_from count (Some from) = taken.Datagram from count
 taken_from count None = taken.Passed
 
--- Rule: A receive passes over interruptions and errors of earlier sends, and fails where the socket is gone.
+-- Rule: A receive passes over interruptions and errors of earlier sends, fails where the socket is gone, and takes nothing at any other
+-- error until it is asked again.
 -- what is taken of what a receive gave: an error of something before is passed over, and at any other that leaves the socket there is
 -- nothing until it is asked again
 abbrev pub IsTakenAt : Result (ℕ × SocketAddr) Error → Result Taken Error → Type 0
@@ -73,7 +74,8 @@ waited_at (Err error) = if is_among codes_of_gone (raw_os_error error) then Err 
 abbrev pub locals_of : List GateSocket → List Endpoint
 locals_of gates = map (λ gate. gate.local) gates
 
--- Rule: A port that is idle has waited until the time that it was asked for.
+-- Rule: A port over sockets that answers that it is idle has waited until the time asked for, or until 2^55 where that time is later; it
+-- never closes.
 abbrev pub IsFromTime : ℤ → Arrival → Type 0
 IsFromTime until (arrival.Datagram gate from bytes now) = Unit {0}
 IsFromTime until (arrival.Idle now) = int_min until (pos (2 ^ 55)) ≤ℤ now

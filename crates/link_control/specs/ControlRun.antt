@@ -70,7 +70,7 @@ IsTalked at late talk talk_then pass log ended =
     ⊎ ((ended ≡ served.Failed) × Rose talk.faults talk_then.faults × (talk_then ≡ record talk { faults = talk_then.faults })
     × (log ≡ []) × (pass ≡ new_app))
 
--- Rule: The client's commits count from 1 and stand in the journal each once and in order.
+-- Rule: The client's commits count from 1 and stand in the journal each once and in order, all of them unless an event found no room.
 -- What was captured and committed for the client, and answered: the report tells just what the log does. Each capture is a state that was
 -- published; of the commits, numbered from 1, the first stand in the journal, each once and in order; all do, unless an event found no
 -- room.

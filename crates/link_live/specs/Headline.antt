@@ -58,8 +58,8 @@ pub record IsJournal (opening : Machine) (most : ℕ) (full : Bool) (events : Li
   pub cut : full ≡ true → (length events ≡ most) × (has_ended events ≡ false)
   pub fits : length events ≤ most
 
--- Rule: The datagrams that a run heard stand in its journal, and it posted what a replay of the journal sends, or the first of it where the
--- port failed.
+-- Rule: The datagrams that a run heard stand in its journal, but perhaps for the last where an event found no room; it posted what a replay
+-- of the journal sends, or the first of it where the port failed.
 -- What came was heard, and all that the machine sends for the events was posted, in order, on the gates of the config; or the first of it
 -- where the port failed, and no less than what was sent for the events before each datagram.
 pub record WasSent (config : ConfigValue) (now : ℤ) (failed full : Bool) (events : List EventValue) (port port_then : Option PortContents) (gates : List Endpoint) : Type 0 where

@@ -42,7 +42,7 @@ has_ended (End now ∷ es) = true
 
 -- ---- its order
 
--- Rule: A tick stands in the journal at first, and before the next datagram where one is due.
+-- Rule: Of the ticks and datagrams in the journal the first is a tick, and behind a datagram at whose end a tick is due the next is a tick.
 -- Whether the next datagram or tick has to be a tick: so it is at the opening, and after a datagram at whose end a tick is due. `owed`
 -- is that before the events.
 unfoldable pub owes_tick : Bool → Machine → List EventValue → Bool
@@ -92,7 +92,8 @@ pub record IsLastSpan (full : Bool) (clock : ℤ) (brought es : List EventValue)
   pub at : AreAt clock es
   pub datagrams : (datagram_events_in es ≡ brought) ⊎ ((full ≡ true) × (datagram_events_in es ≡ []))
 
--- Rule: Datagrams stand in the journal in the order in which they came, each at the greatest moment heard by then.
+-- Rule: Datagrams stand in the journal in the order in which they came, each at the greatest moment heard by then; with a full journal the
+-- last that came may be missing.
 -- The events fall into spans: one before the first arrival, and one after each. Those of a span carry the greatest moment so far, and
 -- have just the datagram of its arrival among them; and at its end no tick is due at that moment.
 abbrev pub AreHeard : Bool → Machine → ℤ → List EventValue → List ArrivalValue → List EventValue → Type 0

@@ -54,7 +54,8 @@ pub record FitsJournal (full : Bool) (audio : AudioView) (app : AppView) (events
   pub app_begin : Grows (app_commits_in events) pushed
   pub app_commits : full ≡ false → app_commits_in events ≡ pushed
 
--- Rule: A run of a node is recorded, published and sent as its journal is replayed, whatever ran beside the network's loop.
+-- Rule: A run of a node is recorded and published as its journal is replayed, and posts what that sends, or the first of it where the port
+-- failed, whatever ran beside the network's loop.
 -- The port failed exactly where it could not be bound or its count of faults rose.
 pub record IsNodeRun (config : ConfigValue) (opened_at : ℤ) (most : ℕ) (failed full : Bool) (port port_then : Option PortContents) (gates : List Endpoint) (faults faults_then : ℕ) (audio : AudioView) (app : AppView) (events : List EventValue) (published : List State) : Type 0 where
   pub recorded : IsRecorded config most None failed full port port_then gates (recorded_of config opened_at events published)

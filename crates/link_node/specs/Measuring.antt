@@ -19,7 +19,7 @@ use Rattle.link_node.specs.Client.{renewed}
 use Rattle.link_node.specs.Event.{SendingValue}
 use Rattle.link_node.specs.Machine.{Machine, session_in}
 
--- Rule: The current session is measured anew 30 seconds after its last measurement.
+-- Rule: The current session is to be measured anew 30 seconds after it was joined, was measured or couldn't be measured.
 abbrev pub remeasured_later : Machine → Machine
 remeasured_later m = record m { remeasure_at = Some (m.moment +ℤ pos 30_000_000) }
 

@@ -11,7 +11,8 @@ use Rattle.link_node.specs.Arrival.{is_heard}
 use Rattle.link_node.specs.Event.{EventValue, Rx, Tick, App, Audio, End}
 use Rattle.link_node.specs.Machine.{Machine}
 
--- Rule: A datagram that isn't read, isn't heard or is of an unknown kind changes nothing but the moment, and isn't answered.
+-- Rule: A datagram that isn't read, isn't heard or is of an unknown kind, a ping of over 32 bytes of payload, and a pong while nothing is
+-- measured change nothing but the moment, and aren't answered.
 -- It is no message, or of a kind that nobody takes; it is the node's own or of another group; it is a ping that is too long to be
 -- answered, or a pong while nothing is measured
 abbrev pub IsPassedOver : Machine → Result MessageValue WireFault → Type 0

@@ -25,7 +25,7 @@ use Rattle.link_node.specs.Machine.{Machine, session_in, timeline_in, offset_in,
 abbrev pub is_current : NodeId → Machine → Bool
 is_current session m = same_id session (session_in m)
 
--- Rule: A session that is heard of for the first time waits, last in the list, to be measured.
+-- Rule: A session that is heard of, isn't known and finds room waits, last in the list, to be measured.
 -- a new session waits to be measured, and a later timeline of the current one renews the client's
 abbrev pub followed : Saw → NodeId → Machine → Machine
 followed New session m = record m { waiting = m.waiting ++ session ∷ [] }
@@ -33,7 +33,7 @@ followed Taken session m = if is_current session m then renewed m else m
 followed Kept session m = m
 followed Full session m = m
 
--- Rule: A timeline that is heard is tidied and taken by its session.
+-- Rule: A timeline that is heard is tidied and taken by its session, unless that is a new one for which there is no room.
 unfoldable pub timeline_taken : PeerFields → Machine → Machine
 timeline_taken fields m =
     followed

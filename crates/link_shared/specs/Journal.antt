@@ -7,7 +7,7 @@ use Rattle.link_node.specs.Runs.{machine_after, sent_by}
 
 -- ---- what stands in it
 
--- Rule: Application commits stand in the journal once each, in the order in which they were pushed.
+-- Rule: The application commits in the journal are the first that were pushed, each once and in order.
 abbrev pub app_commits_in : List EventValue → List Commit
 app_commits_in [] = []
 app_commits_in (Rx gate from bytes now ∷ es) = app_commits_in es

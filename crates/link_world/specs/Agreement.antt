@@ -57,8 +57,8 @@ Converges configs now turns world =
     → IsMade configs now turns (session_in machine) (timeline_in machine)
     × ((tl : Timeline) → IsMade configs now turns (session_in machine) tl → tl.beat ≤ℤ (timeline_in machine).beat)
 
--- Rule: A peer that hears once, in its session, the greatest timeline made for that session, and stays there, holds that timeline.
--- Different timelines made for the session have different beat origins.
+-- Rule: A peer that hears once, in its session, the greatest timeline made for that session, and stays there, holds that timeline, where
+-- different timelines made for it differ in beat origin.
 abbrev pub OneRoundSuffices : List ConfigValue → ℤ → List TurnValue → WorldValue → Type 0
 OneRoundSuffices configs now turns world =
     (k : ℕ) (machine : Machine) (tl : Timeline) → slice_get world.machines k ≡ Some machine
@@ -67,9 +67,8 @@ OneRoundSuffices configs now turns world =
     → ((other : Timeline) → IsMade configs now turns (session_in machine) other → other.beat ≤ℤ tl.beat)
     → timeline_in machine ≡ tl
 
--- Rule: One message to each suffices: each peer of a session that hears one datagram which a holder of the greatest timeline sent, or holds
--- that timeline itself, and stays there, holds it.
--- Different timelines made for the session have different beat origins.
+-- Rule: One message to each suffices: a peer that hears, in a session, one datagram of a holder of the session's greatest timeline, or is a
+-- holder, and stays there, holds that timeline, where different timelines differ in beat origin.
 abbrev pub OneMessageSuffices : List ConfigValue → ℤ → List TurnValue → WorldValue → Type 0
 OneMessageSuffices configs now turns world =
     (session : NodeId) (tl : Timeline) → HaveOwnOrigins (IsMade configs now turns session)
@@ -80,7 +79,8 @@ OneMessageSuffices configs now turns world =
 
 -- ---- clicks
 
--- Rule: Two peers that hold the same timeline click in the same microseconds of ghost time, with the same accents.
+-- Rule: Two peers that hold the same timeline click in the same microseconds of ghost time, with the same accents by one quantum, where
+-- nothing is clipped.
 -- A host time of the one clicks where the host time of the other that has the same ghost time does, where nothing is clipped.
 abbrev pub ClickTogether : WorldValue → Type 0
 ClickTogether world =

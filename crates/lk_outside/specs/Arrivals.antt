@@ -29,7 +29,7 @@ abbrev pub arrived_at : ArrivalValue → ℤ
 arrived_at (Came gate from bytes now) = now
 arrived_at (Waited now) = now
 
--- Rule: A receive answers a datagram on a bound gate, or time alone, each with a moment.
+-- Rule: A receive answers a datagram on a bound gate, or time alone, each with a moment; or that nothing comes any more, or that it failed.
 abbrev pub IsAnswer : ℕ → Arrival → Type 0
 IsAnswer gates (Datagram gate from bytes now) = (gate.0 < gates) × IsMoment now
 IsAnswer gates (Idle now) = IsMoment now

@@ -75,8 +75,8 @@ founder_in session life = filter (λ row. same_id row.id session) (answering_in 
 abbrev pub target_at : PeerRow → Option Target
 target_at row = option_map (λ endpoint. record { gate = row.gate; id = row.id; endpoint = endpoint }) row.endpoint
 
--- Rule: A session is measured at its founder, the peer whose id is the session's, else at the first peer, by id and gate, that tells an
--- endpoint.
+-- Rule: A session is measured at a peer in it that tells an endpoint: its founder, whose id is the session's, else the peer of least id;
+-- and of the gates where that peer tells one, at the first.
 unfoldable pub target_of : NodeId → List Happening → Option Target
 target_of session life =
     option_and_then target_at

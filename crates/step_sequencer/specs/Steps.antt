@@ -21,7 +21,7 @@ step_at tl time = int_div_euclid (since tl time) (pos 250_000)
 unfoldable pub plays_at : State → ℤ → Bool
 plays_at state time = state.start.playing && int_le state.start.time time
 
--- Rule: A step begins in a frame where it is passed within that frame and the state plays.
+-- Rule: A step begins in a frame where it is passed within that frame and the state plays at the frame's end.
 -- the step that begins in a frame of a state that plays: it is there at the frame's end, and wasn't before the frame
 unfoldable pub step_in : State → ℤ → ℕ → Option ℤ
 step_in state origin frame =
