@@ -31,9 +31,9 @@ shift_of tl beat at q = match_of tl beat at q -ℤ encoded_beat tl at q
 unfoldable pub advance_of : Timeline → ℤ → ℤ
 advance_of tl shift = time_at tl (clipped_of shift) -ℤ time_at tl (pos 0)
 
--- Rule: Forcing a beat (`force_beat`, in scripts `force`) makes the time origin earlier by the time from the encoded beat then to its
--- closest match, and the beat origin greater by what that match lacks of the forced beat, both clipped.
--- `then` is the time given; the time origin moves by the shift, and then the beat origin so that the match becomes the forced beat
+-- Rule: `force_beat` (in scripts `force`) makes the time origin earlier by the time from the encoded beat at the time given to its closest
+-- match, and the beat origin greater by what that match lacks of the forced beat, both clipped.
+-- the time origin moves by the shift, and then the beat origin so that the match becomes the forced beat
 unfoldable pub forced_of : Timeline → ℤ → ℤ → ℤ → Timeline
 forced_of tl beat at q =
     timeline_at
