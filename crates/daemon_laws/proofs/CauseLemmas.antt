@@ -3,9 +3,10 @@ use Rattle.std.proofs.Common.{◌≡◌, ◌<◌, ◌≤◌, ◌-◌, ◌^◌, �
 use Rattle.std.proofs.lemmas.List.{append-nil}
 use Rattle.lk_outside.specs.Faults.{Rose}
 use Rattle.lk_outside.specs.Source.{Takes, IsAtEnd}
+use Rattle.lk_outside.specs.Stream.{Stream}
 use Rattle.lk_outside.specs.Transfer.{TakesOver}
 use Rattle.daemon_laws.specs.OneStatus.{End}
-use Rattle.link_commands.specs.Statuses.{Stream, WasRead}
+use Rattle.link_commands.specs.Statuses.{WasRead}
 
 -- ---- the first cause
 

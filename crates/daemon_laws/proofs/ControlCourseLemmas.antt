@@ -6,6 +6,7 @@ use Rattle.lk_base.specs.declared.endpoint.Endpoint.{Endpoint}
 use Rattle.lk_outside.specs.Faults.{Rose}
 use Rattle.lk_outside.specs.Port.{PortContents}
 use Rattle.lk_outside.specs.Source.{IsAtEnd, Takes}
+use Rattle.lk_outside.specs.Talk.{TalkSeen}
 use Rattle.link_shared.specs.Passes.{AppView}
 use Rattle.link_live.specs.Journal.{has_ended}
 use Rattle.link_live.specs.NodeRun.{new_app}
@@ -13,7 +14,7 @@ use Rattle.link_live.specs.Report.{ReportValue}
 use Rattle.link_control.specs.ControlRun.{ControlSetup, EndsControlRun, EndsTell, IsTalked}
 use Rattle.link_control.specs.Lines.{whole_lines_of}
 use Rattle.link_control.specs.Log.{Answered}
-use Rattle.link_control.specs.Serving.{HasServed, TalkSeen, lines_in}
+use Rattle.link_control.specs.Serving.{HasServed, lines_in}
 use Rattle.link_control.specs.declared.log.LineLog.{LineLog}
 use Rattle.link_control.specs.declared.run.ControlEnd.TheVariants as end
 use Rattle.link_control.specs.declared.server.Served.{Served}

@@ -3,6 +3,7 @@ use Rattle.std.proofs.Common.{◌≡◌, ◌≢◌, false, List, ℕ, IsSome, re
 use Rattle.std.specs.declared.alloc.Global.{Global}
 use Rattle.std.specs.declared.string.String.{String}
 use Rattle.lk_outside.specs.Faults.{Rose}
+use Rattle.lk_outside.specs.Stream.{Stream}
 use Rattle.link_text.specs.LiveHead.{IsHeadLineFault}
 use Rattle.link_live.specs.Journal.{has_ended}
 use Rattle.link_control.specs.ControlRun.{ControlSetup, EndsTell}
@@ -10,7 +11,6 @@ use Rattle.link_words.specs.ControlWords.{IsControl}
 use Rattle.link_commands.specs.declared.status.Grammar.TheVariants as grammar
 use Rattle.link_commands.specs.declared.status.Status.{Status}
 use Rattle.link_commands.specs.declared.status.Status.TheVariants as status
-use Rattle.link_commands.specs.Statuses.{Stream}
 use Rattle.link_daemon.specs.ControlEnds.{EndsControl, EndsControlled, RunsControl}
 use Rattle.link_daemon.specs.Ends.{control_seen}
 use Rattle.daemon_laws.specs.OneStatus.{CanFail, End, end_of, IsTold, HasOneHeadFaultLine, TellsTalk}

@@ -3,6 +3,7 @@ use Rattle.std.proofs.Common.{◌≡◌, ◌≢◌, Bool, false, List, ℕ, refl
 use Rattle.std.specs.declared.alloc.Global.{Global}
 use Rattle.std.specs.declared.string.String.{String}
 use Rattle.lk_outside.specs.Faults.{Rose}
+use Rattle.lk_outside.specs.Stream.{Stream}
 use Rattle.link_script.specs.LiveScript.{IsLiveLineFault}
 use Rattle.link_live.specs.Headline.{LiveSetup}
 use Rattle.link_live.specs.Journal.{has_ended}
@@ -14,7 +15,6 @@ use Rattle.link_live_command.specs.ScriptRead.{EndsRead}
 use Rattle.link_commands.specs.declared.status.Grammar.TheVariants as grammar
 use Rattle.link_commands.specs.declared.status.Status.{Status}
 use Rattle.link_commands.specs.declared.status.Status.TheVariants as status
-use Rattle.link_commands.specs.Statuses.{Stream}
 use Rattle.daemon_laws.specs.OneStatus.{CanFail, End, end_of, IsTold, HasOneLiveFaultLine}
 use Rattle.daemon_laws.proofs.CourseLemmas.{CourseLaws, audio_met, events_met, port_met, well_met}
 use Rattle.daemon_laws.proofs.CauseLemmas.{First, here, later, IsOne, first_is_one, rose_and_quiet, ended_and_not}

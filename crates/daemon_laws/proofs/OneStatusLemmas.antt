@@ -5,6 +5,7 @@ use Rattle.std.specs.declared.alloc.Global.{Global}
 use Rattle.std.specs.declared.string.String.{String}
 use Rattle.clap.specs.Words.{App}
 use Rattle.lk_outside.specs.Faults.{Rose}
+use Rattle.lk_outside.specs.Stream.{Stream}
 use Rattle.lk_outside.specs.Transfer.{TakesOver}
 use Rattle.link_words.specs.CommandNames.{Names, named_by}
 use Rattle.link_words.specs.CommandWords.{Says}
@@ -18,7 +19,7 @@ use Rattle.link_daemon.specs.AllSeen.{AllSeen}
 use Rattle.link_commands.specs.declared.status.Grammar.{Grammar}
 use Rattle.link_commands.specs.declared.status.Status.{Status}
 use Rattle.link_commands.specs.declared.status.Status.TheVariants as status
-use Rattle.link_commands.specs.Statuses.{Command, Stream, ReadsText, ReadsFault, EndsBy, EndsInput, EndsLoad, EndsMidi, replay_command, decode_command, filter_command, midi_command}
+use Rattle.link_commands.specs.Statuses.{Command, ReadsText, ReadsFault, EndsBy, EndsInput, EndsLoad, EndsMidi, replay_command, decode_command, filter_command, midi_command}
 use Rattle.daemon_laws.specs.OneStatus.{CanFail, End, end_of, IsTold, TellsTalk, HasOneStatus, HasOneFaultLine, HasOneHeadFaultLine, HasOneLiveFaultLine}
 use Rattle.daemon_laws.proofs.CourseLemmas.{CourseLaws}
 use Rattle.daemon_laws.proofs.CauseLemmas.{First, here, later, IsOne, first_is_one, rose_and_quiet, one_read, more_and_whole}

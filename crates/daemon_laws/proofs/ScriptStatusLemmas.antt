@@ -1,12 +1,13 @@
 -- The causes of the statuses of a command that reads a script of some grammar, before a run: they never hold together.
 use Rattle.std.proofs.Common.{◌≡◌, ◌≢◌, ◌≤◌, List, ℕ, Some, None, IsSome, refl, ap, subst, arith}
 use Rattle.lk_outside.specs.Faults.{Rose}
+use Rattle.lk_outside.specs.Stream.{Stream}
 use Rattle.lk_outside.specs.Transfer.{TakesOver}
 use Rattle.link_script.specs.LiveScript.{commands_told}
 use Rattle.link_commands.specs.declared.status.Grammar.{Grammar}
 use Rattle.link_commands.specs.declared.status.Status.{Status}
 use Rattle.link_commands.specs.declared.status.Status.TheVariants as status
-use Rattle.link_commands.specs.Statuses.{Stream, WasRead}
+use Rattle.link_commands.specs.Statuses.{WasRead}
 use Rattle.daemon_laws.specs.OneStatus.{End, end_of, IsTold}
 use Rattle.link_live_command.specs.ScriptRead.{EndsReadOf, ReadsScriptFault, ReadsTooMany}
 use Rattle.daemon_laws.proofs.CauseLemmas.{First, here, later, IsOne, first_is_one, rose_and_quiet, one_read, more_and_whole}

@@ -5,6 +5,7 @@ use Rattle.std.proofs.lemmas.List.Elements.{All-head, All-same}
 use Rattle.std.specs.declared.alloc.Global.{Global}
 use Rattle.std.specs.declared.string.String.{String}
 use Rattle.lk_outside.specs.Faults.{Rose}
+use Rattle.lk_outside.specs.Stream.{Stream}
 use Rattle.link_lines.specs.Lines.{lines_of}
 use Rattle.link_control.specs.ControlRun.{EndsTell}
 use Rattle.link_words.specs.LoadWords.{IsLoad}
@@ -13,7 +14,7 @@ use Rattle.link_commands.specs.HexLines.{IsDecodable, IsHexLine}
 use Rattle.link_commands.specs.PairLines.{IsPairText, IsSomePair}
 use Rattle.link_commands.specs.declared.status.Status.{Status}
 use Rattle.link_commands.specs.declared.status.Status.TheVariants as status
-use Rattle.link_commands.specs.Statuses.{Command, Stream, EndsBy, EndsInput, EndsLoad, EndsMidi, ReadsFault, replay_command, decode_command, filter_command, midi_command}
+use Rattle.link_commands.specs.Statuses.{Command, EndsBy, EndsInput, EndsLoad, EndsMidi, ReadsFault, replay_command, decode_command, filter_command, midi_command}
 use Rattle.link_commands.proofs.DecodeLemmas.{all_back}
 use Rattle.link_commands.proofs.HexLineLemmas.{bad_line}
 use Rattle.link_words.specs.CommandNames.{Names}

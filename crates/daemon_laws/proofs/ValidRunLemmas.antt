@@ -4,12 +4,13 @@ use Rattle.std.specs.declared.alloc.Global.{Global}
 use Rattle.std.specs.declared.string.String.{String}
 use Rattle.lk_outside.specs.Faults.{Rose}
 use Rattle.lk_outside.specs.Source.{Takes}
+use Rattle.lk_outside.specs.Stream.{Stream}
+use Rattle.lk_outside.specs.Talk.{TalkSeen}
 use Rattle.link_text.specs.LiveHead.{IsHeadLineFault}
 use Rattle.link_script.specs.LiveScript.{IsLiveLineFault, commands_told}
 use Rattle.link_live.specs.Journal.{has_ended}
 use Rattle.link_control.specs.ControlRun.{EndsTell}
 use Rattle.link_control.specs.Lines.{onto_whole, whole_lines_of}
-use Rattle.link_control.specs.Serving.{TalkSeen}
 use Rattle.link_words.specs.ControlWords.{IsControl}
 use Rattle.link_words.specs.LiveWords.{IsLive}
 use Rattle.link_words.specs.declared.command_name.CommandName.TheVariants as name
@@ -17,7 +18,6 @@ use Rattle.link_commands.specs.declared.status.Grammar.{Grammar}
 use Rattle.link_commands.specs.declared.status.Grammar.TheVariants as grammar
 use Rattle.link_commands.specs.declared.status.Status.{Status}
 use Rattle.link_commands.specs.declared.status.Status.TheVariants as status
-use Rattle.link_commands.specs.Statuses.{Stream}
 use Rattle.link_daemon.specs.ControlEnds.{EndsControl}
 use Rattle.link_daemon.specs.Ends.{control_seen}
 use Rattle.link_live_command.specs.LiveEnds.{EndsLive}

@@ -2,6 +2,7 @@
 use Rattle.std.specs.Prelude.{◌≡◌, ◌≢◌, ◌<◌, ◌^◌, ◌-◌, ℕ, IsSome, List, Option, Some, None}
 use Rattle.std.specs.declared.alloc.Global.{Global}
 use Rattle.std.specs.declared.string.String.{String}
+use Rattle.lk_outside.specs.Stream.{Stream}
 use Rattle.link_text.specs.LiveHead.{IsHeadLineFault}
 use Rattle.link_script.specs.LiveScript.{IsLiveLineFault}
 use Rattle.link_words.specs.ControlWords.{BeginsControl}
@@ -10,7 +11,7 @@ use Rattle.link_commands.specs.declared.status.Status.{Status}
 use Rattle.link_commands.specs.declared.status.Status.TheVariants as status
 use Rattle.link_daemon.specs.Ends.{Ends}
 use Rattle.link_daemon.specs.AllSeen.{AllSeen}
-use Rattle.link_commands.specs.Statuses.{Command, Stream, status_number_of, replay_command, decode_command, filter_command}
+use Rattle.link_commands.specs.Statuses.{Command, status_number_of, replay_command, decode_command, filter_command}
 
 -- a stream that tells what it holds, and whose count of failures can still rise
 pub record IsTold (s : Stream) : Type 0 where

@@ -3,13 +3,14 @@ use Rattle.std.specs.Prelude.{◌≡◌, ◌≤◌, ◌⊎◌, ℕ, true, List, 
 use Rattle.std.specs.declared.alloc.Global.{Global}
 use Rattle.std.specs.declared.string.String.{String}
 use Rattle.lk_outside.specs.Faults.{Rose}
+use Rattle.lk_outside.specs.Stream.{Stream}
+use Rattle.lk_outside.specs.Talk.{TalkSeen}
 use Rattle.link_live.specs.Journal.{has_ended}
 use Rattle.link_lines.specs.Lines.{lines_of}
 use Rattle.link_text.specs.LiveHead.{IsSomeHead}
 use Rattle.link_script.specs.LiveScript.{IsSomeLiveScript, commands_told}
 use Rattle.link_script.specs.ReplayScript.{IsSomeScript}
 use Rattle.link_control.specs.Lines.{whole_lines_of}
-use Rattle.link_control.specs.Serving.{TalkSeen}
 use Rattle.link_words.specs.ControlWords.{IsControl}
 use Rattle.link_words.specs.LoadWords.{IsLoad}
 use Rattle.link_words.specs.MidiWords.{IsMidi}
@@ -20,7 +21,7 @@ use Rattle.link_commands.specs.declared.status.Status.TheVariants as status
 use Rattle.link_daemon.specs.Ends.{Ends}
 use Rattle.link_words.specs.LiveWords.{IsLive}
 use Rattle.link_daemon.specs.AllSeen.{AllSeen}
-use Rattle.link_commands.specs.Statuses.{Command, Stream, replay_command, decode_command, filter_command}
+use Rattle.link_commands.specs.Statuses.{Command, replay_command, decode_command, filter_command}
 use Rattle.link_words.specs.CommandNames.{Names}
 use Rattle.link_words.specs.declared.command_name.CommandName.{CommandName}
 use Rattle.link_words.specs.declared.command_name.CommandName.TheVariants as name

@@ -1,11 +1,8 @@
 -- How a session ends: by what its loop did, and by what its node recorded.
-use Rattle.std.proofs.Common.{◌≡◌, ℕ, ℤ, Bool, false, List, [], Option, None, sym, subst}
+use Rattle.std.proofs.Common.{◌≡◌, ℕ, ℤ, Bool, false, List, [], None, sym, subst}
 use mathlib.Core.Option.{some-ne-none}
 use Rattle.audio_handoff.specs.Cell.{NumbersNeverFall}
 use Rattle.client_state.specs.declared.state.State.{State}
-use Rattle.lk_base.specs.declared.endpoint.Endpoint.{Endpoint}
-use Rattle.lk_outside.specs.Audio.{AudioContents}
-use Rattle.lk_outside.specs.Port.{PortContents}
 use Rattle.link_node.specs.Config.{ConfigValue}
 use Rattle.link_node.specs.Event.{EventValue}
 use Rattle.link_shared.specs.Audio.{AudioView}
@@ -14,9 +11,8 @@ use Rattle.link_live.specs.Headline.{IsRecorded, new_audio}
 use Rattle.link_live.specs.NodeRun.{IsNodeRun, recorded_of}
 use Rattle.step_sequencer.specs.Sound.{Ages, silent}
 use Rattle.step_sequencer.specs.declared.pattern.Pattern.{Pattern}
-use Rattle.drum_machine.specs.Ends.{Counts}
 use Rattle.drum_machine.specs.Player.{HasDrummed, IsPlayed}
-use Rattle.drum_machine.specs.Session.{DevicesSeen, EndsSession, HasSession}
+use Rattle.drum_machine.specs.Session.{DevicesSeen, EndsSession, HasSession, counts_of}
 use Rattle.drum_machine.specs.declared.callback.Drums.{Drums}
 use Rattle.drum_machine.specs.declared.player.PlayEnd.{PlayEnd}
 use Rattle.drum_machine.specs.declared.status.Status.{Status}
@@ -24,32 +20,31 @@ use Rattle.drum_machine.specs.declared.status.Status.{Status}
 none_read : NumbersNeverFall []
 none_read = λ j k first second le e f. absurd (some-ne-none first (sym e))
 
-pub has_session : (config : ConfigValue) (now : ℤ) (most : ℕ) (p0 p1 : Option PortContents) (gates0 gates1 : List Endpoint) (f0 f1 : ℕ) (events : List EventValue) (published : List State)
-    (app : AppView) (pass : AudioView) (blocks : ℕ) (drums : Drums) (counts counts_then : Counts) (audio audio_then : Option AudioContents) (sound sound_then midi midi_then : Option (List ℕ)) (ended : PlayEnd) (failed full : Bool)
+pub has_session : (config : ConfigValue) (now : ℤ) (most : ℕ) (before after : DevicesSeen) (events : List EventValue) (published : List State)
+    (app : AppView) (pass : AudioView) (blocks : ℕ) (drums : Drums) (ended : PlayEnd) (failed full : Bool)
     → most ≡ 262_144 → drums.kit ≡ silent → drums.clock ≡ false
-    → IsNodeRun config now most failed full p0 p1 gates1 f0 f1 pass app events published
-    → HasDrummed blocks drums new_audio pass counts counts_then audio audio_then sound sound_then midi midi_then ended
-    → HasSession blocks drums.pattern config now
-    (record { counts = counts; port_faults = f0; audio = audio; port = p0; gates = gates0; sound = sound; midi = midi })
-    (record { counts = counts_then; port_faults = f1; audio = audio_then; port = p1; gates = gates1; sound = sound_then; midi = midi_then }) ended failed full
-has_session config now most p0 p1 gates0 gates1 f0 f1 events published app pass blocks drums counts counts_then audio audio_then sound sound_then midi midi_then ended failed full most_is still stopped run drummed =
-    let written : IsPlayed blocks drums.pattern silent false audio audio_then new_audio pass sound sound_then midi midi_then ended =
-    subst (λ (ages : Ages). IsPlayed blocks drums.pattern ages false audio audio_then new_audio pass sound sound_then midi midi_then ended) still
-    (subst (λ (running : Bool). IsPlayed blocks drums.pattern drums.kit running audio audio_then new_audio pass sound sound_then midi midi_then ended) stopped drummed.written) in
+    → IsNodeRun config now most failed full before.port.told after.port.told after.port.gates before.port.faults after.port.faults pass app events published
+    → HasDrummed blocks drums new_audio pass (counts_of before) (counts_of after) before.audio.told after.audio.told before.sound.told after.sound.told before.midi.told after.midi.told ended
+    → HasSession blocks drums.pattern config now before after ended failed full
+has_session config now most before after events published app pass blocks drums ended failed full most_is still stopped run drummed =
+    let Played : Ages → Bool → PlayEnd → Type 0 = λ ages running end.
+    IsPlayed blocks drums.pattern ages running before.audio.told after.audio.told new_audio pass before.sound.told after.sound.told before.midi.told after.midi.told end in
+    let written : Played silent false ended =
+    subst (λ (ages : Ages). Played ages false ended) still (subst (λ (running : Bool). Played drums.kit running ended) stopped drummed.written) in
     record {
       pass = pass;
       recorded = record {
         events = events;
         published = published;
-        recorded = subst (λ (n : ℕ). IsRecorded config n None failed full p0 p1 gates1 (recorded_of config now events published)) most_is run.recorded;
+        recorded = subst (λ (n : ℕ). IsRecorded config n None failed full before.port.told after.port.told after.port.gates (recorded_of config now events published)) most_is run.recorded;
         reads = run.fits.reads;
         never_falls = drummed.played.never_falls none_read;
         commits = run.fits.audio_commits;
         last_commit = run.fits.last_audio_commit;
       };
-      whole = λ is. subst (IsPlayed blocks drums.pattern silent false audio audio_then new_audio pass sound sound_then midi midi_then) is written;
-      part = λ is. subst (IsPlayed blocks drums.pattern silent false audio audio_then new_audio pass sound sound_then midi midi_then) is written;
-      cut = λ is. subst (IsPlayed blocks drums.pattern silent false audio audio_then new_audio pass sound sound_then midi midi_then) is written;
+      whole = λ is. subst (Played silent false) is written;
+      part = λ is. subst (Played silent false) is written;
+      cut = λ is. subst (Played silent false) is written;
       cause = drummed.cause;
       port_works = run.works;
       port_fails = run.fails;

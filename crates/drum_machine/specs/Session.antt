@@ -5,9 +5,10 @@ use Rattle.rand_pcg.specs.Pcg.{multiplier_64}
 use Rattle.audio_handoff.specs.Cell.{NumbersNeverFall}
 use Rattle.lk_base.specs.Ids.{drawn_id}
 use Rattle.lk_base.specs.declared.endpoint.Endpoint.{Endpoint}
-use Rattle.lk_outside.specs.Audio.{AudioContents}
+use Rattle.lk_outside.specs.Audio.{AudioSeen}
 use Rattle.lk_outside.specs.Faults.{Rose}
-use Rattle.lk_outside.specs.Port.{PortContents}
+use Rattle.lk_outside.specs.Port.{PortContents, PortSeen}
+use Rattle.lk_outside.specs.Stream.{Stream}
 use Rattle.client_state.specs.declared.state.State.{State}
 use Rattle.link_node.specs.Config.{ConfigValue, GateValue}
 use Rattle.link_node.specs.Event.{EventValue}
@@ -39,27 +40,19 @@ config_from seed mpb gate = record {
   gates = gate ∷ [];
 }
 
--- what is told of the devices: the counts of faults, the blocks, what the port heard and posted, where it is bound, and what was written
+-- what is seen of the devices: the port, the audio device, and the sinks of the sound and of the MIDI
 pub record DevicesSeen : Type 0 where
-  pub counts : Counts
-  pub port_faults : ℕ
-  pub audio : Option AudioContents
-  pub port : Option PortContents
-  pub gates : List Endpoint
-  pub sound : Option (List ℕ)
-  pub midi : Option (List ℕ)
+  pub port : PortSeen
+  pub audio : AudioSeen
+  pub sound : Stream
+  pub midi : Stream
 
-abbrev pub devices_seen : {P A W M : Type 0} → (P → ℕ) → (P → Option PortContents) → (P → List Endpoint) → (A → ℕ) → (A → Option AudioContents)
-    → (W → ℕ) → (W → Option (List ℕ)) → (M → ℕ) → (M → Option (List ℕ)) → P → A → W → M → DevicesSeen
-devices_seen port_faults port gates audio_faults audio sound_faults sound midi_faults midi p a w m = record {
-  counts = counted (audio_faults a) (sound_faults w) (midi_faults m);
-  port_faults = port_faults p;
-  audio = audio a;
-  port = port p;
-  gates = gates p;
-  sound = sound w;
-  midi = midi m;
-}
+abbrev pub devices_seen : PortSeen → AudioSeen → Stream → Stream → DevicesSeen
+devices_seen port audio sound midi = record { port = port; audio = audio; sound = sound; midi = midi }
+
+-- how often the audio device and the two sinks have failed
+abbrev pub counts_of : DevicesSeen → Counts
+counts_of devices = counted devices.audio.faults devices.sound.faults devices.midi.faults
 
 -- What the node recorded: it heard, sent and published what replay gives for its events. What the audio thread's pass read are states that
 -- were published, none older than one before; of its commits those among the events carry what was made under their numbers, which rise,
@@ -77,13 +70,13 @@ pub record IsSessionRecorded (config : ConfigValue) (opened_at : ℤ) (failed fu
 -- was written begins with silence and before any MIDI clock.
 pub record HasSession (blocks : ℕ) (pattern : Pattern) (config : ConfigValue) (opened_at : ℤ) (before after : DevicesSeen) (end : PlayEnd) (failed full : Bool) : Type 0 where
   pub pass : AudioView
-  pub recorded : IsSessionRecorded config opened_at failed full before.port after.port after.gates pass
-  pub whole : end ≡ play_end.Played → IsPlayedWhole blocks pattern silent false before.audio after.audio new_audio pass before.sound after.sound before.midi after.midi
-  pub part : end ≡ play_end.Device → IsPlayedInPart blocks pattern silent false before.audio after.audio new_audio pass before.sound after.sound before.midi after.midi
-  pub cut : end ≡ play_end.Output → IsCutOff blocks pattern silent false before.audio after.audio new_audio pass before.sound after.sound before.midi after.midi
-  pub cause : HasPlayCause before.counts after.counts after.audio end
-  pub port_works : failed ≡ false → after.port_faults ≡ before.port_faults
-  pub port_fails : failed ≡ true → Rose before.port_faults after.port_faults
+  pub recorded : IsSessionRecorded config opened_at failed full before.port.told after.port.told after.port.gates pass
+  pub whole : end ≡ play_end.Played → IsPlayedWhole blocks pattern silent false before.audio.told after.audio.told new_audio pass before.sound.told after.sound.told before.midi.told after.midi.told
+  pub part : end ≡ play_end.Device → IsPlayedInPart blocks pattern silent false before.audio.told after.audio.told new_audio pass before.sound.told after.sound.told before.midi.told after.midi.told
+  pub cut : end ≡ play_end.Output → IsCutOff blocks pattern silent false before.audio.told after.audio.told new_audio pass before.sound.told after.sound.told before.midi.told after.midi.told
+  pub cause : HasPlayCause (counts_of before) (counts_of after) after.audio.told end
+  pub port_works : failed ≡ false → after.port.faults ≡ before.port.faults
+  pub port_fails : failed ≡ true → Rose before.port.faults after.port.faults
 
 -- A session's end is the first cause that holds, of what it met. Where no memory was left, nothing was called.
 abbrev pub EndsSession : ℕ → Pattern → ConfigValue → ℤ → DevicesSeen → DevicesSeen → Status → Type 0

@@ -53,10 +53,10 @@ pub fn play<C: StateCell<11, Way = ()>, N: LinkName, A: Audio, W: Sink, M: Sink>
 ) -> PlayEnd
     requires ready { CanPlay pass.old drums.old.origin blocks }
     ensures played { HasPlayed pass.old pass.new }
-    ensures written { IsPlayed blocks drums.old.pattern drums.old.kit drums.old.clock (A.contents audio.old) (A.contents audio.new) pass.old pass.new
-        (W.written sound.old) (W.written sound.new) (M.written midi.old) (M.written midi.new) result }
-    ensures cause { HasPlayCause (counted (A.faults audio.old) (W.faults sound.old) (M.faults midi.old))
-        (counted (A.faults audio.new) (W.faults sound.new) (M.faults midi.new)) (A.contents audio.new) result }
+    ensures written { IsPlayed blocks drums.old.pattern drums.old.kit drums.old.clock (A.seen audio.old).told (A.seen audio.new).told pass.old pass.new
+        (W.seen sound.old).told (W.seen sound.new).told (M.seen midi.old).told (M.seen midi.new).told result }
+    ensures cause { HasPlayCause (counted (A.seen audio.old).faults (W.seen sound.old).faults (M.seen midi.old).faults)
+        (counted (A.seen audio.new).faults (W.seen sound.new).faults (M.seen midi.new).faults) (A.seen audio.new).told result }
 {
     if !write_whole(sound, &wav_header(blocks * FRAMES)) {
         return PlayEnd::Output;
@@ -83,11 +83,11 @@ pub fn play<C: StateCell<11, Way = ()>, N: LinkName, A: Audio, W: Sink, M: Sink>
 
 // The device's next block, if it gives one. Waits: in the device. Memory: none.
 fn next_block<A: Audio>(audio: &mut A) -> Option<Block>
-    ensures some { IfSome result (λ block. IsMoment block.start × (A.faults audio.new ≡ A.faults audio.old)) }
-    ensures begins { IfSome result (λ block. BeginsAt (A.contents audio.old) block.start) }
-    ensures given { IfSome result (λ block. BothTell (GivesBlock block) (A.contents audio.old) (A.contents audio.new)) }
-    ensures stays { IfNone result (A.contents audio.new ≡ A.contents audio.old) }
-    ensures none { IfNone result (HasNoMore (counted (A.faults audio.old) 0 0) (counted (A.faults audio.new) 0 0) (A.contents audio.new)) }
+    ensures some { IfSome result (λ block. IsMoment block.start × ((A.seen audio.new).faults ≡ (A.seen audio.old).faults)) }
+    ensures begins { IfSome result (λ block. BeginsAt (A.seen audio.old).told block.start) }
+    ensures given { IfSome result (λ block. BothTell (GivesBlock block) (A.seen audio.old).told (A.seen audio.new).told) }
+    ensures stays { IfNone result ((A.seen audio.new).told ≡ (A.seen audio.old).told) }
+    ensures none { IfNone result (HasNoMore (counted (A.seen audio.old).faults 0 0) (counted (A.seen audio.new).faults 0 0) (A.seen audio.new).told) }
 {
     match audio.next() {
         Next::Block(block) => Some(block),
@@ -112,11 +112,11 @@ fn play_block<C: StateCell<11, Way = ()>, N: LinkName, W: Sink, M: Sink>(
     ensures played { HasPlayed pass.old pass.new }
     ensures stays { (drums.new.pattern ≡ drums.old.pattern) × (drums.new.origin ≡ drums.old.origin) × (pass.new.made ≡ pass.old.made) }
     ensures block { OnTrue result (HasPlayedBlock first drums.old drums.new pass.old pass.new
-        (W.written sound.old) (W.written sound.new) (M.written midi.old) (M.written midi.new)) }
+        (W.seen sound.old).told (W.seen sound.new).told (M.seen midi.old).told (M.seen midi.new).told) }
     ensures cut { OnFalse result (HasCutBlock first drums.old pass.old pass.new
-        (W.written sound.old) (W.written sound.new) (M.written midi.old) (M.written midi.new)) }
-    ensures works { OnTrue result ((W.faults sound.new ≡ W.faults sound.old) × (M.faults midi.new ≡ M.faults midi.old)) }
-    ensures fails { OnFalse result (Rose (W.faults sound.old) (W.faults sound.new) ⊎ Rose (M.faults midi.old) (M.faults midi.new)) }
+        (W.seen sound.old).told (W.seen sound.new).told (M.seen midi.old).told (M.seen midi.new).told) }
+    ensures works { OnTrue result (((W.seen sound.new).faults ≡ (W.seen sound.old).faults) × ((M.seen midi.new).faults ≡ (M.seen midi.old).faults)) }
+    ensures fails { OnFalse result (Rose (W.seen sound.old).faults (W.seen sound.new).faults ⊎ Rose (M.seen midi.old).faults (M.seen midi.new).faults) }
 {
     // A law, for the proof: what the callback gives are messages that have bytes.
     positions_are_short();
@@ -175,12 +175,12 @@ impl Sheet {
     // Writes the sound, and a line for each MIDI event. Answers whether both went out. Waits: in the sinks. Memory: none.
     fn write<W: Sink, M: Sink>(&mut self, sound: &mut W, midi: &mut M) -> bool
         requires messages { All (λ event. IsMessage event.message) self.old.events.items }
-        ensures sound { OnTrue result (Appends (W.written sound.old) (samples_bytes self.old.samples.items) (W.written sound.new)) }
-        ensures midi { OnTrue result (Appends (M.written midi.old) (midi_lines_of self.old.events.items) (M.written midi.new)) }
+        ensures sound { OnTrue result (Appends (W.seen sound.old).told (samples_bytes self.old.samples.items) (W.seen sound.new).told) }
+        ensures midi { OnTrue result (Appends (M.seen midi.old).told (midi_lines_of self.old.events.items) (M.seen midi.new).told) }
         ensures front { OnFalse result (AppendsFront (samples_bytes self.old.samples.items) (midi_lines_of self.old.events.items)
-            (W.written sound.old) (W.written sound.new) (M.written midi.old) (M.written midi.new)) }
-        ensures works { OnTrue result ((W.faults sound.new ≡ W.faults sound.old) × (M.faults midi.new ≡ M.faults midi.old)) }
-        ensures fails { OnFalse result (Rose (W.faults sound.old) (W.faults sound.new) ⊎ Rose (M.faults midi.old) (M.faults midi.new)) }
+            (W.seen sound.old).told (W.seen sound.new).told (M.seen midi.old).told (M.seen midi.new).told) }
+        ensures works { OnTrue result (((W.seen sound.new).faults ≡ (W.seen sound.old).faults) × ((M.seen midi.new).faults ≡ (M.seen midi.old).faults)) }
+        ensures fails { OnFalse result (Rose (W.seen sound.old).faults (W.seen sound.new).faults ⊎ Rose (M.seen midi.old).faults (M.seen midi.new).faults) }
     {
         put_samples(&self.samples, &mut self.bytes);
         if !write_whole(sound, &self.bytes) {
@@ -193,10 +193,10 @@ impl Sheet {
 // Writes a line for each MIDI event. Answers whether all went out. Waits: in the sink. Memory: none.
 fn write_lines<M: Sink>(events: &[MidiEvent], line: &mut LineBuf, midi: &mut M) -> bool
     requires { All (λ event. IsMessage event.message) events.now }
-    ensures lines { OnTrue result (Appends (M.written midi.old) (midi_lines_of events.now) (M.written midi.new)) }
-    ensures part { OnFalse result (AppendsPrefix (M.written midi.old) (midi_lines_of events.now) (M.written midi.new)) }
-    ensures works { OnTrue result (M.faults midi.new ≡ M.faults midi.old) }
-    ensures fails { OnFalse result (Rose (M.faults midi.old) (M.faults midi.new)) }
+    ensures lines { OnTrue result (Appends (M.seen midi.old).told (midi_lines_of events.now) (M.seen midi.new).told) }
+    ensures part { OnFalse result (AppendsPrefix (M.seen midi.old).told (midi_lines_of events.now) (M.seen midi.new).told) }
+    ensures works { OnTrue result ((M.seen midi.new).faults ≡ (M.seen midi.old).faults) }
+    ensures fails { OnFalse result (Rose (M.seen midi.old).faults (M.seen midi.new).faults) }
 {
     for event in events {
         put_midi(line, event);

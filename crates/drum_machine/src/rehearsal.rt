@@ -63,8 +63,8 @@ const PEERS_ENDPOINT: Endpoint = Endpoint {
 /// Rehearses four bars of a pattern, and writes a line for each step that begins, one where the tempo shown has changed, and last how many
 /// steps and MIDI events there were.
 pub fn rehearse<R: Wait, K: Sink>(rt: &R, alloc: Global, pattern: Pattern, out: &mut K) -> Status
-    ensures told { result ≡ Status.Done → IsRehearsed 373 pattern (K.written out.old) (K.written out.new) }
-    ensures ends { EndsRehearsal (K.faults out.old) (K.faults out.new) result }
+    ensures told { result ≡ Status.Done → IsRehearsed 373 pattern (K.seen out.old).told (K.seen out.new).told }
+    ensures ends { EndsRehearsal (K.seen out.old).faults (K.seen out.new).faults result }
 {
     let config = config_of_one();
     let session = config.id;
@@ -116,9 +116,9 @@ fn rehearse_bars<N: LinkName, R: Wait, K: Sink>(
 ) -> bool
     requires link { ArePartsOf N.app_states N.audio_states N.audio_commits N.queue N.name N.parts N.whole parts }
     requires gates { length parts.config.gates ≡ 1 }
-    ensures told { OnTrue result (IsRehearsed 373 pattern (K.written out.old) (K.written out.new)) }
-    ensures works { OnTrue result (K.faults out.new ≡ K.faults out.old) }
-    ensures fails { OnFalse result (Rose (K.faults out.old) (K.faults out.new)) }
+    ensures told { OnTrue result (IsRehearsed 373 pattern (K.seen out.old).told (K.seen out.new).told) }
+    ensures works { OnTrue result ((K.seen out.new).faults ≡ (K.seen out.old).faults) }
+    ensures fails { OnFalse result (Rose (K.seen out.old).faults (K.seen out.new).faults) }
 {
     let Opened {
         link,
@@ -155,11 +155,11 @@ fn play_bars<N: LinkName, R: Wait, K: Sink>(
     requires gates { length hub.old.config.gates ≡ 1 }
     requires unmade { pass.old.made ≡ [] }
     requires untold { score.old.mpb ≡ pos 0 }
-    ensures told { OnTrue result.1 (AreTold 373 pattern (K.written out.old) (K.written out.new)) }
+    ensures told { OnTrue result.1 (AreTold 373 pattern (K.seen out.old).told (K.seen out.new).told) }
     ensures block { result.0 ≤ 373 }
     ensures handed { hub.new.handed ≡ hub.old.handed }
-    ensures works { OnTrue result.1 (K.faults out.new ≡ K.faults out.old) }
-    ensures fails { OnFalse result.1 (Rose (K.faults out.old) (K.faults out.new)) }
+    ensures works { OnTrue result.1 ((K.seen out.new).faults ≡ (K.seen out.old).faults) }
+    ensures fails { OnFalse result.1 (Rose (K.seen out.old).faults (K.seen out.new).faults) }
 {
     let mut drums = Drums::new(pattern, OPENED_AT);
     let mut samples = Samples::new();

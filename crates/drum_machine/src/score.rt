@@ -54,15 +54,15 @@ impl Score {
         requires tidy { IsTidyState capture.now.shown }
         requires origin { IsMoment drums.now.origin }
         requires first { first + 960 < 2 ^ 31 }
-        ensures told { OnTrue result (Appends (K.written out.old)
-            (block_text_of self.old.mpb drums.now.pattern capture.now.shown drums.now.origin first) (K.written out.new)) }
-        ensures part { OnFalse result (AppendsPrefix (K.written out.old)
-            (block_text_of self.old.mpb drums.now.pattern capture.now.shown drums.now.origin first) (K.written out.new)) }
+        ensures told { OnTrue result (Appends (K.seen out.old).told
+            (block_text_of self.old.mpb drums.now.pattern capture.now.shown drums.now.origin first) (K.seen out.new).told) }
+        ensures part { OnFalse result (AppendsPrefix (K.seen out.old).told
+            (block_text_of self.old.mpb drums.now.pattern capture.now.shown drums.now.origin first) (K.seen out.new).told) }
         ensures tempo { self.new.mpb ≡ capture.now.shown.timeline.mpb }
         ensures steps { OnTrue result (self.new.steps ≡ counted_on self.old.steps (length (struck_from capture.now.shown drums.now.origin first 960))) }
         ensures events { self.new.events ≡ counted_on self.old.events events }
-        ensures works { OnTrue result (K.faults out.new ≡ K.faults out.old) }
-        ensures fails { OnFalse result (Rose (K.faults out.old) (K.faults out.new)) }
+        ensures works { OnTrue result ((K.seen out.new).faults ≡ (K.seen out.old).faults) }
+        ensures fails { OnFalse result (Rose (K.seen out.old).faults (K.seen out.new).faults) }
     {
         self.events = self.events.saturating_add(events as u64);
         let hits = steps_begun(&capture.shown, drums.origin, first, FRAMES);
@@ -74,12 +74,12 @@ impl Score {
 
     // Tells the tempo from a sample on, where it is another. Answers whether it was written.
     fn tell_tempo<K: Sink>(&mut self, shown: &State, sample: u32, out: &mut K) -> bool
-        ensures told { OnTrue result (Appends (K.written out.old) (tempo_text_of self.old.mpb shown.now.timeline.mpb sample) (K.written out.new)) }
-        ensures part { OnFalse result (AppendsPrefix (K.written out.old) (tempo_text_of self.old.mpb shown.now.timeline.mpb sample) (K.written out.new)) }
+        ensures told { OnTrue result (Appends (K.seen out.old).told (tempo_text_of self.old.mpb shown.now.timeline.mpb sample) (K.seen out.new).told) }
+        ensures part { OnFalse result (AppendsPrefix (K.seen out.old).told (tempo_text_of self.old.mpb shown.now.timeline.mpb sample) (K.seen out.new).told) }
         ensures tempo { self.new.mpb ≡ shown.now.timeline.mpb }
         ensures counts { (self.new.steps ≡ self.old.steps) × (self.new.events ≡ self.old.events) }
-        ensures works { OnTrue result (K.faults out.new ≡ K.faults out.old) }
-        ensures fails { OnFalse result (Rose (K.faults out.old) (K.faults out.new)) }
+        ensures works { OnTrue result ((K.seen out.new).faults ≡ (K.seen out.old).faults) }
+        ensures fails { OnFalse result (Rose (K.seen out.old).faults (K.seen out.new).faults) }
     {
         let mpb = shown.timeline.mpb;
         if mpb == self.mpb {
@@ -92,12 +92,12 @@ impl Score {
 
     // Tells steps. Answers whether their lines were written.
     fn tell_steps<K: Sink>(&mut self, hits: &[Hit], pattern: &Pattern, out: &mut K) -> bool
-        ensures told { OnTrue result (Appends (K.written out.old) (steps_text_of pattern.now hits.now) (K.written out.new)) }
-        ensures part { OnFalse result (AppendsPrefix (K.written out.old) (steps_text_of pattern.now hits.now) (K.written out.new)) }
+        ensures told { OnTrue result (Appends (K.seen out.old).told (steps_text_of pattern.now hits.now) (K.seen out.new).told) }
+        ensures part { OnFalse result (AppendsPrefix (K.seen out.old).told (steps_text_of pattern.now hits.now) (K.seen out.new).told) }
         ensures steps { self.new.steps ≡ counted_on self.old.steps (length hits.now) }
         ensures stays { (self.new.mpb ≡ self.old.mpb) × (self.new.events ≡ self.old.events) }
-        ensures works { OnTrue result (K.faults out.new ≡ K.faults out.old) }
-        ensures fails { OnFalse result (Rose (K.faults out.old) (K.faults out.new)) }
+        ensures works { OnTrue result ((K.seen out.new).faults ≡ (K.seen out.old).faults) }
+        ensures fails { OnFalse result (Rose (K.seen out.old).faults (K.seen out.new).faults) }
     {
         self.steps = self.steps.saturating_add(hits.len() as u64);
         for hit in hits {
@@ -111,10 +111,10 @@ impl Score {
 
     /// Tells how many steps and MIDI events there were. Answers whether the line was written.
     pub fn tell_done<K: Sink>(&mut self, out: &mut K) -> bool
-        ensures told { OnTrue result (Appends (K.written out.old) (done_line_of self.old.steps self.old.events) (K.written out.new)) }
-        ensures part { OnFalse result (AppendsPrefix (K.written out.old) (done_line_of self.old.steps self.old.events) (K.written out.new)) }
-        ensures works { OnTrue result (K.faults out.new ≡ K.faults out.old) }
-        ensures fails { OnFalse result (Rose (K.faults out.old) (K.faults out.new)) }
+        ensures told { OnTrue result (Appends (K.seen out.old).told (done_line_of self.old.steps self.old.events) (K.seen out.new).told) }
+        ensures part { OnFalse result (AppendsPrefix (K.seen out.old).told (done_line_of self.old.steps self.old.events) (K.seen out.new).told) }
+        ensures works { OnTrue result ((K.seen out.new).faults ≡ (K.seen out.old).faults) }
+        ensures fails { OnFalse result (Rose (K.seen out.old).faults (K.seen out.new).faults) }
     {
         put_done(&mut self.line, self.steps, self.events);
         write_whole(out, &self.line)

@@ -43,10 +43,8 @@ pub fn play_session<
     devices: &mut Devices<P, A, W, M>,
 ) -> Status
     ensures ends { EndsSession setup.blocks pattern (config_from devices.old.seed setup.mpb (gate_value setup.gate)) devices.old.opened_at
-        (devices_seen P.faults P.contents P.bound A.faults A.contents W.faults W.written M.faults M.written
-        devices.old.port devices.old.outlet.audio devices.old.outlet.sound devices.old.outlet.midi)
-        (devices_seen P.faults P.contents P.bound A.faults A.contents W.faults W.written M.faults M.written
-        devices.new.port devices.new.outlet.audio devices.new.outlet.sound devices.new.outlet.midi) result }
+        (devices_seen (P.seen devices.old.port) (A.seen devices.old.outlet.audio) (W.seen devices.old.outlet.sound) (M.seen devices.old.outlet.midi))
+        (devices_seen (P.seen devices.new.port) (A.seen devices.new.outlet.audio) (W.seen devices.new.outlet.sound) (M.seen devices.new.outlet.midi)) result }
 {
     let blocks = setup.blocks;
     let config = config_of(setup, devices.seed);
@@ -84,10 +82,8 @@ fn play_parts<
     requires ready { CanPlay new_audio drummer.old.drums.origin drummer.old.blocks }
     requires still { (drummer.old.drums.kit ≡ silent) × (drummer.old.drums.clock ≡ false) }
     ensures ends { EndsSession drummer.old.blocks drummer.old.drums.pattern parts.config parts.opened_at
-        (devices_seen P.faults P.contents P.bound A.faults A.contents W.faults W.written M.faults M.written
-        devices.old.port devices.old.outlet.audio devices.old.outlet.sound devices.old.outlet.midi)
-        (devices_seen P.faults P.contents P.bound A.faults A.contents W.faults W.written M.faults M.written
-        devices.new.port devices.new.outlet.audio devices.new.outlet.sound devices.new.outlet.midi) result }
+        (devices_seen (P.seen devices.old.port) (A.seen devices.old.outlet.audio) (W.seen devices.old.outlet.sound) (M.seen devices.old.outlet.midi))
+        (devices_seen (P.seen devices.new.port) (A.seen devices.new.outlet.audio) (W.seen devices.new.outlet.sound) (M.seen devices.new.outlet.midi)) result }
 {
     let Devices { port, outlet, .. } = devices;
     let run = run_node::<N, P, Drummer, Outlet<A, W, M>, Idle, (), (), R>(

@@ -31,10 +31,10 @@ impl<N: LinkName, A: Audio, W: Sink, M: Sink, R> Side<
 
     ghost runs = { λ side side_then pass pass_then outlet outlet_then none none_then end.
         HasDrummed side.blocks side.drums pass pass_then
-        (counted (A.faults outlet.audio) (W.faults outlet.sound) (M.faults outlet.midi))
-        (counted (A.faults outlet_then.audio) (W.faults outlet_then.sound) (M.faults outlet_then.midi))
-        (A.contents outlet.audio) (A.contents outlet_then.audio)
-        (W.written outlet.sound) (W.written outlet_then.sound) (M.written outlet.midi) (M.written outlet_then.midi) end };
+        (counted (A.seen outlet.audio).faults (W.seen outlet.sound).faults (M.seen outlet.midi).faults)
+        (counted (A.seen outlet_then.audio).faults (W.seen outlet_then.sound).faults (M.seen outlet_then.midi).faults)
+        (A.seen outlet.audio).told (A.seen outlet_then.audio).told
+        (W.seen outlet.sound).told (W.seen outlet_then.sound).told (M.seen outlet.midi).told (M.seen outlet_then.midi).told end };
 
     fn run(
         &mut self,

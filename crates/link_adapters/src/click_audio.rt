@@ -54,9 +54,7 @@ impl<W: Write + Drop, R: Clock + Wait + Drop> ClickAudio<W, R> {
 }
 
 impl<W: Write + Drop, R: Clock + Wait + Drop> Audio for ClickAudio<W, R> {
-    ghost contents = { λ _. None };
-
-    ghost faults = { λ device. device.faults };
+    ghost seen = { λ device. record { told = None; faults = device.faults } };
 
     // Waits: for the moment at which the block begins. Memory: none.
     fn next(&mut self) -> Next

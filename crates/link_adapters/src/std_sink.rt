@@ -51,9 +51,7 @@ impl<W: Write + Drop> StdSink<W> {
 }
 
 impl<W: Write + Drop> Sink for StdSink<W> {
-    ghost written = { λ _. None };
-
-    ghost faults = { λ sink. sink.faults };
+    ghost seen = { λ sink. record { told = None; faults = sink.faults } };
 
     fn write(&mut self, bytes: &[u8]) -> Put
         requires { 0 < length bytes.now }

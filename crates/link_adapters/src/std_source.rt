@@ -40,9 +40,7 @@ impl<R: Read + Drop> StdSource<R> {
 }
 
 impl<R: Read + Drop> Source for StdSource<R> {
-    ghost left = { λ _. None };
-
-    ghost faults = { λ source. source.faults };
+    ghost seen = { λ source. record { told = None; faults = source.faults } };
 
     fn read(&mut self, buf: &mut [u8]) -> Taken
         requires { 0 < length buf.old }

@@ -126,13 +126,7 @@ impl<R: Net + Wait + Eprint + Copy + Drop> TcpTalk<R> {
 }
 
 impl<R: Net + Wait + Eprint + Copy + Drop> Talk for TcpTalk<R> {
-    ghost left = { λ _. None };
-
-    ghost written = { λ _. None };
-
-    ghost opened = { λ talk. talk.opened };
-
-    ghost faults = { λ talk. talk.faults };
+    ghost seen = { λ talk. record { left = None; written = None; opened = talk.opened; faults = talk.faults } };
 
     // A client of before is let go only where it listens anew.
     // Waits: no. Memory: none. Tells how it came out.

@@ -201,11 +201,7 @@ impl<R: Net + Clock + Wait + Eprint + Copy + Drop> UdpPort<R> {
 }
 
 impl<R: Net + Clock + Wait + Eprint + Copy + Drop> Port for UdpPort<R> {
-    ghost contents = { λ _. None };
-
-    ghost bound = { λ port. locals_of port.gates.items };
-
-    ghost faults = { λ port. port.faults };
+    ghost seen = { λ port. record { told = None; gates = locals_of port.gates.items; faults = port.faults } };
 
     // The new sockets are bound before those of before are closed, so that these stay at a failure: a gate of before is in use.
     // Waits: no. Memory: none. Tells how it came out.

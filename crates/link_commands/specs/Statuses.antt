@@ -26,14 +26,6 @@ use Rattle.link_commands.specs.declared.status.Grammar.TheVariants as grammar
 use Rattle.link_commands.specs.declared.status.Status.{Status}
 use Rattle.link_commands.specs.declared.status.Status.TheVariants as status
 
--- what is seen of a source or a sink: its contents where it tells them, and its count of failures
-pub record Stream : Type 0 where
-  pub told : Option (List ℕ)
-  pub faults : ℕ
-
-abbrev pub seen : {S : Type 0} → (S → Option (List ℕ)) → (S → ℕ) → S → Stream
-seen told faults s = record { told = told s; faults = faults s }
-
 -- Rule: The exit status is 0 where all is done, 2 for wrong words, 3 for a failed port, 4 for a failed audio device, and 5 for a failed
 -- input.
 -- Rule: Status 6 means a full journal: an event of the run found no room in it.

@@ -5,7 +5,7 @@ ghost use Rattle.lk_outside.specs.Faults.{Rose};
 ghost use Rattle.link_commands.specs.Outlet.{HandsOver, HandsPart};
 ghost use Rattle.link_commands.specs.HexLines.{HasLinesWithin, IsDecodable, IsHexLine};
 ghost use Rattle.link_commands.specs.DecodeText.{IsDecodedLine, IsDecodeText};
-ghost use Rattle.link_commands.specs.Statuses.{EndsDecode, IfNothingWritten, decode_command, seen};
+ghost use Rattle.link_commands.specs.Statuses.{EndsDecode, IfNothingWritten, decode_command};
 
 use crate::hex_lines::longest_line;
 use crate::outlet::{Outlet, SinkFailed};
@@ -30,8 +30,8 @@ pub fn decode_main<S: Source, K: Sink>(
     out: &mut K,
 ) -> Status
     ensures ends { EndsDecode words.now
-        (seen S.left S.faults input.old) (seen S.left S.faults input.new)
-        (seen K.written K.faults out.old) (seen K.written K.faults out.new) result }
+        (S.seen input.old) (S.seen input.new)
+        (K.seen out.old) (K.seen out.new) result }
 
     // No object is called, or the sink isn't.
     ensures untouched { result ≡ Status.Words → (input.new ≡ input.old) × (out.new ≡ out.old) }
@@ -96,11 +96,11 @@ fn hand_lines<K: Sink>(
     requires room { HasLinesWithin (length bytes.old) text.now }
     requires few { length bytes.old ≤ 16_777_216 }
     ensures kept { OnOk result ((output : List ℕ) × IsDecodeText text.now output
-        × HandsOver output (K.written out.old) outlet.old.kept.items (K.written out.new) outlet.new.kept.items) }
+        × HandsOver output (K.seen out.old).told outlet.old.kept.items (K.seen out.new).told outlet.new.kept.items) }
     ensures part { OnErr result ((output : List ℕ) × IsDecodeText text.now output
-        × HandsPart output (K.written out.old) outlet.old.kept.items (K.written out.new)) }
-    ensures quiet { OnOk result (K.faults out.new ≡ K.faults out.old) }
-    ensures cause { OnErr result (Rose (K.faults out.old) (K.faults out.new)) }
+        × HandsPart output (K.seen out.old).told outlet.old.kept.items (K.seen out.new).told) }
+    ensures quiet { OnOk result ((K.seen out.new).faults ≡ (K.seen out.old).faults) }
+    ensures cause { OnErr result (Rose (K.seen out.old).faults (K.seen out.new).faults) }
 {
     // A law, for the proof: every line is read as something, so that the text has an output where the sink fails too.
     all_are_read();

@@ -8,7 +8,7 @@ ghost use Rattle.link_hostfilter.specs.Kept.{last};
 ghost use Rattle.link_hostfilter.specs.declared.pair.Pair.{Pair};
 ghost use Rattle.link_commands.specs.FilterText.{IsAccepted, IsFilterText, IsRefused, host_line_of, refusal_line_of, totals_line_of};
 ghost use Rattle.link_commands.specs.PairLines.{IsPairText, IsSomePair, SaysPair};
-ghost use Rattle.link_commands.specs.Statuses.{EndsFilter, IfNothingWritten, filter_command, seen};
+ghost use Rattle.link_commands.specs.Statuses.{EndsFilter, IfNothingWritten, filter_command};
 
 use crate::outlet::{Outlet, SinkFailed};
 use crate::pair_lines::check_pairs;
@@ -37,8 +37,8 @@ pub fn filter_main<S: Source, K: Sink>(
     out: &mut K,
 ) -> Status
     ensures ends { EndsFilter words.now
-        (seen S.left S.faults input.old) (seen S.left S.faults input.new)
-        (seen K.written K.faults out.old) (seen K.written K.faults out.new) result }
+        (S.seen input.old) (S.seen input.new)
+        (K.seen out.old) (K.seen out.new) result }
 
     // No object is called, or the sink isn't.
     ensures untouched { result ≡ Status.Words → (input.new ≡ input.old) × (out.new ≡ out.old) }
@@ -90,11 +90,11 @@ fn hand_answers<K: Sink>(text: &[u8], outlet: &mut Outlet, out: &mut K) -> Resul
     requires pairs { IsPairText text.now }
     requires short { length text.now ≤ 16_777_216 }
     ensures kept { OnOk result ((output : List ℕ) × IsFilterText text.now output
-        × HandsOver output (K.written out.old) outlet.old.kept.items (K.written out.new) outlet.new.kept.items) }
+        × HandsOver output (K.seen out.old).told outlet.old.kept.items (K.seen out.new).told outlet.new.kept.items) }
     ensures part { OnErr result ((output : List ℕ) × IsFilterText text.now output
-        × HandsPart output (K.written out.old) outlet.old.kept.items (K.written out.new)) }
-    ensures quiet { OnOk result (K.faults out.new ≡ K.faults out.old) }
-    ensures cause { OnErr result (Rose (K.faults out.old) (K.faults out.new)) }
+        × HandsPart output (K.seen out.old).told outlet.old.kept.items (K.seen out.new).told) }
+    ensures quiet { OnOk result ((K.seen out.new).faults ≡ (K.seen out.old).faults) }
+    ensures cause { OnErr result (Rose (K.seen out.old).faults (K.seen out.new).faults) }
 {
     // Laws, for the proof: a pair that isn't refused leaves pairs that may be kept, and such pairs have a filtered host time, so that the
     // text has an output where the sink fails too.

@@ -5,7 +5,7 @@ ghost use Rattle.lk_outside.specs.Faults.{Rose};
 ghost use Rattle.lk_outside.specs.Sink.{Appends};
 ghost use Rattle.lk_outside.specs.Transfer.{AppendsPrefix};
 ghost use Rattle.link_commands.specs.Loading.{told_of};
-ghost use Rattle.link_commands.specs.Statuses.{EndsLoad, IfNothingWritten, seen};
+ghost use Rattle.link_commands.specs.Statuses.{EndsLoad, IfNothingWritten};
 
 use crate::counts::{Counts, count_of};
 use crate::outlet::{Outlet, SinkFailed};
@@ -27,7 +27,7 @@ const OPENING: i64 = 1_000_000;
 /// Waits: in the sink's calls alone. Memory: what reads the words, the node, its list of datagrams and the outlet, all of it before the
 /// first write.
 pub fn load_main<K: Sink>(alloc: Global, words: &[String], out: &mut K) -> Status
-    ensures ends { EndsLoad words.now (seen K.written K.faults out.old) (seen K.written K.faults out.new) result }
+    ensures ends { EndsLoad words.now (K.seen out.old) (K.seen out.new) result }
 
     // The sink isn't called.
     ensures untouched { result ≡ Status.Words → out.new ≡ out.old }
@@ -131,10 +131,10 @@ fn write_load<K: Sink>(
 ) -> Result<(), SinkFailed>
     requires some { 1 ≤ counts.now.states }
     requires empty { outlet.old.kept.items ≡ [] }
-    ensures whole { OnOk result (Appends (K.written out.old) (told_of counts.now state.now) (K.written out.new)) }
-    ensures part { OnErr result (AppendsPrefix (K.written out.old) (told_of counts.now state.now) (K.written out.new)) }
-    ensures quiet { OnOk result (K.faults out.new ≡ K.faults out.old) }
-    ensures cause { OnErr result (Rose (K.faults out.old) (K.faults out.new)) }
+    ensures whole { OnOk result (Appends (K.seen out.old).told (told_of counts.now state.now) (K.seen out.new).told) }
+    ensures part { OnErr result (AppendsPrefix (K.seen out.old).told (told_of counts.now state.now) (K.seen out.new).told) }
+    ensures quiet { OnOk result ((K.seen out.new).faults ≡ (K.seen out.old).faults) }
+    ensures cause { OnErr result (Rose (K.seen out.old).faults (K.seen out.new).faults) }
 {
     let mut line = LineBuf::new();
     write_load_line(&mut line, counts.events, counts.states, counts.sends);

@@ -1,7 +1,7 @@
 //! The command `midi`: the MIDI clock of a script's node.
 
 ghost use Rattle.std.specs.Prelude.{◌≡◌};
-ghost use Rattle.link_commands.specs.Statuses.{EndsMidi, IfNothingWritten, midi_command, seen};
+ghost use Rattle.link_commands.specs.Statuses.{EndsMidi, IfNothingWritten, midi_command};
 
 use crate::midi_lines::{hand_blocks_done, hand_midi_events};
 use crate::opened_script::{OpenedScript, open_script};
@@ -33,8 +33,8 @@ pub fn midi_main<S: Source, K: Sink>(
     out: &mut K,
 ) -> Status
     ensures ends { EndsMidi words.now
-        (seen S.left S.faults input.old) (seen S.left S.faults input.new)
-        (seen K.written K.faults out.old) (seen K.written K.faults out.new) result }
+        (S.seen input.old) (S.seen input.new)
+        (K.seen out.old) (K.seen out.new) result }
 
     // No object is called, or the sink isn't.
     ensures untouched { result ≡ Status.Words → (input.new ≡ input.old) × (out.new ≡ out.old) }

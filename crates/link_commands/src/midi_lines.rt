@@ -21,11 +21,11 @@ pub(crate) fn hand_midi_events<K: Sink>(
 ) -> Result<(), SinkFailed>
     requires { All (λ event. IsMessage event.message) events.now }
     ensures kept { OnOk result (HandsOver (flat_map midi_line_of events.now)
-        (K.written out.old) outlet.old.kept.items (K.written out.new) outlet.new.kept.items) }
+        (K.seen out.old).told outlet.old.kept.items (K.seen out.new).told outlet.new.kept.items) }
     ensures part { OnErr result (HandsPart (flat_map midi_line_of events.now)
-        (K.written out.old) outlet.old.kept.items (K.written out.new)) }
-    ensures quiet { OnOk result (K.faults out.new ≡ K.faults out.old) }
-    ensures cause { OnErr result (Rose (K.faults out.old) (K.faults out.new)) }
+        (K.seen out.old).told outlet.old.kept.items (K.seen out.new).told) }
+    ensures quiet { OnOk result ((K.seen out.new).faults ≡ (K.seen out.old).faults) }
+    ensures cause { OnErr result (Rose (K.seen out.old).faults (K.seen out.new).faults) }
 {
     for event in events {
         put_midi(line, event);
@@ -57,11 +57,11 @@ pub(crate) fn hand_blocks_done<K: Sink>(
     out: &mut K,
 ) -> Result<(), SinkFailed>
     ensures kept { OnOk result (HandsOver (blocks_line_of blocks events)
-        (K.written out.old) outlet.old.kept.items (K.written out.new) outlet.new.kept.items) }
+        (K.seen out.old).told outlet.old.kept.items (K.seen out.new).told outlet.new.kept.items) }
     ensures part { OnErr result (HandsPart (blocks_line_of blocks events)
-        (K.written out.old) outlet.old.kept.items (K.written out.new)) }
-    ensures quiet { OnOk result (K.faults out.new ≡ K.faults out.old) }
-    ensures cause { OnErr result (Rose (K.faults out.old) (K.faults out.new)) }
+        (K.seen out.old).told outlet.old.kept.items (K.seen out.new).told) }
+    ensures quiet { OnOk result ((K.seen out.new).faults ≡ (K.seen out.old).faults) }
+    ensures cause { OnErr result (Rose (K.seen out.old).faults (K.seen out.new).faults) }
 {
     put_blocks(line, blocks, events);
     outlet.put_line(out, line.as_slice())

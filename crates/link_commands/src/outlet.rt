@@ -42,10 +42,10 @@ impl Outlet {
     pub fn put_line<K: Sink>(&mut self, out: &mut K, line: &[u8]) -> Result<(), SinkFailed>
         requires { length line.now ≤ 1200 }
         ensures bounded { length self.new.kept.items ≤ 65_536 }
-        ensures kept { OnOk result (HandsOver line.now (K.written out.old) self.old.kept.items (K.written out.new) self.new.kept.items) }
-        ensures part { OnErr result (HandsPart line.now (K.written out.old) self.old.kept.items (K.written out.new)) }
-        ensures quiet { OnOk result (K.faults out.new ≡ K.faults out.old) }
-        ensures cause { OnErr result (Rose (K.faults out.old) (K.faults out.new)) }
+        ensures kept { OnOk result (HandsOver line.now (K.seen out.old).told self.old.kept.items (K.seen out.new).told self.new.kept.items) }
+        ensures part { OnErr result (HandsPart line.now (K.seen out.old).told self.old.kept.items (K.seen out.new).told) }
+        ensures quiet { OnOk result ((K.seen out.new).faults ≡ (K.seen out.old).faults) }
+        ensures cause { OnErr result (Rose (K.seen out.old).faults (K.seen out.new).faults) }
     {
         if self.kept.len() <= ROOM - LONGEST_LINE {
             self.keep(line);
@@ -67,10 +67,10 @@ impl Outlet {
     /// Writes what is kept.
     pub fn flush<K: Sink>(&mut self, out: &mut K) -> Result<(), SinkFailed>
         ensures emptied { OnOk result (self.new.kept.items ≡ []) }
-        ensures whole { OnOk result (Appends (K.written out.old) self.old.kept.items (K.written out.new)) }
-        ensures part { OnErr result (AppendsPrefix (K.written out.old) self.old.kept.items (K.written out.new)) }
-        ensures quiet { OnOk result (K.faults out.new ≡ K.faults out.old) }
-        ensures cause { OnErr result (Rose (K.faults out.old) (K.faults out.new)) }
+        ensures whole { OnOk result (Appends (K.seen out.old).told self.old.kept.items (K.seen out.new).told) }
+        ensures part { OnErr result (AppendsPrefix (K.seen out.old).told self.old.kept.items (K.seen out.new).told) }
+        ensures quiet { OnOk result ((K.seen out.new).faults ≡ (K.seen out.old).faults) }
+        ensures cause { OnErr result (Rose (K.seen out.old).faults (K.seen out.new).faults) }
     {
         if !write_whole(out, &self.kept) {
             return Err(SinkFailed);

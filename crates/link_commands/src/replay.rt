@@ -1,7 +1,7 @@
 //! The command `replay`: what a node sends and shows for the events of a script.
 
 ghost use Rattle.std.specs.Prelude.{◌≡◌};
-ghost use Rattle.link_commands.specs.Statuses.{EndsReplay, IfNothingWritten, replay_command, seen};
+ghost use Rattle.link_commands.specs.Statuses.{EndsReplay, IfNothingWritten, replay_command};
 
 use crate::counts::Counts;
 use crate::opened_script::open_script;
@@ -29,8 +29,8 @@ pub fn replay_main<S: Source, K: Sink>(
     out: &mut K,
 ) -> Status
     ensures ends { EndsReplay words.now
-        (seen S.left S.faults input.old) (seen S.left S.faults input.new)
-        (seen K.written K.faults out.old) (seen K.written K.faults out.new) result }
+        (S.seen input.old) (S.seen input.new)
+        (K.seen out.old) (K.seen out.new) result }
 
     // No object is called, or the sink isn't.
     ensures untouched { result ≡ Status.Words → (input.new ≡ input.old) × (out.new ≡ out.old) }
@@ -125,12 +125,12 @@ impl Replay {
             → (counts.events ≡ length es) × ((counts.states ≡ 1 + length (published_by m es)) × (counts.sends ≡ length (sent_by m es)))) }
         ensures kept { OnOk result ((m : Machine) (es : List EventValue)
             → NodeGoesOn self.old.node text.now self.old.first m es
-            → HandsOver (events_text_of self.old.version m 1 es) (K.written out.old) outlet.old.kept.items (K.written out.new) outlet.new.kept.items) }
+            → HandsOver (events_text_of self.old.version m 1 es) (K.seen out.old).told outlet.old.kept.items (K.seen out.new).told outlet.new.kept.items) }
         ensures part { OnErr result ((m : Machine) (es : List EventValue)
             → NodeGoesOn self.old.node text.now self.old.first m es
-            → HandsPart (events_text_of self.old.version m 1 es) (K.written out.old) outlet.old.kept.items (K.written out.new)) }
-        ensures quiet { OnOk result (K.faults out.new ≡ K.faults out.old) }
-        ensures cause { OnErr result (Rose (K.faults out.old) (K.faults out.new)) }
+            → HandsPart (events_text_of self.old.version m 1 es) (K.seen out.old).told outlet.old.kept.items (K.seen out.new).told) }
+        ensures quiet { OnOk result ((K.seen out.new).faults ≡ (K.seen out.old).faults) }
+        ensures cause { OnErr result (Rose (K.seen out.old).faults (K.seen out.new).faults) }
     {
         // A law, for the proof: the node can take the events of a script.
         scripts_fit_nodes();
@@ -172,12 +172,12 @@ impl Replay {
         ensures few { OnOk result ((counts.new.states ≤ counts.old.states + 1) × (counts.new.sends ≤ counts.old.sends + 129)) }
         ensures kept { OnOk result ((m : Machine) → StandsFor self.old.node m
             → HandsOver (event_text_of self.old.version m counts.old.states (event_value event.now))
-            (K.written out.old) outlet.old.kept.items (K.written out.new) outlet.new.kept.items) }
+            (K.seen out.old).told outlet.old.kept.items (K.seen out.new).told outlet.new.kept.items) }
         ensures part { OnErr result ((m : Machine) → StandsFor self.old.node m
             → HandsPart (event_text_of self.old.version m counts.old.states (event_value event.now))
-            (K.written out.old) outlet.old.kept.items (K.written out.new)) }
-        ensures quiet { OnOk result (K.faults out.new ≡ K.faults out.old) }
-        ensures cause { OnErr result (Rose (K.faults out.old) (K.faults out.new)) }
+            (K.seen out.old).told outlet.old.kept.items (K.seen out.new).told) }
+        ensures quiet { OnOk result ((K.seen out.new).faults ≡ (K.seen out.old).faults) }
+        ensures cause { OnErr result (Rose (K.seen out.old).faults (K.seen out.new).faults) }
     {
         self.sends.clear();
         let change = self.node.step(event, &mut self.sends);

@@ -25,11 +25,11 @@ pub fn hand_state<K: Sink>(
     out: &mut K,
 ) -> Result<(), SinkFailed>
     ensures kept { OnOk result (HandsOver (state_line_of version number state.now)
-        (K.written out.old) outlet.old.kept.items (K.written out.new) outlet.new.kept.items) }
+        (K.seen out.old).told outlet.old.kept.items (K.seen out.new).told outlet.new.kept.items) }
     ensures part { OnErr result (HandsPart (state_line_of version number state.now)
-        (K.written out.old) outlet.old.kept.items (K.written out.new)) }
-    ensures quiet { OnOk result (K.faults out.new ≡ K.faults out.old) }
-    ensures cause { OnErr result (Rose (K.faults out.old) (K.faults out.new)) }
+        (K.seen out.old).told outlet.old.kept.items (K.seen out.new).told) }
+    ensures quiet { OnOk result ((K.seen out.new).faults ≡ (K.seen out.old).faults) }
+    ensures cause { OnErr result (Rose (K.seen out.old).faults (K.seen out.new).faults) }
 {
     write_state_line(line, version, number, state);
     outlet.put_line(out, line.as_slice())
@@ -48,11 +48,11 @@ pub fn hand_published<K: Sink>(
     ensures count { IfOk result (λ count. count ≡ length (shown_by change state.now)) }
     ensures few { IfOk result (λ count. count ≤ 1) }
     ensures kept { OnOk result (HandsOver (states_text_of version number (shown_by change state.now))
-        (K.written out.old) outlet.old.kept.items (K.written out.new) outlet.new.kept.items) }
+        (K.seen out.old).told outlet.old.kept.items (K.seen out.new).told outlet.new.kept.items) }
     ensures part { OnErr result (HandsPart (states_text_of version number (shown_by change state.now))
-        (K.written out.old) outlet.old.kept.items (K.written out.new)) }
-    ensures quiet { OnOk result (K.faults out.new ≡ K.faults out.old) }
-    ensures cause { OnErr result (Rose (K.faults out.old) (K.faults out.new)) }
+        (K.seen out.old).told outlet.old.kept.items (K.seen out.new).told) }
+    ensures quiet { OnOk result ((K.seen out.new).faults ≡ (K.seen out.old).faults) }
+    ensures cause { OnErr result (Rose (K.seen out.old).faults (K.seen out.new).faults) }
 {
     match change {
         Change::Same => Ok(0),
@@ -72,11 +72,11 @@ pub fn hand_sends<K: Sink>(
     out: &mut K,
 ) -> Result<(), SinkFailed>
     ensures kept { OnOk result (HandsOver (flat_map (sending_line_of (moment_of (event_value event.now))) (map sending_value sends.now))
-        (K.written out.old) outlet.old.kept.items (K.written out.new) outlet.new.kept.items) }
+        (K.seen out.old).told outlet.old.kept.items (K.seen out.new).told outlet.new.kept.items) }
     ensures part { OnErr result (HandsPart (flat_map (sending_line_of (moment_of (event_value event.now))) (map sending_value sends.now))
-        (K.written out.old) outlet.old.kept.items (K.written out.new)) }
-    ensures quiet { OnOk result (K.faults out.new ≡ K.faults out.old) }
-    ensures cause { OnErr result (Rose (K.faults out.old) (K.faults out.new)) }
+        (K.seen out.old).told outlet.old.kept.items (K.seen out.new).told) }
+    ensures quiet { OnOk result ((K.seen out.new).faults ≡ (K.seen out.old).faults) }
+    ensures cause { OnErr result (Rose (K.seen out.old).faults (K.seen out.new).faults) }
 {
     for sending in sends {
         hand_sending(event, sending, line, outlet, out)?;
@@ -93,11 +93,11 @@ fn hand_sending<K: Sink>(
     out: &mut K,
 ) -> Result<(), SinkFailed>
     ensures kept { OnOk result (HandsOver (sending_line_of (moment_of (event_value event.now)) (sending_value sending.now))
-        (K.written out.old) outlet.old.kept.items (K.written out.new) outlet.new.kept.items) }
+        (K.seen out.old).told outlet.old.kept.items (K.seen out.new).told outlet.new.kept.items) }
     ensures part { OnErr result (HandsPart (sending_line_of (moment_of (event_value event.now)) (sending_value sending.now))
-        (K.written out.old) outlet.old.kept.items (K.written out.new)) }
-    ensures quiet { OnOk result (K.faults out.new ≡ K.faults out.old) }
-    ensures cause { OnErr result (Rose (K.faults out.old) (K.faults out.new)) }
+        (K.seen out.old).told outlet.old.kept.items (K.seen out.new).told) }
+    ensures quiet { OnOk result ((K.seen out.new).faults ≡ (K.seen out.old).faults) }
+    ensures cause { OnErr result (Rose (K.seen out.old).faults (K.seen out.new).faults) }
 {
     write_sending(line, moment(event), sending);
     outlet.put_line(out, line.as_slice())
@@ -124,11 +124,11 @@ pub fn hand_done<K: Sink>(
     out: &mut K,
 ) -> Result<(), SinkFailed>
     ensures kept { OnOk result (HandsOver (done_line_of counts.now.events counts.now.states counts.now.sends)
-        (K.written out.old) outlet.old.kept.items (K.written out.new) outlet.new.kept.items) }
+        (K.seen out.old).told outlet.old.kept.items (K.seen out.new).told outlet.new.kept.items) }
     ensures part { OnErr result (HandsPart (done_line_of counts.now.events counts.now.states counts.now.sends)
-        (K.written out.old) outlet.old.kept.items (K.written out.new)) }
-    ensures quiet { OnOk result (K.faults out.new ≡ K.faults out.old) }
-    ensures cause { OnErr result (Rose (K.faults out.old) (K.faults out.new)) }
+        (K.seen out.old).told outlet.old.kept.items (K.seen out.new).told) }
+    ensures quiet { OnOk result ((K.seen out.new).faults ≡ (K.seen out.old).faults) }
+    ensures cause { OnErr result (Rose (K.seen out.old).faults (K.seen out.new).faults) }
 {
     write_done_line(line, counts.events, counts.states, counts.sends);
     outlet.put_line(out, line.as_slice())

@@ -4,7 +4,7 @@ ghost use Rattle.std.specs.Prelude.{◌≡◌, ◌≢◌, ◌≤◌, List, ℕ, 
 ghost use Rattle.lk_outside.specs.Faults.{Rose};
 ghost use Rattle.lk_outside.specs.Sink.{Appends};
 ghost use Rattle.lk_outside.specs.Transfer.{AppendsPrefix};
-ghost use Rattle.link_commands.specs.Statuses.{EndsInput, EndsText, IfNothingWritten, seen};
+ghost use Rattle.link_commands.specs.Statuses.{EndsInput, EndsText, IfNothingWritten};
 
 use crate::outlet::{Outlet, SinkFailed};
 use crate::status::Status;
@@ -24,8 +24,8 @@ pub fn read_and_answer<T: TextCommand, S: Source, K: Sink>(
     out: &mut K,
 ) -> Status
     ensures ends { EndsInput (T.command params.now)
-        (seen S.left S.faults input.old) (seen S.left S.faults input.new)
-        (seen K.written K.faults out.old) (seen K.written K.faults out.new) result }
+        (S.seen input.old) (S.seen input.new)
+        (K.seen out.old) (K.seen out.new) result }
     ensures taken { result ≢ Status.Words }
     ensures unwritten { IfNothingWritten result (out.new ≡ out.old) }
 {
@@ -48,7 +48,7 @@ fn answer_text<T: TextCommand, K: Sink>(
     out: &mut K,
 ) -> Status
     requires { length text.now ≤ (T.command params.now).limit }
-    ensures ends { EndsText (T.command params.now) text.now (seen K.written K.faults out.old) (seen K.written K.faults out.new) result }
+    ensures ends { EndsText (T.command params.now) text.now (K.seen out.old) (K.seen out.new) result }
     ensures unwritten { IfNothingWritten result (out.new ≡ out.old) }
 {
     let mut checked = match T::check(alloc, params, text) {
@@ -83,11 +83,11 @@ fn write_output<T: TextCommand, K: Sink>(
     requires ready { T.ready params.now checked.old text.now }
     requires empty { outlet.old.kept.items ≡ [] }
     ensures whole { OnOk result ((output : List ℕ) × (T.command params.now).Gives text.now output
-        × Appends (K.written out.old) output (K.written out.new)) }
+        × Appends (K.seen out.old).told output (K.seen out.new).told) }
     ensures part { OnErr result ((output : List ℕ) × (T.command params.now).Gives text.now output
-        × AppendsPrefix (K.written out.old) output (K.written out.new)) }
-    ensures quiet { OnOk result (K.faults out.new ≡ K.faults out.old) }
-    ensures cause { OnErr result (Rose (K.faults out.old) (K.faults out.new)) }
+        × AppendsPrefix (K.seen out.old).told output (K.seen out.new).told) }
+    ensures quiet { OnOk result ((K.seen out.new).faults ≡ (K.seen out.old).faults) }
+    ensures cause { OnErr result (Rose (K.seen out.old).faults (K.seen out.new).faults) }
 {
     checked.hand(params, text, outlet, out)?;
     outlet.flush(out)?;

@@ -49,9 +49,9 @@ pub trait TextCommand: Drop {
         requires short { length text.now ≤ (command params.now).limit }
         requires ready { ready params.now self.old text.now }
         ensures kept { OnOk result ((output : List ℕ) × (command params.now).Gives text.now output
-            × HandsOver output (K.written out.old) outlet.old.kept.items (K.written out.new) outlet.new.kept.items) }
+            × HandsOver output (K.seen out.old).told outlet.old.kept.items (K.seen out.new).told outlet.new.kept.items) }
         ensures part { OnErr result ((output : List ℕ) × (command params.now).Gives text.now output
-            × HandsPart output (K.written out.old) outlet.old.kept.items (K.written out.new)) }
-        ensures quiet { OnOk result (K.faults out.new ≡ K.faults out.old) }
-        ensures cause { OnErr result (Rose (K.faults out.old) (K.faults out.new)) };
+            × HandsPart output (K.seen out.old).told outlet.old.kept.items (K.seen out.new).told) }
+        ensures quiet { OnOk result ((K.seen out.new).faults ≡ (K.seen out.old).faults) }
+        ensures cause { OnErr result (Rose (K.seen out.old).faults (K.seen out.new).faults) };
 }

@@ -7,6 +7,7 @@ use Rattle.client_state.specs.declared.commit.Commit.{Commit}
 use Rattle.client_state.specs.declared.state.State.{State}
 use Rattle.lk_base.specs.declared.endpoint.Endpoint.{Endpoint}
 use Rattle.lk_outside.specs.Faults.{Rose}
+use Rattle.lk_outside.specs.Talk.{TalkSeen}
 use Rattle.link_node.specs.Event.{EventValue}
 use Rattle.link_shared.specs.Audio.{AudioView}
 use Rattle.link_shared.specs.Journal.{app_commits_in}
@@ -20,7 +21,7 @@ use Rattle.link_live.proofs.AmongLemmas.{among_in}
 use Rattle.link_live.proofs.AppLemmas.{AreOf, all_pushed, captures_published}
 use Rattle.link_control.specs.ControlRun.{ControlSetup, IsClientPart, IsTalked}
 use Rattle.link_control.specs.Log.{Answered, AreCounted, Numbered, captured_over, captures_in, commits_in, entries_of, entry_of, own_after}
-use Rattle.link_control.specs.Serving.{HasServed, TalkSeen, pairs_in}
+use Rattle.link_control.specs.Serving.{HasServed, pairs_in}
 use Rattle.link_control.specs.declared.log.LineLog.{LineLog}
 use Rattle.link_control.specs.declared.server.Served.{Served}
 use Rattle.link_control.specs.declared.server.Served.TheVariants as served

@@ -7,10 +7,11 @@ use Rattle.link_shared.specs.Passes.{AppView}
 use Rattle.lk_outside.specs.Faults.{Rose}
 use Rattle.lk_outside.specs.Sink.{Appends}
 use Rattle.lk_outside.specs.Source.{IsAtEnd, Takes}
+use Rattle.lk_outside.specs.Talk.{TalkSeen}
 use Rattle.link_text.specs.ControlLine.{IsAsked}
 use Rattle.link_control.specs.Lines.{whole_lines_of}
 use Rattle.link_control.specs.Log.{Answered, Numbered, commits_in, own_behind}
-use Rattle.link_control.specs.Serving.{AreLate, EndsServing, HasServed, HasUsed, TalkSeen, lines_in}
+use Rattle.link_control.specs.Serving.{AreLate, EndsServing, HasServed, HasUsed, lines_in}
 use Rattle.link_control.specs.ServingNow.{GoesOn, HasStopped, IsHeard, IsServing, StopsServing}
 use Rattle.link_control.specs.declared.log.LineLog.{LineLog}
 use Rattle.link_control.specs.declared.server.Served.{Served}

@@ -3,6 +3,7 @@ use Rattle.std.proofs.Common.{◌≡◌, ℕ, ℤ, pos, Bool, List, [], Option, 
 use Rattle.lk_base.specs.declared.endpoint.Endpoint.{Endpoint}
 use Rattle.lk_outside.specs.Pace.{IsPaced}
 use Rattle.lk_outside.specs.Port.{PortContents}
+use Rattle.lk_outside.specs.Talk.{TalkSeen}
 use Rattle.client_state.specs.declared.commit.Commit.{Commit}
 use Rattle.client_state.specs.declared.state.State.{State}
 use Rattle.link_node.specs.Config.{ConfigValue}
@@ -17,7 +18,6 @@ use Rattle.link_live.specs.Report.{ReportValue}
 use Rattle.link_live.proofs.NodeRunLemmas.{recorded_late}
 use Rattle.link_control.specs.ControlRun.{ControlSetup, EndsControlRun, IsTalked, first_of}
 use Rattle.link_control.specs.Log.{captures_in}
-use Rattle.link_control.specs.Serving.{TalkSeen}
 use Rattle.link_control.specs.declared.log.LineLog.{LineLog}
 use Rattle.link_control.specs.declared.server.Served.{Served}
 use Rattle.link_control.proofs.ClientLemmas.{is_client_part, made_in}

@@ -13,6 +13,7 @@ use Rattle.lk_base.specs.Ranges.{IsMoment}
 use Rattle.lk_outside.specs.Faults.{Rose}
 use Rattle.lk_outside.specs.Pace.{IsPaced}
 use Rattle.lk_outside.specs.Sink.{Appends}
+use Rattle.lk_outside.specs.Talk.{TalkSeen}
 use Rattle.link_text.specs.ControlLine.{IsAsked}
 use Rattle.link_text.specs.declared.control_line.ControlLine.{ControlLine}
 use Rattle.link_script.specs.declared.live_script.Act.{Act}
@@ -20,7 +21,7 @@ use Rattle.link_live.specs.Clients.{commit_of_act}
 use Rattle.link_control.specs.Answers.{answer_of, answers_of}
 use Rattle.link_control.specs.Lines.{whole_lines_of}
 use Rattle.link_control.specs.Log.{Answered, Numbered, act_asked, commits_in, entries_of, entry_of, own_after, own_behind}
-use Rattle.link_control.specs.Serving.{HasUsed, TalkSeen, lines_in, pairs_in}
+use Rattle.link_control.specs.Serving.{HasUsed, lines_in, pairs_in}
 use Rattle.link_control.specs.ServingNow.{AreCut, AreLogged, HasMade, HasStopped, IsDone, IsServing, IsWrittenInPart, StopsServing, number_of}
 use Rattle.link_control.specs.declared.log.LineLog.{LineLog}
 use Rattle.link_control.specs.declared.server.Served.{Served}

@@ -6,6 +6,7 @@ use Rattle.audio_handoff.specs.Cell.{Grows}
 use Rattle.lk_base.specs.declared.endpoint.Endpoint.{Endpoint}
 use Rattle.lk_outside.specs.Faults.{Rose}
 use Rattle.lk_outside.specs.Port.{PortContents}
+use Rattle.lk_outside.specs.Talk.{TalkSeen}
 use Rattle.link_node.specs.Config.{ConfigValue}
 use Rattle.link_node.specs.Event.{event_value}
 use Rattle.link_shared.specs.Journal.{AreCarried, app_commits_in}
@@ -14,7 +15,7 @@ use Rattle.link_live.specs.Headline.{ArePublished, IsRecorded}
 use Rattle.link_live.specs.NodeRun.{new_app}
 use Rattle.link_live.specs.Report.{ReportValue}
 use Rattle.link_control.specs.Log.{AreCounted, captures_in, commits_in}
-use Rattle.link_control.specs.Serving.{HasServed, TalkSeen}
+use Rattle.link_control.specs.Serving.{HasServed}
 use Rattle.link_control.specs.declared.log.LineLog.{LineLog}
 use Rattle.link_control.specs.declared.log.SessionLog.{SessionLog}
 use Rattle.link_control.specs.declared.room.ControlRoom.{ControlRoom}

@@ -20,18 +20,6 @@ use Rattle.link_control.specs.declared.log.LineLog.{LineLog}
 use Rattle.link_control.specs.declared.server.Served.{Served}
 use Rattle.link_control.specs.declared.server.Served.TheVariants as served
 
--- ---- the talk
-
--- a talk's bytes left and written where it tells them, the endpoint that it is opened at, and its count of failures
-pub record TalkSeen : Type 0 where
-  pub left : Option (List ℕ)
-  pub written : Option (List ℕ)
-  pub opened : Option Endpoint
-  pub faults : ℕ
-
-abbrev pub seen_talk : {L : Type 0} → (L → Option (List ℕ)) → (L → Option (List ℕ)) → (L → Option Endpoint) → (L → ℕ) → L → TalkSeen
-seen_talk left written opened faults l = record { left = left l; written = written l; opened = opened l; faults = faults l }
-
 -- ---- the lines
 
 abbrev pub lines_in : List Answered → List (List ℕ)

@@ -7,13 +7,14 @@ use Rattle.lk_outside.specs.Faults.{Rose}
 use Rattle.lk_outside.specs.Pace.{IsPaced}
 use Rattle.lk_outside.specs.Sink.{Appends}
 use Rattle.lk_outside.specs.Source.{Takes}
+use Rattle.lk_outside.specs.Talk.{TalkSeen}
 use Rattle.link_live.specs.Clients.{commit_of_act}
 use Rattle.link_text.specs.ControlLine.{IsAsked}
 use Rattle.link_text.specs.declared.control_line.ControlLine.{ControlLine}
 use Rattle.link_control.specs.Answers.{answers_of}
 use Rattle.link_control.specs.Lines.{whole_lines_of}
 use Rattle.link_control.specs.Log.{Answered, Numbered, act_asked, commits_in, entries_of, own_behind}
-use Rattle.link_control.specs.Serving.{ArePaced, EndsServing, HasUsed, IsAnswered, IsCutShort, TalkSeen, lines_in, pairs_in}
+use Rattle.link_control.specs.Serving.{ArePaced, EndsServing, HasUsed, IsAnswered, IsCutShort, lines_in, pairs_in}
 use Rattle.link_control.specs.declared.log.LineLog.{LineLog}
 use Rattle.link_control.specs.declared.server.Kept.{Kept}
 use Rattle.link_control.specs.declared.server.Served.{Served}

@@ -103,13 +103,13 @@ fn put_time(line: &mut LineBuf, time: i64)
 ///
 /// Waits: in the talk. Memory: none.
 pub(crate) fn say<L: Talk>(talk: &mut L, answer: &[u8]) -> bool
-    requires opened { IsSome (L.opened talk.old) }
-    ensures whole { OnTrue result (Appends (L.written talk.old) answer.now (L.written talk.new)) }
-    ensures part { OnFalse result (IsWrittenInPart (L.written talk.old) answer.now (L.written talk.new)) }
-    ensures quiet { OnTrue result (L.faults talk.new ≡ L.faults talk.old) }
-    ensures cause { OnFalse result (Rose (L.faults talk.old) (L.faults talk.new)) }
-    ensures left { L.left talk.new ≡ L.left talk.old }
-    ensures opened { L.opened talk.new ≡ L.opened talk.old }
+    requires opened { IsSome (L.seen talk.old).opened }
+    ensures whole { OnTrue result (Appends (L.seen talk.old).written answer.now (L.seen talk.new).written) }
+    ensures part { OnFalse result (IsWrittenInPart (L.seen talk.old).written answer.now (L.seen talk.new).written) }
+    ensures quiet { OnTrue result ((L.seen talk.new).faults ≡ (L.seen talk.old).faults) }
+    ensures cause { OnFalse result (Rose (L.seen talk.old).faults (L.seen talk.new).faults) }
+    ensures left { (L.seen talk.new).left ≡ (L.seen talk.old).left }
+    ensures opened { (L.seen talk.new).opened ≡ (L.seen talk.old).opened }
 {
     let mut done = 0;
     while done < answer.len() {

@@ -8,7 +8,6 @@ ghost use Rattle.link_node.specs.Runs.{AreFitting};
 ghost use Rattle.link_live.specs.NodeRun.{ArePartsOf};
 ghost use Rattle.link_control.specs.ControlRun.{EndsControlRun, EndsTell, IsReady, first_of, told_of};
 ghost use Rattle.link_control.specs.Log.{captures_in, commits_in, put_before};
-ghost use Rattle.link_control.specs.Serving.{seen_talk};
 
 use crate::log::{LineLog, SessionLog};
 use crate::room::ControlRoom;
@@ -83,8 +82,8 @@ pub fn control_run<
     requires opening { IsPaced (T.late pace.old) (pos 0) parts.opened_at }
     requires ready { IsReady room log.old }
     ensures ends { EndsControlRun (record { config = parts.config; events = parts.most; at = at }) (T.late pace.old)
-        (P.contents port.old) (P.contents port.new) (P.bound port.new) (P.faults port.old) (P.faults port.new)
-        (seen_talk L.left L.written L.opened L.faults talk.old) (seen_talk L.left L.written L.opened L.faults talk.new)
+        (P.seen port.old).told (P.seen port.new).told (P.seen port.new).gates (P.seen port.old).faults (P.seen port.new).faults
+        (L.seen talk.old) (L.seen talk.new)
         (told_of parts.config parts.opened_at result) log.new.lines.items result.end }
     ensures fitting { AreFitting (length parts.config.gates) 0 0 (map event_value result.events.items) }
 {

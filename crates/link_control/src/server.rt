@@ -7,7 +7,7 @@ ghost use Rattle.link_text.specs.ControlLine.{IsControlLine};
 ghost use Rattle.link_script.specs.LiveScript.{IsAct};
 ghost use Rattle.link_live.specs.Clients.{commit_of_act};
 ghost use Rattle.link_control.specs.Log.{act_asked};
-ghost use Rattle.link_control.specs.Serving.{HasServed, seen_talk};
+ghost use Rattle.link_control.specs.Serving.{HasServed};
 ghost use Rattle.link_control.specs.ServingNow.{HasMade, IsDone, TakesBytes, number_of};
 
 use crate::answer::{put_answer, say};
@@ -65,11 +65,11 @@ pub fn serve<C: StateCell<11>, N: LinkName, L: Talk, T: Pace, R: Wait>(
     pace: &mut T,
     log: &mut SessionLog,
 ) -> Served
-    requires opened { IsSome (L.opened talk.old) }
+    requires opened { IsSome (L.seen talk.old).opened }
     requires empty { log.old.lines.items ≡ [] }
     requires room { 4_096 ≤ vec_capacity log.old.lines }
-    ensures served { HasServed (T.late pace.old) (seen_talk L.left L.written L.opened L.faults talk.old)
-        (seen_talk L.left L.written L.opened L.faults talk.new) pass.old pass.new log.new.lines.items result }
+    ensures served { HasServed (T.late pace.old) (L.seen talk.old)
+        (L.seen talk.new) pass.old pass.new log.new.lines.items result }
 {
     let mut piece = [0u8; PIECE];
     let mut kept = Kept {
@@ -107,14 +107,14 @@ fn take_bytes<C: StateCell<11>, N: LinkName, L: Talk, T: Pace, R: Wait>(
     kept: &mut Kept,
     bytes: &[u8],
 ) -> Option<Served>
-    requires opened { IsSome (L.opened talk.old) }
+    requires opened { IsSome (L.seen talk.old).opened }
     requires room { 4_096 ≤ vec_capacity log.old.lines }
     requires moment { IsMoment kept.old.last }
-    ensures taken { TakesBytes (T.late pace.old) (seen_talk L.left L.written L.opened L.faults talk.old)
-        (seen_talk L.left L.written L.opened L.faults talk.new) pass.old pass.new log.old.lines.items log.new.lines.items kept.old kept.new
+    ensures taken { TakesBytes (T.late pace.old) (L.seen talk.old)
+        (L.seen talk.new) pass.old pass.new log.old.lines.items log.new.lines.items kept.old kept.new
         bytes.now result }
-    ensures left { L.left talk.new ≡ L.left talk.old }
-    ensures opened { L.opened talk.new ≡ L.opened talk.old }
+    ensures left { (L.seen talk.new).left ≡ (L.seen talk.old).left }
+    ensures opened { (L.seen talk.new).opened ≡ (L.seen talk.old).opened }
     ensures late { T.late pace.new ≡ T.late pace.old }
     ensures room { vec_capacity log.new.lines ≡ vec_capacity log.old.lines }
     ensures moment { IsMoment kept.new.last }
@@ -140,14 +140,14 @@ fn take_byte<C: StateCell<11>, N: LinkName, L: Talk, T: Pace, R: Wait>(
     kept: &mut Kept,
     byte: u8,
 ) -> Option<Served>
-    requires opened { IsSome (L.opened talk.old) }
+    requires opened { IsSome (L.seen talk.old).opened }
     requires room { 4_096 ≤ vec_capacity log.old.lines }
     requires moment { IsMoment kept.old.last }
-    ensures taken { TakesBytes (T.late pace.old) (seen_talk L.left L.written L.opened L.faults talk.old)
-        (seen_talk L.left L.written L.opened L.faults talk.new) pass.old pass.new log.old.lines.items log.new.lines.items kept.old kept.new
+    ensures taken { TakesBytes (T.late pace.old) (L.seen talk.old)
+        (L.seen talk.new) pass.old pass.new log.old.lines.items log.new.lines.items kept.old kept.new
         (byte ∷ []) result }
-    ensures left { L.left talk.new ≡ L.left talk.old }
-    ensures opened { L.opened talk.new ≡ L.opened talk.old }
+    ensures left { (L.seen talk.new).left ≡ (L.seen talk.old).left }
+    ensures opened { (L.seen talk.new).opened ≡ (L.seen talk.old).opened }
     ensures late { T.late pace.new ≡ T.late pace.old }
     ensures room { vec_capacity log.new.lines ≡ vec_capacity log.old.lines }
     ensures moment { IsMoment kept.new.last }
@@ -172,14 +172,14 @@ fn answer_line<C: StateCell<11>, N: LinkName, L: Talk, T: Pace, R: Wait>(
     log: &mut SessionLog,
     kept: &mut Kept,
 ) -> Option<Served>
-    requires opened { IsSome (L.opened talk.old) }
+    requires opened { IsSome (L.seen talk.old).opened }
     requires room { 4_096 ≤ vec_capacity log.old.lines }
     requires moment { IsMoment kept.old.last }
-    ensures taken { TakesBytes (T.late pace.old) (seen_talk L.left L.written L.opened L.faults talk.old)
-        (seen_talk L.left L.written L.opened L.faults talk.new) pass.old pass.new log.old.lines.items log.new.lines.items kept.old kept.new
+    ensures taken { TakesBytes (T.late pace.old) (L.seen talk.old)
+        (L.seen talk.new) pass.old pass.new log.old.lines.items log.new.lines.items kept.old kept.new
         (10 ∷ []) result }
-    ensures left { L.left talk.new ≡ L.left talk.old }
-    ensures opened { L.opened talk.new ≡ L.opened talk.old }
+    ensures left { (L.seen talk.new).left ≡ (L.seen talk.old).left }
+    ensures opened { (L.seen talk.new).opened ≡ (L.seen talk.old).opened }
     ensures late { T.late pace.new ≡ T.late pace.old }
     ensures room { vec_capacity log.new.lines ≡ vec_capacity log.old.lines }
     ensures moment { IsMoment kept.new.last }

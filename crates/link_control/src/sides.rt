@@ -3,7 +3,6 @@
 ghost use Rattle.std.specs.Prelude.{◌≡◌, true, false, Some};
 ghost use Rattle.lk_outside.specs.Faults.{Rose};
 ghost use Rattle.link_control.specs.ControlRun.{CanServe, IsTalked};
-ghost use Rattle.link_control.specs.Serving.{seen_talk};
 
 use crate::log::SessionLog;
 use crate::server::{Served, serve};
@@ -36,8 +35,8 @@ impl<N: LinkName, D: Talk, T: Pace, R: Wait> Side<
     ghost starts = { λ client pass talk pace. CanServe pass client.log };
 
     ghost runs = { λ client client_then pass pass_then talk talk_then pace pace_then ended.
-        IsTalked client.at (T.late pace) (seen_talk D.left D.written D.opened D.faults talk)
-        (seen_talk D.left D.written D.opened D.faults talk_then) pass_then client_then.log.lines.items ended };
+        IsTalked client.at (T.late pace) (D.seen talk)
+        (D.seen talk_then) pass_then client_then.log.lines.items ended };
 
     fn run(
         &mut self,
@@ -75,8 +74,8 @@ fn serve_at<C: StateCell<11>, N: LinkName, D: Talk, T: Pace, R: Wait>(
     log: &mut SessionLog,
 ) -> Served
     requires ready { CanServe pass.old log.old }
-    ensures served { IsTalked at (T.late pace.old) (seen_talk D.left D.written D.opened D.faults talk.old)
-        (seen_talk D.left D.written D.opened D.faults talk.new) pass.new log.new.lines.items result }
+    ensures served { IsTalked at (T.late pace.old) (D.seen talk.old)
+        (D.seen talk.new) pass.new log.new.lines.items result }
 {
     if !listen(talk, at) {
         return Served::Failed;
@@ -86,10 +85,10 @@ fn serve_at<C: StateCell<11>, N: LinkName, D: Talk, T: Pace, R: Wait>(
 
 // Opens the talk at an endpoint. Answers whether it is. Waits: in the talk. Memory: none.
 fn listen<L: Talk>(talk: &mut L, at: Endpoint) -> bool
-    ensures opens { result ≡ true → (L.opened talk.new ≡ Some at) × (L.faults talk.new ≡ L.faults talk.old) }
-    ensures fails { result ≡ false → (L.opened talk.new ≡ L.opened talk.old) × Rose (L.faults talk.old) (L.faults talk.new) }
-    ensures left { L.left talk.new ≡ L.left talk.old }
-    ensures written { L.written talk.new ≡ L.written talk.old }
+    ensures opens { result ≡ true → ((L.seen talk.new).opened ≡ Some at) × ((L.seen talk.new).faults ≡ (L.seen talk.old).faults) }
+    ensures fails { result ≡ false → ((L.seen talk.new).opened ≡ (L.seen talk.old).opened) × Rose (L.seen talk.old).faults (L.seen talk.new).faults }
+    ensures left { (L.seen talk.new).left ≡ (L.seen talk.old).left }
+    ensures written { (L.seen talk.new).written ≡ (L.seen talk.old).written }
 {
     match talk.listen(at) {
         Bound::Ready => true,

@@ -3,24 +3,25 @@ use Rattle.std.proofs.Common.{◌≡◌, inl, inr, ℕ, ℤ, Bool, true, false, 
 use Rattle.std.specs.declared.alloc.Global.{Global}
 use Rattle.std.specs.declared.string.String.{String}
 use Rattle.lk_base.specs.declared.endpoint.Endpoint.{Endpoint}
+use Rattle.lk_outside.specs.Port.{PortSeen}
+use Rattle.lk_outside.specs.Stream.{Stream}
+use Rattle.lk_outside.specs.Talk.{TalkSeen}
 use Rattle.link_node.specs.Config.{ConfigValue}
 use Rattle.link_text.specs.declared.live_head.LiveHead.{LiveHead}
 use Rattle.link_live.specs.Report.{IsCleared, ReportValue}
 use Rattle.link_control.specs.ControlRun.{ControlSetup, EndsControlRun, told_of}
-use Rattle.link_control.specs.Serving.{TalkSeen}
 use Rattle.link_control.specs.declared.log.LineLog.{LineLog}
 use Rattle.link_control.specs.declared.run.ControlEnd.{ControlEnd}
 use Rattle.link_control.specs.declared.run.ControlEnd.TheVariants as end
 use Rattle.link_control.specs.declared.run.ControlRun.{ControlRun}
 use Rattle.link_words.specs.ControlWords.{NamesControl}
 use Rattle.link_words.specs.declared.control_words.ControlOptions.{ControlOptions}
-use Rattle.link_commands.specs.Statuses.{Stream, WritesPart, WritesSome, WritesWhole}
+use Rattle.link_commands.specs.Statuses.{WritesPart, WritesSome, WritesWhole}
 use Rattle.link_commands.specs.declared.status.Status.{Status}
 use Rattle.link_commands.specs.declared.status.Status.TheVariants as status
 use Rattle.link_daemon.specs.ControlEnds.{ControlSeen, EndsControl, EndsControlled, HasEndedControl, IsControlSetUp, RunsControl}
 use Rattle.link_live_command.specs.HeadRead.{IsHeadRead}
 use Rattle.link_daemon.specs.ControlSetup.{control_setup_from, control_status_from, controlled_config_from}
-use Rattle.link_live_command.specs.Outside.{PortSeen}
 use Rattle.link_live_command.specs.ReportText.{live_text_of}
 use Rattle.link_live_command.proofs.RunLemmas.{wrote_some}
 

@@ -1,10 +1,11 @@
 -- How the program ends, from how the command ends that its words name.
 use Rattle.std.proofs.Common.{◌≡◌, List, ℕ, Option, Some, Global, subst, sym, ◌∙◌}
 use Rattle.std.specs.declared.string.String.{String}
+use Rattle.lk_outside.specs.Stream.{Stream}
 use Rattle.link_words.specs.CommandNames.{BeginsBy, named_by}
 use Rattle.link_words.proofs.NameLemmas.{begun_is}
 use Rattle.link_words.specs.declared.command_name.CommandName.{CommandName}
-use Rattle.link_commands.specs.Statuses.{Stream, IfNothingWritten}
+use Rattle.link_commands.specs.Statuses.{IfNothingWritten}
 use Rattle.link_commands.specs.declared.status.Status.{Status}
 use Rattle.link_commands.specs.declared.status.Status.TheVariants as status
 use Rattle.link_daemon.specs.Ends.{Ends, EndsNamed}

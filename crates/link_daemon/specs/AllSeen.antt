@@ -1,7 +1,7 @@
 -- What is seen of all objects that the top call is given, beside its input.
 use Rattle.std.specs.Prelude.{List}
+use Rattle.lk_outside.specs.Talk.{TalkSeen}
 use Rattle.link_live_command.specs.Outside.{Outside}
-use Rattle.link_control.specs.Serving.{TalkSeen}
 use Rattle.link_control.specs.declared.log.LineLog.{LineLog}
 
 -- what a live run is given, and the talk and the log of a run under control

@@ -7,23 +7,22 @@ use Rattle.std.specs.declared.string.String.{String}
 use Rattle.rand_pcg.specs.Lcg.{started, increment_of}
 use Rattle.rand_pcg.specs.Pcg.{multiplier_64}
 use Rattle.lk_base.specs.Ids.{drawn_id}
-use Rattle.lk_base.specs.declared.endpoint.Endpoint.{Endpoint}
-use Rattle.lk_outside.specs.Port.{PortContents}
+use Rattle.lk_outside.specs.Port.{PortSeen}
+use Rattle.lk_outside.specs.Stream.{Stream}
+use Rattle.lk_outside.specs.Talk.{TalkSeen}
 use Rattle.lk_outside.specs.Transfer.{TakesWithin}
 use Rattle.link_text.specs.LiveHead.{IsHeadText}
 use Rattle.link_script.specs.LiveScript.{commands_told}
 use Rattle.link_live.specs.Report.{IsCleared, ReportValue}
 use Rattle.link_control.specs.ControlRun.{ControlSetup, EndsControlRun}
-use Rattle.link_control.specs.Serving.{TalkSeen, seen_talk}
 use Rattle.link_control.specs.declared.log.LineLog.{LineLog}
 use Rattle.link_control.specs.declared.run.ControlEnd.{ControlEnd}
 use Rattle.link_control.specs.declared.run.ControlEnd.TheVariants as end
 use Rattle.link_words.specs.ControlWords.{BeginsControl, IsControl, NamesControl}
 use Rattle.link_words.specs.declared.control_words.ControlOptions.{ControlOptions}
-use Rattle.link_commands.specs.Statuses.{Stream, WasRead, WritesPart, WritesSome, WritesWhole, seen}
+use Rattle.link_commands.specs.Statuses.{WasRead, WritesPart, WritesSome, WritesWhole}
 use Rattle.link_commands.specs.declared.status.Status.{Status}
 use Rattle.link_commands.specs.declared.status.Status.TheVariants as status
-use Rattle.link_live_command.specs.Outside.{PortSeen, seen_port}
 use Rattle.link_live_command.specs.ReportText.{live_text_of}
 use Rattle.link_live_command.specs.ScriptRead.{EndsHeadRead}
 
@@ -37,16 +36,12 @@ pub record ControlSeen : Type 0 where
   pub report : ReportValue
   pub log : List LineLog
 
--- what is seen of them by what their traits tell
-abbrev pub control_seen_of : {P L T K : Type 0}
-    → (P → Option PortContents) → (P → List Endpoint) → (P → ℕ)
-    → (L → Option (List ℕ)) → (L → Option (List ℕ)) → (L → Option Endpoint) → (L → ℕ) → (T → Option ℤ)
-    → (K → Option (List ℕ)) → (K → ℕ) → P → L → T → K → ReportValue → List LineLog → ControlSeen
-control_seen_of port_told gates port_faults left written opened talk_faults late out_told out_faults p l t k report log = record {
-  port = seen_port port_told gates port_faults p;
-  talk = seen_talk left written opened talk_faults l;
-  late = late t;
-  out = seen out_told out_faults k;
+abbrev pub control_seen_of : PortSeen → TalkSeen → Option ℤ → Stream → ReportValue → List LineLog → ControlSeen
+control_seen_of port talk late out report log = record {
+  port = port;
+  talk = talk;
+  late = late;
+  out = out;
   report = report;
   log = log;
 }

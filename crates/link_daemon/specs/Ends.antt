@@ -2,10 +2,11 @@
 use Rattle.std.specs.Prelude.{◌≡◌, ℕ, List, Option, Some, None}
 use Rattle.std.specs.declared.alloc.Global.{Global}
 use Rattle.std.specs.declared.string.String.{String}
+use Rattle.lk_outside.specs.Stream.{Stream}
 use Rattle.link_words.specs.CommandNames.{named_by}
 use Rattle.link_words.specs.declared.command_name.CommandName.{CommandName}
 use Rattle.link_words.specs.declared.command_name.CommandName.TheVariants as name
-use Rattle.link_commands.specs.Statuses.{Stream, EndsDecode, EndsFilter, EndsLoad, EndsMidi, EndsReplay}
+use Rattle.link_commands.specs.Statuses.{EndsDecode, EndsFilter, EndsLoad, EndsMidi, EndsReplay}
 use Rattle.link_commands.specs.declared.status.Status.{Status}
 use Rattle.link_commands.specs.declared.status.Status.TheVariants as status
 use Rattle.link_daemon.specs.ControlEnds.{ControlSeen, EndsControl}

@@ -6,7 +6,6 @@ ghost use Rattle.link_node.specs.Config.{config_value, gate_value};
 ghost use Rattle.link_script.specs.LiveScript.{IsLiveHead};
 ghost use Rattle.link_live.specs.Report.{report_value};
 ghost use Rattle.link_control.specs.ControlRun.{IsReady, told_of};
-ghost use Rattle.link_commands.specs.Statuses.{seen};
 ghost use Rattle.link_daemon.specs.ControlEnds.{EndsControl, EndsControlled, control_seen_of};
 ghost use Rattle.link_daemon.specs.ControlSetup.{control_setup_from, control_status_from, controlled_config_from};
 ghost use Rattle.link_live_command.specs.LiveEnds.{IfNotBegun};
@@ -53,11 +52,9 @@ pub fn control_main<
     report: &mut Report,
     log: &mut SessionLog,
 ) -> Status
-    ensures ends { EndsControl words.now seed (seen S.left S.faults input.old) (seen S.left S.faults input.new)
-        (control_seen_of P.contents P.bound P.faults L.left L.written L.opened L.faults T.late K.written K.faults
-        port.old talk.old pace.old out.old (report_value report.old) log.old.lines.items)
-        (control_seen_of P.contents P.bound P.faults L.left L.written L.opened L.faults T.late K.written K.faults
-        port.new talk.new pace.new out.new (report_value report.new) log.new.lines.items)
+    ensures ends { EndsControl words.now seed (S.seen input.old) (S.seen input.new)
+        (control_seen_of (P.seen port.old) (L.seen talk.old) (T.late pace.old) (K.seen out.old) (report_value report.old) log.old.lines.items)
+        (control_seen_of (P.seen port.new) (L.seen talk.new) (T.late pace.new) (K.seen out.new) (report_value report.new) log.new.lines.items)
         result }
 
     // No object is called, or the input alone.
@@ -101,10 +98,8 @@ fn run_head<P: Port + Send, L: Talk + Send, T: Pace + Send, K: Sink, R: Threads 
     requires head { IsLiveHead head.mpb (map gate_value head.gates.items) }
     requires log { log.old.lines.items ≡ [] }
     ensures ends { EndsControlled (control_setup_from seed options.now head)
-        (control_seen_of P.contents P.bound P.faults L.left L.written L.opened L.faults T.late K.written K.faults
-        port.old talk.old pace.old out.old (report_value report.old) log.old.lines.items)
-        (control_seen_of P.contents P.bound P.faults L.left L.written L.opened L.faults T.late K.written K.faults
-        port.new talk.new pace.new out.new (report_value report.new) log.new.lines.items)
+        (control_seen_of (P.seen port.old) (L.seen talk.old) (T.late pace.old) (K.seen out.old) (report_value report.old) log.old.lines.items)
+        (control_seen_of (P.seen port.new) (L.seen talk.new) (T.late pace.new) (K.seen out.new) (report_value report.new) log.new.lines.items)
         result }
     ensures unbegun { result ≡ Status.Memory → report.new.published.items ≡ []
         → (port.new ≡ port.old) × (talk.new ≡ talk.old) × (out.new ≡ out.old) }

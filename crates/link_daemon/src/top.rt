@@ -3,14 +3,13 @@
 ghost use Rattle.std.specs.Prelude.{◌≡◌, []};
 ghost use Rattle.link_daemon.specs.Ends.{Ends};
 ghost use Rattle.link_live_command.specs.LiveEnds.{IfNotBegun};
-ghost use Rattle.link_control.specs.Serving.{seen_talk};
 ghost use Rattle.link_words.specs.ControlWords.{BeginsControl};
 ghost use Rattle.link_words.specs.LiveWords.{BeginsLive};
 ghost use Rattle.link_words.specs.LoadWords.{BeginsLoad};
 ghost use Rattle.link_daemon.specs.AllSeen.{all_seen_of};
 ghost use Rattle.link_live_command.specs.Outside.{outside_of};
 ghost use Rattle.link_live.specs.Report.{report_value};
-ghost use Rattle.link_commands.specs.Statuses.{IfNothingWritten, seen};
+ghost use Rattle.link_commands.specs.Statuses.{IfNothingWritten};
 
 use crate::control::control_main;
 use link_commands::{Status, decode_main, filter_main, load_main, midi_main, replay_main};
@@ -50,13 +49,11 @@ pub fn link_main<
     report: &mut Report,
     log: &mut SessionLog,
 ) -> Status
-    ensures ends { Ends words.now seed (seen S.left S.faults input.old) (seen S.left S.faults input.new)
-        (all_seen_of (outside_of P.contents P.bound P.faults A.contents A.faults T.late K.written K.faults
-        port.old audio.old pace.old out.old (report_value report.old))
-        (seen_talk L.left L.written L.opened L.faults talk.old) log.old.lines.items)
-        (all_seen_of (outside_of P.contents P.bound P.faults A.contents A.faults T.late K.written K.faults
-        port.new audio.new pace.new out.new (report_value report.new))
-        (seen_talk L.left L.written L.opened L.faults talk.new) log.new.lines.items)
+    ensures ends { Ends words.now seed (S.seen input.old) (S.seen input.new)
+        (all_seen_of (outside_of (P.seen port.old) (A.seen audio.old) (T.late pace.old) (K.seen out.old) (report_value report.old))
+        (L.seen talk.old) log.old.lines.items)
+        (all_seen_of (outside_of (P.seen port.new) (A.seen audio.new) (T.late pace.new) (K.seen out.new) (report_value report.new))
+        (L.seen talk.new) log.new.lines.items)
         result }
 
     // No object is called, or just those of the command.

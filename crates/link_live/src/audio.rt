@@ -48,9 +48,9 @@ pub fn audio_loop<C: StateCell<11, Way = ()>, N: LinkName, A: Audio>(
     requires empty { (report.old.reads.items ≡ []) × (report.old.commits.items ≡ []) × (report.old.plays.items ≡ []) }
     requires room { (blocks ≤ vec_capacity report.old.reads) × (blocks ≤ vec_capacity report.old.plays) }
     requires room_for_commits { length script.now.blocks.items ≤ vec_capacity report.old.commits }
-    ensures run { IsAudioRun blocks script.now.blocks.items pass.old pass.new (A.contents audio.old) (A.contents audio.new)
+    ensures run { IsAudioRun blocks script.now.blocks.items pass.old pass.new (A.seen audio.old).told (A.seen audio.new).told
         report.new.reads.items report.new.commits.items (map (λ clicks. clicks.items) report.new.plays.items) (not result) }
-    ensures cause { HasAudioCause (A.faults audio.old) (A.faults audio.new) result }
+    ensures cause { HasAudioCause (A.seen audio.old).faults (A.seen audio.new).faults result }
 {
     let mut played = 0;
     while played < blocks {
@@ -88,11 +88,11 @@ fn audio_block<C: StateCell<11, Way = ()>, N: LinkName, A: Audio>(
         × (length report.old.plays.items < vec_capacity report.old.plays) }
     requires room_for_commits { length report.old.commits.items + length (acts_in number commands.now) ≤ vec_capacity report.old.commits }
     ensures run { (first : AudioView) (told : Option AudioContents)
-        → IsPlaying commands.now number first pass.old told (A.contents audio.old)
+        → IsPlaying commands.now number first pass.old told (A.seen audio.old).told
         report.old.reads.items report.old.commits.items (map (λ clicks. clicks.items) report.old.plays.items)
-        → AfterBlock result commands.now number first pass.new told (A.contents audio.new)
+        → AfterBlock result commands.now number first pass.new told (A.seen audio.new).told
         report.new.reads.items report.new.commits.items (map (λ clicks. clicks.items) report.new.plays.items) }
-    ensures cause { HasBlockCause (A.faults audio.old) (A.faults audio.new) result }
+    ensures cause { HasBlockCause (A.seen audio.old).faults (A.seen audio.new).faults result }
     ensures capacity { (vec_capacity report.new.reads ≡ vec_capacity report.old.reads)
         × (vec_capacity report.new.commits ≡ vec_capacity report.old.commits)
         × (vec_capacity report.new.plays ≡ vec_capacity report.old.plays) }

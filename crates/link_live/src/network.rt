@@ -65,10 +65,10 @@ pub fn network_loop<C: StateCell<11>, N: LinkName, P: Port, R: Wait>(
     sends: &mut Sends,
 ) -> NetEnd
     requires empty { hub.old.journal ≡ [] }
-    requires gates { bound ≡ true → P.bound port.old ≡ locals_of hub.old.config }
-    ensures run { IsNetworkRun hub.old hub.new (P.contents port.old) (P.contents port.new) result.clock result.failed result.full }
-    ensures cause { HasCause bound (P.faults port.old) (P.faults port.new) (P.contents port.old) (P.contents port.new) result.failed }
-    ensures gates { P.bound port.new ≡ P.bound port.old }
+    requires gates { bound ≡ true → (P.seen port.old).gates ≡ locals_of hub.old.config }
+    ensures run { IsNetworkRun hub.old hub.new (P.seen port.old).told (P.seen port.new).told result.clock result.failed result.full }
+    ensures cause { HasCause bound (P.seen port.old).faults (P.seen port.new).faults (P.seen port.old).told (P.seen port.new).told result.failed }
+    ensures gates { (P.seen port.new).gates ≡ (P.seen port.old).gates }
 {
     let mut line = Line {
         clock: hub.moment(),
@@ -100,14 +100,14 @@ fn network_turn<C: StateCell<11>, N: LinkName, P: Port, R: Wait>(
     sends: &mut Sends,
 ) -> bool
     requires moment { IsMoment line.old.clock }
-    requires gates { line.old.failed ≡ false → P.bound port.old ≡ locals_of hub.old.config }
-    ensures run { (first : HubView) (told : Option PortContents) → IsRunning first hub.old told (P.contents port.old) line.old false
-        → IsRunning first hub.new told (P.contents port.new) line.new result }
+    requires gates { line.old.failed ≡ false → (P.seen port.old).gates ≡ locals_of hub.old.config }
+    ensures run { (first : HubView) (told : Option PortContents) → IsRunning first hub.old told (P.seen port.old).told line.old false
+        → IsRunning first hub.new told (P.seen port.new).told line.new result }
     ensures config { hub.new.config ≡ hub.old.config }
-    ensures gates { P.bound port.new ≡ P.bound port.old }
-    ensures works { line.new.failed ≡ false → (line.old.failed ≡ false) × (P.faults port.new ≡ P.faults port.old) }
-    ensures fails { line.old.failed ≡ false → line.new.failed ≡ true → Rose (P.faults port.old) (P.faults port.new) }
-    ensures unbound { line.old.failed ≡ true → (line.new.failed ≡ true) × (P.faults port.new ≡ P.faults port.old) × (P.contents port.new ≡ P.contents port.old) }
+    ensures gates { (P.seen port.new).gates ≡ (P.seen port.old).gates }
+    ensures works { line.new.failed ≡ false → (line.old.failed ≡ false) × ((P.seen port.new).faults ≡ (P.seen port.old).faults) }
+    ensures fails { line.old.failed ≡ false → line.new.failed ≡ true → Rose (P.seen port.old).faults (P.seen port.new).faults }
+    ensures unbound { line.old.failed ≡ true → (line.new.failed ≡ true) × ((P.seen port.new).faults ≡ (P.seen port.old).faults) × ((P.seen port.new).told ≡ (P.seen port.old).told) }
 {
     // Laws, for the proof.
     run_laws();
@@ -137,12 +137,12 @@ fn rest_where_idle<R: Wait>(rt: &R, line: Line, quit: bool, grew: bool) {
 // Waits: in the port. Memory: none.
 fn ask<P: Port>(port: &mut P, due: i64, line: &mut Line) -> Got
     requires moment { IsMoment line.old.clock }
-    requires gates { line.old.failed ≡ false → 0 < length (P.bound port.old) }
-    ensures asked { HasAsked (length (P.bound port.old)) due line.old line.new (P.contents port.old) (P.contents port.new) result }
-    ensures gates { P.bound port.new ≡ P.bound port.old }
-    ensures works { line.new.failed ≡ false → P.faults port.new ≡ P.faults port.old }
-    ensures fails { line.old.failed ≡ false → line.new.failed ≡ true → Rose (P.faults port.old) (P.faults port.new) }
-    ensures unbound { line.old.failed ≡ true → P.faults port.new ≡ P.faults port.old }
+    requires gates { line.old.failed ≡ false → 0 < length (P.seen port.old).gates }
+    ensures asked { HasAsked (length (P.seen port.old).gates) due line.old line.new (P.seen port.old).told (P.seen port.new).told result }
+    ensures gates { (P.seen port.new).gates ≡ (P.seen port.old).gates }
+    ensures works { line.new.failed ≡ false → (P.seen port.new).faults ≡ (P.seen port.old).faults }
+    ensures fails { line.old.failed ≡ false → line.new.failed ≡ true → Rose (P.seen port.old).faults (P.seen port.new).faults }
+    ensures unbound { line.old.failed ≡ true → (P.seen port.new).faults ≡ (P.seen port.old).faults }
 {
     if due <= line.clock {
         return Got::Tick;
@@ -178,12 +178,12 @@ fn ask<P: Port>(port: &mut P, due: i64, line: &mut Line) -> Got
 /// Sends the datagrams in order, unless the port has failed. Answers whether it has then.
 /// Waits: in the port. Memory: none.
 pub fn post<P: Port>(port: &mut P, sends: &[Sending], failed: bool) -> bool
-    requires gates { failed ≡ false → AllByRecursion (λ s. s.gate.0 < length (P.bound port.old)) (map sending_value sends.now) }
-    ensures posted { HasPosted (map sending_value sends.now) failed result (P.contents port.old) (P.contents port.new) }
-    ensures gates { P.bound port.new ≡ P.bound port.old }
-    ensures works { result ≡ false → P.faults port.new ≡ P.faults port.old }
-    ensures fails { failed ≡ false → result ≡ true → Rose (P.faults port.old) (P.faults port.new) }
-    ensures unbound { failed ≡ true → (P.faults port.new ≡ P.faults port.old) × (P.contents port.new ≡ P.contents port.old) }
+    requires gates { failed ≡ false → AllByRecursion (λ s. s.gate.0 < length (P.seen port.old).gates) (map sending_value sends.now) }
+    ensures posted { HasPosted (map sending_value sends.now) failed result (P.seen port.old).told (P.seen port.new).told }
+    ensures gates { (P.seen port.new).gates ≡ (P.seen port.old).gates }
+    ensures works { result ≡ false → (P.seen port.new).faults ≡ (P.seen port.old).faults }
+    ensures fails { failed ≡ false → result ≡ true → Rose (P.seen port.old).faults (P.seen port.new).faults }
+    ensures unbound { failed ≡ true → ((P.seen port.new).faults ≡ (P.seen port.old).faults) × ((P.seen port.new).told ≡ (P.seen port.old).told) }
 {
     if failed {
         return true;
@@ -198,12 +198,12 @@ pub fn post<P: Port>(port: &mut P, sends: &[Sending], failed: bool) -> bool
 
 // Sends a datagram. Answers whether the port works. Waits: in the port. Memory: none.
 fn post_one<P: Port>(port: &mut P, sending: &Sending) -> bool
-    requires gate { sending.now.gate.0 < length (P.bound port.old) }
-    ensures sent { result ≡ true → BothTell (PostsOne (post_of (sending_value sending.now))) (P.contents port.old) (P.contents port.new) }
-    ensures failed { result ≡ false → P.contents port.new ≡ P.contents port.old }
-    ensures gates { P.bound port.new ≡ P.bound port.old }
-    ensures works { result ≡ true → P.faults port.new ≡ P.faults port.old }
-    ensures fails { result ≡ false → Rose (P.faults port.old) (P.faults port.new) }
+    requires gate { sending.now.gate.0 < length (P.seen port.old).gates }
+    ensures sent { result ≡ true → BothTell (PostsOne (post_of (sending_value sending.now))) (P.seen port.old).told (P.seen port.new).told }
+    ensures failed { result ≡ false → (P.seen port.new).told ≡ (P.seen port.old).told }
+    ensures gates { (P.seen port.new).gates ≡ (P.seen port.old).gates }
+    ensures works { result ≡ true → (P.seen port.new).faults ≡ (P.seen port.old).faults }
+    ensures fails { result ≡ false → Rose (P.seen port.old).faults (P.seen port.new).faults }
 {
     match port.send(sending.gate, sending.to, &sending.bytes) {
         Posted::Sent | Posted::Dropped => true,

@@ -77,8 +77,8 @@ pub fn run_node<
     ensures run { (pass : AudioView) × (own : AppView)
         × A.runs audio.old audio.new new_audio pass device.old device.new tt tt result.audio
         × B.runs app.old app.new new_app own first.old first.new second.old second.new result.app
-        × IsNodeRun parts.config parts.opened_at parts.most result.failed result.full (P.contents port.old) (P.contents port.new)
-        (P.bound port.new) (P.faults port.old) (P.faults port.new) pass own (map event_value result.events.items) result.published.items }
+        × IsNodeRun parts.config parts.opened_at parts.most result.failed result.full (P.seen port.old).told (P.seen port.new).told
+        (P.seen port.new).gates (P.seen port.old).faults (P.seen port.new).faults pass own (map event_value result.events.items) result.published.items }
     ensures fitting { AreFitting (length parts.config.gates) 0 0 (map event_value result.events.items) }
 {
     // Laws, for the proof.
@@ -124,10 +124,10 @@ pub fn run_node<
 /// Binds the config's gates. Answers whether the port did. Waits: in the port. Memory: none.
 pub fn bind<P: Port>(port: &mut P, config: &Config) -> bool
     requires config { IsConfig (config_value config.now) }
-    ensures gates { result ≡ true → P.bound port.new ≡ locals_of (config_value config.now) }
-    ensures works { result ≡ true → P.faults port.new ≡ P.faults port.old }
-    ensures fails { result ≡ false → Rose (P.faults port.old) (P.faults port.new) }
-    ensures contents { P.contents port.new ≡ P.contents port.old }
+    ensures gates { result ≡ true → (P.seen port.new).gates ≡ locals_of (config_value config.now) }
+    ensures works { result ≡ true → (P.seen port.new).faults ≡ (P.seen port.old).faults }
+    ensures fails { result ≡ false → Rose (P.seen port.old).faults (P.seen port.new).faults }
+    ensures contents { (P.seen port.new).told ≡ (P.seen port.old).told }
 {
     match port.bind(&locals(&config.gates)) {
         Bound::Ready => true,

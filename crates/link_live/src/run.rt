@@ -75,8 +75,8 @@ pub fn live_run<
     requires opening { IsPaced (T.late pace.old) (pos 0) parts.opened_at }
     requires ready { IsReady script.now blocks room }
     ensures ends { EndsLiveRun (setup_of parts.config parts.most script.now blocks) (T.late pace.old)
-        (P.contents port.old) (P.contents port.new) (P.bound port.new) (P.faults port.old) (P.faults port.new)
-        (A.contents audio.old) (A.contents audio.new) (A.faults audio.old) (A.faults audio.new)
+        (P.seen port.old).told (P.seen port.new).told (P.seen port.new).gates (P.seen port.old).faults (P.seen port.new).faults
+        (A.seen audio.old).told (A.seen audio.new).told (A.seen audio.old).faults (A.seen audio.new).faults
         (told_of parts.config parts.opened_at result) result.end }
     ensures few { length result.audio.plays.items ≤ blocks }
     ensures fitting { AreFitting (length parts.config.gates) 0 0 (map event_value result.events.items) }

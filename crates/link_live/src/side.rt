@@ -63,10 +63,10 @@ pub(crate) trait NetworkSide<R, L, P> {
 impl<N: LinkName, P: Port, R: Wait> NetworkSide<R, Link<Triple<11>, N>, P> for Hub<Triple<11>, N> {
     ghost use Rattle.link_live.specs.Loops.{CanRun, HasRun};
 
-    ghost starts = { λ hub port bound. CanRun bound hub (P.bound port) };
+    ghost starts = { λ hub port bound. CanRun bound hub (P.seen port).gates };
 
-    ghost runs = { λ hub hub_then port port_then bound end. HasRun bound hub hub_then (P.contents port) (P.contents port_then)
-        (P.bound port) (P.bound port_then) (P.faults port) (P.faults port_then) end };
+    ghost runs = { λ hub hub_then port port_then bound end. HasRun bound hub hub_then (P.seen port).told (P.seen port_then).told
+        (P.seen port).gates (P.seen port_then).gates (P.seen port).faults (P.seen port_then).faults end };
 
     fn run(
         &mut self,

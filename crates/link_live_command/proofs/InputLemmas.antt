@@ -1,7 +1,8 @@
 -- How a live script, or the head of one, is read, from how its text is.
 use Rattle.std.proofs.Common.{◌≡◌, ◌≤◌, List, ℕ, subst}
+use Rattle.lk_outside.specs.Stream.{Stream}
 use Rattle.link_script.specs.LiveScript.{commands_told}
-use Rattle.link_commands.specs.Statuses.{Stream, WasRead}
+use Rattle.link_commands.specs.Statuses.{WasRead}
 use Rattle.link_commands.specs.declared.status.Grammar.{Grammar}
 use Rattle.link_commands.specs.declared.status.Grammar.TheVariants as grammar
 use Rattle.link_commands.specs.declared.status.Status.{Status}

@@ -3,6 +3,9 @@ use Rattle.std.proofs.Common.{◌≡◌, ◌<◌, ◌^◌, inl, inr, ℕ, ℤ, B
 use Rattle.std.specs.declared.alloc.Global.{Global}
 use Rattle.std.specs.declared.string.String.{String}
 use Rattle.lk_base.specs.Ranges.{IsMoment, IsQuantum}
+use Rattle.lk_outside.specs.Audio.{AudioSeen}
+use Rattle.lk_outside.specs.Port.{PortSeen}
+use Rattle.lk_outside.specs.Stream.{Stream}
 use Rattle.link_node.specs.Config.{ConfigValue, gate_value}
 use Rattle.link_node.specs.Event.{EventValue, event_value}
 use Rattle.link_node.specs.Runs.{AreFitting}
@@ -14,10 +17,10 @@ use Rattle.link_live_command.specs.LiveEnds.{EndsLive, EndsRun, IsReplayable, Is
 use Rattle.link_live.specs.LiveRun.{EndsLiveRun, setup_of, told_of}
 use Rattle.link_live_command.specs.LiveSetup.{IsRead, config_from, setup_from, status_from}
 use Rattle.link_words.specs.LiveWords.{NamesLive}
-use Rattle.link_live_command.specs.Outside.{AudioSeen, Outside, PortSeen}
+use Rattle.link_live_command.specs.Outside.{Outside}
 use Rattle.link_live.specs.Report.{IsCleared, ReportValue}
 use Rattle.link_live_command.specs.ReportText.{live_text_of}
-use Rattle.link_commands.specs.Statuses.{Stream, WritesPart, WritesWhole}
+use Rattle.link_commands.specs.Statuses.{WritesPart, WritesWhole}
 use Rattle.link_live.specs.declared.run.LiveEnd.{LiveEnd}
 use Rattle.link_live.specs.declared.run.LiveEnd.TheVariants as end
 use Rattle.link_live.specs.declared.run.LiveRun.{LiveRun}

@@ -7,12 +7,13 @@ use Rattle.lk_base.specs.declared.endpoint.Endpoint.{Endpoint}
 use Rattle.lk_outside.specs.Faults.{Rose}
 use Rattle.lk_outside.specs.Port.{PortContents}
 use Rattle.lk_outside.specs.Sink.{Appends}
+use Rattle.lk_outside.specs.Stream.{Stream}
 use Rattle.lk_outside.specs.Transfer.{AppendsPrefix}
 use Rattle.link_node.specs.Config.{ConfigValue}
 use Rattle.link_node.specs.Runs.{published_of}
 use Rattle.link_live.specs.Headline.{IsRecorded}
 use Rattle.link_live.specs.Report.{ReportValue}
-use Rattle.link_commands.specs.Statuses.{Stream, WritesPart, WritesSome, WritesWhole}
+use Rattle.link_commands.specs.Statuses.{WritesPart, WritesSome, WritesWhole}
 
 -- ---- the opening
 

@@ -7,6 +7,7 @@ use Rattle.std.specs.declared.string.String.{String}
 use Rattle.rand_pcg.specs.Lcg.{started, increment_of}
 use Rattle.rand_pcg.specs.Pcg.{multiplier_64}
 use Rattle.lk_base.specs.Ids.{drawn_id}
+use Rattle.lk_outside.specs.Stream.{Stream}
 use Rattle.lk_outside.specs.Transfer.{TakesWithin}
 use Rattle.link_script.specs.LiveScript.{IsLiveText, commands_told}
 use Rattle.link_script.specs.ReplayScript.{IsScriptOf}
@@ -17,7 +18,7 @@ use Rattle.link_live_command.specs.Outside.{Outside}
 use Rattle.link_live.specs.Report.{IsCleared, ReportValue}
 use Rattle.link_live_command.specs.ReportText.{live_text_of}
 use Rattle.link_live_command.specs.ScriptRead.{EndsRead}
-use Rattle.link_commands.specs.Statuses.{Stream, WasRead, WritesPart, WritesSome, WritesWhole}
+use Rattle.link_commands.specs.Statuses.{WasRead, WritesPart, WritesSome, WritesWhole}
 use Rattle.link_live.specs.declared.run.LiveEnd.{LiveEnd}
 use Rattle.link_live.specs.declared.run.LiveEnd.TheVariants as end
 use Rattle.link_words.specs.declared.live_words.LiveOptions.{LiveOptions}

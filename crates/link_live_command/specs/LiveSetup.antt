@@ -3,12 +3,13 @@ use Rattle.std.specs.Prelude.{◌≤◌, ℕ, Bool, true, false, List, map}
 use Rattle.rand_pcg.specs.Lcg.{started, increment_of}
 use Rattle.rand_pcg.specs.Pcg.{multiplier_64}
 use Rattle.lk_base.specs.Ids.{drawn_id}
+use Rattle.lk_outside.specs.Stream.{Stream}
 use Rattle.link_node.specs.Config.{ConfigValue, gate_value}
 use Rattle.link_script.specs.LiveScript.{IsLiveText, commands_told}
 use Rattle.link_script.specs.declared.live_script.LiveScript.{LiveScript}
 use Rattle.link_live.specs.Headline.{LiveSetup}
 use Rattle.link_live.specs.LiveRun.{setup_of}
-use Rattle.link_commands.specs.Statuses.{Stream, WasRead}
+use Rattle.link_commands.specs.Statuses.{WasRead}
 use Rattle.link_live.specs.declared.run.LiveEnd.{LiveEnd}
 use Rattle.link_live.specs.declared.run.LiveEnd.TheVariants as end
 use Rattle.link_words.specs.declared.live_words.LiveOptions.{LiveOptions}

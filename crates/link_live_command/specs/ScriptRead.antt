@@ -2,10 +2,11 @@
 -- text over the limit, too many commands, a text outside the grammar.
 use Rattle.std.specs.Prelude.{◌≡◌, ◌≤◌, ◌<◌, ◌+◌, ℕ, List}
 use Rattle.lk_outside.specs.Faults.{Rose}
+use Rattle.lk_outside.specs.Stream.{Stream}
 use Rattle.lk_outside.specs.Transfer.{TakesOver, TakesWithin}
 use Rattle.link_text.specs.LiveHead.{IsHeadLineFault}
 use Rattle.link_script.specs.LiveScript.{IsLiveLineFault, commands_told}
-use Rattle.link_commands.specs.Statuses.{Stream, WasRead}
+use Rattle.link_commands.specs.Statuses.{WasRead}
 use Rattle.link_commands.specs.declared.status.Grammar.{Grammar}
 use Rattle.link_commands.specs.declared.status.Grammar.TheVariants as grammar
 use Rattle.link_commands.specs.declared.status.Status.{Status}

@@ -1,7 +1,7 @@
 //! How a live script, or the head of one, is read to its end.
 
 ghost use Rattle.std.specs.Prelude.{IfOk, IfErr};
-ghost use Rattle.link_commands.specs.Statuses.{WasRead, seen};
+ghost use Rattle.link_commands.specs.Statuses.{WasRead};
 ghost use Rattle.link_live_command.specs.HeadRead.{IsHeadRead};
 ghost use Rattle.link_live_command.specs.LiveSetup.{IsRead};
 ghost use Rattle.link_live_command.specs.ScriptRead.{EndsHeadRead, EndsRead, EndsReadOf};
@@ -24,8 +24,8 @@ const MOST_COMMANDS: u64 = 4_096;
 ///
 /// Waits: in the source's calls alone. Memory: the text, and the script.
 pub fn read_script<S: Source>(alloc: Global, input: &mut S) -> Result<LiveScript, Status>
-    ensures script { IfOk result (λ script. IsRead (seen S.left S.faults input.old) (seen S.left S.faults input.new) script) }
-    ensures fault { IfErr result (EndsRead (seen S.left S.faults input.old) (seen S.left S.faults input.new)) }
+    ensures script { IfOk result (λ script. IsRead (S.seen input.old) (S.seen input.new) script) }
+    ensures fault { IfErr result (EndsRead (S.seen input.old) (S.seen input.new)) }
 {
     let text = match text_of(alloc, input) {
         Ok(text) => text,
@@ -49,8 +49,8 @@ pub fn read_script<S: Source>(alloc: Global, input: &mut S) -> Result<LiveScript
 ///
 /// Waits: in the source's calls alone. Memory: the text.
 pub fn read_head<S: Source>(alloc: Global, input: &mut S) -> Result<LiveHead, Status>
-    ensures head { IfOk result (λ head. IsHeadRead (seen S.left S.faults input.old) (seen S.left S.faults input.new) head) }
-    ensures fault { IfErr result (EndsHeadRead (seen S.left S.faults input.old) (seen S.left S.faults input.new)) }
+    ensures head { IfOk result (λ head. IsHeadRead (S.seen input.old) (S.seen input.new) head) }
+    ensures fault { IfErr result (EndsHeadRead (S.seen input.old) (S.seen input.new)) }
 {
     let text = match text_of(alloc, input) {
         Ok(text) => text,
@@ -71,9 +71,9 @@ pub fn read_head<S: Source>(alloc: Global, input: &mut S) -> Result<LiveHead, St
 
 // Reads a text to its end; or says why there is none.
 fn text_of<S: Source>(alloc: Global, input: &mut S) -> Result<Vec<u8>, Status>
-    ensures text { IfOk result (λ text. WasRead 16_777_216 (seen S.left S.faults input.old) (seen S.left S.faults input.new) text.items) }
+    ensures text { IfOk result (λ text. WasRead 16_777_216 (S.seen input.old) (S.seen input.new) text.items) }
     // No line of it is at fault: this can be said of a text of any grammar.
-    ensures fault { IfErr result (EndsReadOf Grammar.LiveScript (λ text line. ⊥) (seen S.left S.faults input.old) (seen S.left S.faults input.new)) }
+    ensures fault { IfErr result (EndsReadOf Grammar.LiveScript (λ text line. ⊥) (S.seen input.old) (S.seen input.new)) }
 {
     match read_all(alloc, input, MOST_BYTES) {
         Ok(text) => Ok(text),

@@ -9,7 +9,6 @@ ghost use Rattle.link_live_command.specs.LiveEnds.{EndsLive, EndsRun, IfNotBegun
 ghost use Rattle.link_live_command.specs.LiveSetup.{config_from, setup_from, status_from};
 ghost use Rattle.link_live_command.specs.Outside.{outside_of};
 ghost use Rattle.link_live.specs.Report.{report_value};
-ghost use Rattle.link_commands.specs.Statuses.{seen};
 
 use crate::input::read_script;
 use crate::sayable::are_sayable;
@@ -55,9 +54,9 @@ pub fn live_main<
     out: &mut K,
     report: &mut Report,
 ) -> Status
-    ensures ends { EndsLive words.now seed (seen S.left S.faults input.old) (seen S.left S.faults input.new)
-        (outside_of P.contents P.bound P.faults A.contents A.faults T.late K.written K.faults port.old audio.old pace.old out.old (report_value report.old))
-        (outside_of P.contents P.bound P.faults A.contents A.faults T.late K.written K.faults port.new audio.new pace.new out.new (report_value report.new))
+    ensures ends { EndsLive words.now seed (S.seen input.old) (S.seen input.new)
+        (outside_of (P.seen port.old) (A.seen audio.old) (T.late pace.old) (K.seen out.old) (report_value report.old))
+        (outside_of (P.seen port.new) (A.seen audio.new) (T.late pace.new) (K.seen out.new) (report_value report.new))
         result }
 
     // No object is called, or the input alone.
@@ -99,8 +98,8 @@ fn run_script<P: Port + Send, A: Audio + Send, T: Pace + Send, K: Sink, R: Threa
     requires script { (bytes : List ℕ) × (length bytes ≤ 16_777_216) × IsLiveText bytes script.mpb script.sync
         (map gate_value script.gates.items) script.apps.items script.blocks.items }
     ensures ends { EndsRun (setup_from seed options.now script) options.now.«record»
-        (outside_of P.contents P.bound P.faults A.contents A.faults T.late K.written K.faults port.old audio.old pace.old out.old (report_value report.old))
-        (outside_of P.contents P.bound P.faults A.contents A.faults T.late K.written K.faults port.new audio.new pace.new out.new (report_value report.new))
+        (outside_of (P.seen port.old) (A.seen audio.old) (T.late pace.old) (K.seen out.old) (report_value report.old))
+        (outside_of (P.seen port.new) (A.seen audio.new) (T.late pace.new) (K.seen out.new) (report_value report.new))
         result }
     ensures unbegun { result ≡ Status.Memory → report.new.published.items ≡ []
         → (port.new ≡ port.old) × (audio.new ≡ audio.old) × (out.new ≡ out.old) }

@@ -31,11 +31,11 @@ pub fn hand_report<K: Sink>(
 ) -> Result<(), SinkFailed>
     requires few { length report.now.plays.items ≤ 524_288 }
     ensures kept { OnOk result (HandsOver (live_text_of (report_value report.entry.now) recorded)
-        (K.written out.old) outlet.old.kept.items (K.written out.new) outlet.new.kept.items) }
+        (K.seen out.old).told outlet.old.kept.items (K.seen out.new).told outlet.new.kept.items) }
     ensures part { OnErr result (HandsPart (live_text_of (report_value report.entry.now) recorded)
-        (K.written out.old) outlet.old.kept.items (K.written out.new)) }
-    ensures quiet { OnOk result (K.faults out.new ≡ K.faults out.old) }
-    ensures cause { OnErr result (Rose (K.faults out.old) (K.faults out.new)) }
+        (K.seen out.old).told outlet.old.kept.items (K.seen out.new).told) }
+    ensures quiet { OnOk result ((K.seen out.new).faults ≡ (K.seen out.old).faults) }
+    ensures cause { OnErr result (Rose (K.seen out.old).faults (K.seen out.new).faults) }
 {
     let mut line = LineBuf::new();
     hand_counts(report, &mut line, outlet, out)?;
@@ -55,11 +55,11 @@ fn hand_counts<K: Sink>(
 ) -> Result<(), SinkFailed>
     requires few { length report.now.plays.items ≤ 524_288 }
     ensures kept { OnOk result (HandsOver (live_line_of (report_value report.entry.now))
-        (K.written out.old) outlet.old.kept.items (K.written out.new) outlet.new.kept.items) }
+        (K.seen out.old).told outlet.old.kept.items (K.seen out.new).told outlet.new.kept.items) }
     ensures part { OnErr result (HandsPart (live_line_of (report_value report.entry.now))
-        (K.written out.old) outlet.old.kept.items (K.written out.new)) }
-    ensures quiet { OnOk result (K.faults out.new ≡ K.faults out.old) }
-    ensures cause { OnErr result (Rose (K.faults out.old) (K.faults out.new)) }
+        (K.seen out.old).told outlet.old.kept.items (K.seen out.new).told) }
+    ensures quiet { OnOk result ((K.seen out.new).faults ≡ (K.seen out.old).faults) }
+    ensures cause { OnErr result (Rose (K.seen out.old).faults (K.seen out.new).faults) }
 {
     write_counts(line, report);
     outlet.put_line(out, line.as_slice())
@@ -114,11 +114,11 @@ fn hand_last_state<K: Sink>(
     out: &mut K,
 ) -> Result<(), SinkFailed>
     ensures kept { OnOk result (HandsOver (last_state_text_of 0 published.now)
-        (K.written out.old) outlet.old.kept.items (K.written out.new) outlet.new.kept.items) }
+        (K.seen out.old).told outlet.old.kept.items (K.seen out.new).told outlet.new.kept.items) }
     ensures part { OnErr result (HandsPart (last_state_text_of 0 published.now)
-        (K.written out.old) outlet.old.kept.items (K.written out.new)) }
-    ensures quiet { OnOk result (K.faults out.new ≡ K.faults out.old) }
-    ensures cause { OnErr result (Rose (K.faults out.old) (K.faults out.new)) }
+        (K.seen out.old).told outlet.old.kept.items (K.seen out.new).told) }
+    ensures quiet { OnOk result ((K.seen out.new).faults ≡ (K.seen out.old).faults) }
+    ensures cause { OnErr result (Rose (K.seen out.old).faults (K.seen out.new).faults) }
 {
     let Some(state) = published.last() else {
         return Ok(());
@@ -136,12 +136,12 @@ fn hand_record<K: Sink>(
 ) -> Result<(), SinkFailed>
     ensures kept { OnOk result (HandsOver (written_script_of (config_value report.entry.now.config) report.entry.now.now
         (map event_value report.entry.now.events.items))
-        (K.written out.old) outlet.old.kept.items (K.written out.new) outlet.new.kept.items) }
+        (K.seen out.old).told outlet.old.kept.items (K.seen out.new).told outlet.new.kept.items) }
     ensures part { OnErr result (HandsPart (written_script_of (config_value report.entry.now.config) report.entry.now.now
         (map event_value report.entry.now.events.items))
-        (K.written out.old) outlet.old.kept.items (K.written out.new)) }
-    ensures quiet { OnOk result (K.faults out.new ≡ K.faults out.old) }
-    ensures cause { OnErr result (Rose (K.faults out.old) (K.faults out.new)) }
+        (K.seen out.old).told outlet.old.kept.items (K.seen out.new).told) }
+    ensures quiet { OnOk result ((K.seen out.new).faults ≡ (K.seen out.old).faults) }
+    ensures cause { OnErr result (Rose (K.seen out.old).faults (K.seen out.new).faults) }
 {
     hand_head(&report.config, report.now, line, outlet, out)?;
     hand_events(&report.events, line, outlet, out)
@@ -156,11 +156,11 @@ fn hand_head<K: Sink>(
     out: &mut K,
 ) -> Result<(), SinkFailed>
     ensures kept { OnOk result (HandsOver (flat_map ended (head_lines 2 (config_value config.now) now))
-        (K.written out.old) outlet.old.kept.items (K.written out.new) outlet.new.kept.items) }
+        (K.seen out.old).told outlet.old.kept.items (K.seen out.new).told outlet.new.kept.items) }
     ensures part { OnErr result (HandsPart (flat_map ended (head_lines 2 (config_value config.now) now))
-        (K.written out.old) outlet.old.kept.items (K.written out.new)) }
-    ensures quiet { OnOk result (K.faults out.new ≡ K.faults out.old) }
-    ensures cause { OnErr result (Rose (K.faults out.old) (K.faults out.new)) }
+        (K.seen out.old).told outlet.old.kept.items (K.seen out.new).told) }
+    ensures quiet { OnOk result ((K.seen out.new).faults ≡ (K.seen out.old).faults) }
+    ensures cause { OnErr result (Rose (K.seen out.old).faults (K.seen out.new).faults) }
 {
     for k in 0..head_length(config) {
         let _there = write_head(line, config, now, k);
@@ -188,11 +188,11 @@ fn hand_events<K: Sink>(
     out: &mut K,
 ) -> Result<(), SinkFailed>
     ensures kept { OnOk result (HandsOver (flat_map (λ e. ended (event_line e)) (map event_value events.now))
-        (K.written out.old) outlet.old.kept.items (K.written out.new) outlet.new.kept.items) }
+        (K.seen out.old).told outlet.old.kept.items (K.seen out.new).told outlet.new.kept.items) }
     ensures part { OnErr result (HandsPart (flat_map (λ e. ended (event_line e)) (map event_value events.now))
-        (K.written out.old) outlet.old.kept.items (K.written out.new)) }
-    ensures quiet { OnOk result (K.faults out.new ≡ K.faults out.old) }
-    ensures cause { OnErr result (Rose (K.faults out.old) (K.faults out.new)) }
+        (K.seen out.old).told outlet.old.kept.items (K.seen out.new).told) }
+    ensures quiet { OnOk result ((K.seen out.new).faults ≡ (K.seen out.old).faults) }
+    ensures cause { OnErr result (Rose (K.seen out.old).faults (K.seen out.new).faults) }
 {
     for event in events {
         hand_event(event, line, outlet, out)?;
@@ -208,11 +208,11 @@ fn hand_event<K: Sink>(
     out: &mut K,
 ) -> Result<(), SinkFailed>
     ensures kept { OnOk result (HandsOver (ended (event_line (event_value event.now)))
-        (K.written out.old) outlet.old.kept.items (K.written out.new) outlet.new.kept.items) }
+        (K.seen out.old).told outlet.old.kept.items (K.seen out.new).told outlet.new.kept.items) }
     ensures part { OnErr result (HandsPart (ended (event_line (event_value event.now)))
-        (K.written out.old) outlet.old.kept.items (K.written out.new)) }
-    ensures quiet { OnOk result (K.faults out.new ≡ K.faults out.old) }
-    ensures cause { OnErr result (Rose (K.faults out.old) (K.faults out.new)) }
+        (K.seen out.old).told outlet.old.kept.items (K.seen out.new).told) }
+    ensures quiet { OnOk result ((K.seen out.new).faults ≡ (K.seen out.old).faults) }
+    ensures cause { OnErr result (Rose (K.seen out.old).faults (K.seen out.new).faults) }
 {
     write_event(line, event);
     outlet.put_line(out, line.as_slice())

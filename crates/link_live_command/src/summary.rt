@@ -23,10 +23,10 @@ pub fn write_report<K: Sink>(
 ) -> Result<(), SinkFailed>
     requires few { length report.now.plays.items ≤ 524_288 }
     requires empty { outlet.old.kept.items ≡ [] }
-    ensures whole { OnOk result (Appends (K.written out.old) (live_text_of (report_value report.entry.now) recorded) (K.written out.new)) }
-    ensures part { OnErr result (AppendsPrefix (K.written out.old) (live_text_of (report_value report.entry.now) recorded) (K.written out.new)) }
-    ensures quiet { OnOk result (K.faults out.new ≡ K.faults out.old) }
-    ensures cause { OnErr result (Rose (K.faults out.old) (K.faults out.new)) }
+    ensures whole { OnOk result (Appends (K.seen out.old).told (live_text_of (report_value report.entry.now) recorded) (K.seen out.new).told) }
+    ensures part { OnErr result (AppendsPrefix (K.seen out.old).told (live_text_of (report_value report.entry.now) recorded) (K.seen out.new).told) }
+    ensures quiet { OnOk result ((K.seen out.new).faults ≡ (K.seen out.old).faults) }
+    ensures cause { OnErr result (Rose (K.seen out.old).faults (K.seen out.new).faults) }
 {
     hand_report(report, recorded, outlet, out)?;
     outlet.flush(out)

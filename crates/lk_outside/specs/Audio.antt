@@ -16,6 +16,11 @@ pub record AudioContents : Type 0 where
   pub given : List Block
   pub plays : List (List Click)
 
+-- a device's contents where it tells them, and its count of failures
+pub record AudioSeen : Type 0 where
+  pub told : Option AudioContents
+  pub faults : ℕ
+
 -- Rule: An audio block begins at a moment and is 1 to 1,000,000 microseconds long.
 pub record IsBlock (block : Block) : Type 0 where
   pub start : IsMoment block.start

@@ -1,14 +1,11 @@
 -- What callers see of a sink in memory.
-use Rattle.std.specs.Prelude.{◌≡◌, ℕ, ◌+◌, ◌-◌, ◌^◌, min, List, [], length, Option, Some}
+use Rattle.std.specs.Prelude.{◌≡◌, ℕ, ◌+◌, ◌-◌, ◌^◌, min, List, [], length, Some}
+use Rattle.lk_outside.specs.Stream.{Stream}
 use Rattle.lk_outside.specs.declared.bytes_sink.BytesSink.{BytesSink}
 
 -- the bytes written
 abbrev pub bytes_of : BytesSink → List ℕ
 bytes_of sink = sink.bytes.items
-
--- the same as a sink that always tells
-abbrev pub written_of : BytesSink → Option (List ℕ)
-written_of sink = Some (bytes_of sink)
 
 -- how many bytes there is room for in all
 abbrev pub room_of : BytesSink → ℕ
@@ -37,6 +34,10 @@ next_write_of sink = min (writes_of sink + 1) (2 ^ 64 - 1)
 -- how many writes failed, up to the last value of the count's type
 abbrev pub faults_of : BytesSink → ℕ
 faults_of sink = sink.faults
+
+-- what is seen of it, as of a sink that always tells
+abbrev pub seen_of : BytesSink → Stream
+seen_of sink = record { told = Some (bytes_of sink); faults = faults_of sink }
 
 -- no write is to fail while there is room
 abbrev pub IsQuietSink : BytesSink → Type 0

@@ -1,14 +1,11 @@
 -- What callers see of a source in memory.
-use Rattle.std.specs.Prelude.{◌≡◌, ℕ, ◌+◌, ◌-◌, ◌^◌, min, List, [], drop, Option, Some}
+use Rattle.std.specs.Prelude.{◌≡◌, ℕ, ◌+◌, ◌-◌, ◌^◌, min, List, [], drop, Some}
+use Rattle.lk_outside.specs.Stream.{Stream}
 use Rattle.lk_outside.specs.declared.bytes_source.BytesSource.{BytesSource}
 
 -- the bytes left
 abbrev pub rest_of : BytesSource → List ℕ
 rest_of source = drop source.given source.bytes.items
-
--- the same as a source that always tells
-abbrev pub left_of : BytesSource → Option (List ℕ)
-left_of source = Some (rest_of source)
 
 -- the most bytes that a read gives
 abbrev pub most_of : BytesSource → ℕ
@@ -29,6 +26,10 @@ next_read_of source = min (reads_of source + 1) (2 ^ 64 - 1)
 -- how many reads failed, up to the last value of the count's type
 abbrev pub faults_of : BytesSource → ℕ
 faults_of source = source.faults
+
+-- what is seen of it, as of a source that always tells
+abbrev pub seen_of : BytesSource → Stream
+seen_of source = record { told = Some (rest_of source); faults = faults_of source }
 
 -- no read is to fail
 abbrev pub IsQuietSource : BytesSource → Type 0

@@ -1,4 +1,5 @@
 pub mod Faults
+pub mod Stream
 pub mod Source
 pub mod Sink
 pub mod Contents

@@ -1,9 +1,9 @@
 -- What callers see of an audio device in memory.
-use Rattle.std.specs.Prelude.{◌≡◌, ℕ, ◌+◌, ◌-◌, ◌^◌, min, List, [], length, map, take, drop, Option, Some}
+use Rattle.std.specs.Prelude.{◌≡◌, ℕ, ◌+◌, ◌-◌, ◌^◌, min, List, [], length, map, take, drop, Some}
 use Rattle.lk_base.specs.declared.block.Block.{Block}
 use Rattle.lk_base.specs.declared.block.Click.{Click}
 use Rattle.arrayvec.specs.ArrayVec.{ArrayVec}
-use Rattle.lk_outside.specs.Audio.{AudioContents}
+use Rattle.lk_outside.specs.Audio.{AudioContents, AudioSeen}
 use Rattle.lk_outside.specs.declared.list_audio.ListAudio.{ListAudio}
 
 -- the clicks of each play, as plain data
@@ -29,10 +29,6 @@ contents_of audio = record {
   given = given_of audio;
   plays = clicks_in (plays_of audio);
 }
-
--- the same as an audio device that always tells
-abbrev pub told_of : ListAudio → Option AudioContents
-told_of audio = Some (contents_of audio)
 
 -- how many plays there is room for in all
 abbrev pub room_of : ListAudio → ℕ
@@ -65,6 +61,10 @@ next_try_of audio = min (tries_of audio + 1) (2 ^ 64 - 1)
 -- how many calls failed, up to the last value of the count's type
 abbrev pub faults_of : ListAudio → ℕ
 faults_of audio = audio.faults
+
+-- what is seen of it, as of a device that always tells
+abbrev pub seen_of : ListAudio → AudioSeen
+seen_of audio = record { told = Some (contents_of audio); faults = faults_of audio }
 
 -- no call is to fail while there is room
 abbrev pub IsQuietAudio : ListAudio → Type 0

@@ -1,9 +1,9 @@
 -- What callers see of a port in memory.
-use Rattle.std.specs.Prelude.{◌≡◌, ℕ, ◌+◌, ◌-◌, ◌^◌, min, List, [], length, map, take, drop, Option, Some}
+use Rattle.std.specs.Prelude.{◌≡◌, ℕ, ◌+◌, ◌-◌, ◌^◌, min, List, [], length, map, take, drop, Some}
 use Rattle.lk_base.specs.declared.endpoint.Endpoint.{Endpoint}
 use Rattle.lk_outside.specs.Arrivals.{PostValue}
 use Rattle.lk_outside.specs.Coming.{arrivals_in}
-use Rattle.lk_outside.specs.Port.{PortContents}
+use Rattle.lk_outside.specs.Port.{PortContents, PortSeen}
 use Rattle.lk_outside.specs.declared.list_port.ListPort.{ListPort}
 use Rattle.lk_outside.specs.declared.list_port.Post.{Post}
 use Rattle.lk_outside.specs.declared.port.Arrival.{Arrival}
@@ -31,10 +31,6 @@ contents_of port = record {
   given = arrivals_in (given_of port);
   posted = map post_value (posts_of port);
 }
-
--- the same as a port that always tells
-abbrev pub told_of : ListPort → Option PortContents
-told_of port = Some (contents_of port)
 
 -- the local endpoints of the gates bound
 abbrev pub bound_of : ListPort → List Endpoint
@@ -79,6 +75,10 @@ next_send_of port = min (sends_of port + 1) (2 ^ 64 - 1)
 -- how many calls failed, up to the last value of the count's type
 abbrev pub faults_of : ListPort → ℕ
 faults_of port = port.faults
+
+-- what is seen of it, as of a port that always tells
+abbrev pub seen_of : ListPort → PortSeen
+seen_of port = record { told = Some (contents_of port); gates = bound_of port; faults = faults_of port }
 
 -- no call is to fail but for another cause
 abbrev pub IsQuietPort : ListPort → Type 0

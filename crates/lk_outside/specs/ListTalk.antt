@@ -1,23 +1,16 @@
 -- What callers see of a talk in memory.
 use Rattle.std.specs.Prelude.{◌≡◌, ℕ, ◌+◌, ◌-◌, ◌^◌, min, List, [], length, drop, Option, Some}
 use Rattle.lk_base.specs.declared.endpoint.Endpoint.{Endpoint}
+use Rattle.lk_outside.specs.Talk.{TalkSeen}
 use Rattle.lk_outside.specs.declared.list_talk.ListTalk.{ListTalk}
 
 -- the client's bytes that are left
 abbrev pub rest_of : ListTalk → List ℕ
 rest_of talk = drop talk.given talk.bytes.items
 
--- the same as a talk that always tells
-abbrev pub left_of : ListTalk → Option (List ℕ)
-left_of talk = Some (rest_of talk)
-
 -- the bytes written
 abbrev pub bytes_of : ListTalk → List ℕ
 bytes_of talk = talk.written.items
-
--- the same as a talk that always tells
-abbrev pub written_of : ListTalk → Option (List ℕ)
-written_of talk = Some (bytes_of talk)
 
 -- the endpoint that it was opened at last, if it was
 abbrev pub opened_of : ListTalk → Option Endpoint
@@ -66,6 +59,15 @@ next_write_of talk = min (writes_of talk + 1) (2 ^ 64 - 1)
 -- how many calls failed, up to the last value of the count's type
 abbrev pub faults_of : ListTalk → ℕ
 faults_of talk = talk.faults
+
+-- what is seen of it, as of a talk that always tells
+abbrev pub seen_of : ListTalk → TalkSeen
+seen_of talk = record {
+  left = Some (rest_of talk);
+  written = Some (bytes_of talk);
+  opened = opened_of talk;
+  faults = faults_of talk;
+}
 
 -- no call is to fail while there is room
 abbrev pub IsQuietTalk : ListTalk → Type 0

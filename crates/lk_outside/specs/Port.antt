@@ -17,6 +17,12 @@ pub record PortContents : Type 0 where
   pub given : List ArrivalValue
   pub posted : List PostValue
 
+-- a port's contents where it tells them, the local endpoints of its gates, and its count of failures
+pub record PortSeen : Type 0 where
+  pub told : Option PortContents
+  pub gates : List Endpoint
+  pub faults : ℕ
+
 -- ---- bind
 
 -- Rule: A bind that succeeds replaces the gates bound before, and a bind that fails keeps them.

@@ -1,7 +1,6 @@
 //! What asks for sound and plays it.
 
-ghost use Rattle.std.specs.Prelude.{ℕ, Option};
-ghost use Rattle.lk_outside.specs.Audio.{AudioContents, IsNext, GivesNext, HasNextCause, Plays, HasPlayCause};
+ghost use Rattle.lk_outside.specs.Audio.{AudioSeen, IsNext, GivesNext, HasNextCause, Plays, HasPlayCause};
 
 use lk_base::{Block, Clicks};
 
@@ -27,20 +26,18 @@ pub enum Played {
 
 /// An audio device, which asks for the clicks of one block after the other.
 pub trait Audio {
-    /// The blocks left, those given and what was played, where the device tells them.
-    ghost contents: { Self → Option AudioContents };
-
-    /// How often a call has failed. It never falls, and stays at its type's last value.
-    ghost faults: { Self → ℕ };
+    /// The blocks left, those given and what was played, where the device tells them, and how often a call has failed. That count never
+    /// falls, and stays at its type's last value.
+    ghost seen: { Self → AudioSeen };
 
     /// The next block: its start is a moment, its length at most a second.
     fn next(&mut self) -> Next
         ensures answer { IsNext result }
-        ensures contents { GivesNext (contents self.old) (contents self.new) result }
-        ensures cause { HasNextCause (faults self.old) (faults self.new) result };
+        ensures contents { GivesNext (seen self.old).told (seen self.new).told result }
+        ensures cause { HasNextCause (seen self.old).faults (seen self.new).faults result };
 
     /// Plays the clicks of a block.
     fn play(&mut self, clicks: &Clicks) -> Played
-        ensures contents { Plays (contents self.old) (contents self.new) clicks.now.items result }
-        ensures cause { HasPlayCause (faults self.old) (faults self.new) result };
+        ensures contents { Plays (seen self.old).told (seen self.new).told clicks.now.items result }
+        ensures cause { HasPlayCause (seen self.old).faults (seen self.new).faults result };
 }

@@ -74,15 +74,13 @@ impl Sink for BytesSink {
     ghost use Rattle.std.specs.Prelude.{◌≡◌, ◌↔◌, ◌⊎◌, ◌+◌, ◌-◌, ◌^◌, min};
     ghost use Rattle.lk_outside.specs.Failing.{FailsAt};
     ghost use Rattle.lk_outside.specs.Sink.{Accepts, HasWriteCause, IfTook};
-    ghost use Rattle.lk_outside.specs.BytesSink.{written_of, room_of, room_left_of, most_of, failing_of, writes_of, next_write_of, faults_of, IsQuietSink};
+    ghost use Rattle.lk_outside.specs.BytesSink.{seen_of, room_of, room_left_of, most_of, failing_of, writes_of, next_write_of, faults_of, IsQuietSink};
 
-    ghost written = { written_of };
-
-    ghost faults = { faults_of };
+    ghost seen = { seen_of };
 
     fn write(&mut self, bytes: &[u8]) -> Put
         requires { 0 < length bytes.now }
-        ensures bytes { Accepts (written_of self.old) (written_of self.new) bytes.now result }
+        ensures bytes { Accepts (seen_of self.old).told (seen_of self.new).told bytes.now result }
         ensures cause { HasWriteCause (faults_of self.old) (faults_of self.new) result }
 
         // Which write fails, and how much another one takes.

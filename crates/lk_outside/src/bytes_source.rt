@@ -64,16 +64,14 @@ impl Source for BytesSource {
     ghost use Rattle.std.specs.Prelude.{◌≡◌, ◌↔◌, ◌+◌, ◌-◌, ◌^◌, min};
     ghost use Rattle.lk_outside.specs.Failing.{FailsAt};
     ghost use Rattle.lk_outside.specs.Source.{Gives, KeepsRest, HasReadCause, IfGot};
-    ghost use Rattle.lk_outside.specs.BytesSource.{left_of, rest_of, most_of, failing_of, reads_of, next_read_of, faults_of, IsQuietSource};
+    ghost use Rattle.lk_outside.specs.BytesSource.{seen_of, rest_of, most_of, failing_of, reads_of, next_read_of, faults_of, IsQuietSource};
 
-    ghost left = { left_of };
-
-    ghost faults = { faults_of };
+    ghost seen = { seen_of };
 
     fn read(&mut self, buf: &mut [u8]) -> Taken
         requires { 0 < length buf.old }
-        ensures bytes { Gives (left_of self.old) (left_of self.new) buf.new result }
-        ensures rest { KeepsRest (left_of self.old) buf.old buf.new result }
+        ensures bytes { Gives (seen_of self.old).told (seen_of self.new).told buf.new result }
+        ensures rest { KeepsRest (seen_of self.old).told buf.old buf.new result }
         ensures cause { HasReadCause (faults_of self.old) (faults_of self.new) result }
 
         // Which read fails, and how much another one gives.

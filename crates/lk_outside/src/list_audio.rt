@@ -97,15 +97,13 @@ impl Audio for ListAudio {
     ghost use Rattle.std.specs.Prelude.{◌≡◌, ◌↔◌, ◌⊎◌, ◌+◌, ◌-◌, ◌^◌, ◌<◌, min};
     ghost use Rattle.lk_outside.specs.Failing.{FailsAt};
     ghost use Rattle.lk_outside.specs.Audio.{IsNext, GivesNext, HasNextCause, Plays, HasPlayCause};
-    ghost use Rattle.lk_outside.specs.ListAudio.{told_of, room_of, room_left_of, failing_of, asks_of, next_ask_of, tries_of, next_try_of, faults_of, IsQuietAudio};
+    ghost use Rattle.lk_outside.specs.ListAudio.{seen_of, room_of, room_left_of, failing_of, asks_of, next_ask_of, tries_of, next_try_of, faults_of, IsQuietAudio};
 
-    ghost contents = { told_of };
-
-    ghost faults = { faults_of };
+    ghost seen = { seen_of };
 
     fn next(&mut self) -> Next
         ensures answer { IsNext result }
-        ensures contents { GivesNext (told_of self.old) (told_of self.new) result }
+        ensures contents { GivesNext (seen_of self.old).told (seen_of self.new).told result }
         ensures cause { HasNextCause (faults_of self.old) (faults_of self.new) result }
 
         // Which call for the next block fails.
@@ -137,7 +135,7 @@ impl Audio for ListAudio {
     }
 
     fn play(&mut self, clicks: &Clicks) -> Played
-        ensures contents { Plays (told_of self.old) (told_of self.new) clicks.now.items result }
+        ensures contents { Plays (seen_of self.old).told (seen_of self.new).told clicks.now.items result }
         ensures cause { HasPlayCause (faults_of self.old) (faults_of self.new) result }
 
         // Which play fails.

@@ -141,19 +141,15 @@ impl Port for ListPort {
     ghost use Rattle.lk_outside.specs.Coming.{BeginsAstray};
     ghost use Rattle.lk_outside.specs.Failing.{FailsAt};
     ghost use Rattle.lk_outside.specs.Port.{Binds, HasBindCause, Receives, HasReceiveCause, Posts, HasSendCause};
-    ghost use Rattle.lk_outside.specs.ListPort.{told_of, contents_of, bound_of, room_of, room_left_of, failing_of, binds_of, next_bind_of, receives_of, next_receive_of, sends_of, next_send_of, faults_of, IsQuietPort};
+    ghost use Rattle.lk_outside.specs.ListPort.{seen_of, contents_of, bound_of, room_of, room_left_of, failing_of, binds_of, next_bind_of, receives_of, next_receive_of, sends_of, next_send_of, faults_of, IsQuietPort};
 
-    ghost contents = { told_of };
-
-    ghost bound = { bound_of };
-
-    ghost faults = { faults_of };
+    ghost seen = { seen_of };
 
     fn bind(&mut self, gates: &[Endpoint]) -> Bound
         requires some { 0 < length gates.now }
         requires few { length gates.now ≤ 4 }
         ensures gates { Binds (bound_of self.old) (bound_of self.new) gates.now result }
-        ensures contents { told_of self.new ≡ told_of self.old }
+        ensures contents { (seen_of self.new).told ≡ (seen_of self.old).told }
         ensures cause { HasBindCause (faults_of self.old) (faults_of self.new) result }
 
         // Which bind fails.
@@ -184,7 +180,7 @@ impl Port for ListPort {
     fn receive(&mut self, _until: i64) -> Arrival
         requires { 0 < length (bound_of self.old) }
         ensures answer { IsAnswer (length (bound_of self.old)) result }
-        ensures contents { Receives (told_of self.old) (told_of self.new) result }
+        ensures contents { Receives (seen_of self.old).told (seen_of self.new).told result }
         ensures gates { bound_of self.new ≡ bound_of self.old }
         ensures cause { HasReceiveCause (faults_of self.old) (faults_of self.new) result }
 
@@ -222,7 +218,7 @@ impl Port for ListPort {
 
     fn send(&mut self, gate: Gate, to: Endpoint, bytes: &[u8]) -> Posted
         requires { gate.0 < length (bound_of self.old) }
-        ensures contents { Posts (told_of self.old) (told_of self.new)
+        ensures contents { Posts (seen_of self.old).told (seen_of self.new).told
             (record { gate = gate; to = to; bytes = bytes.now }) result }
         ensures gates { bound_of self.new ≡ bound_of self.old }
         ensures cause { HasSendCause (faults_of self.old) (faults_of self.new) result }

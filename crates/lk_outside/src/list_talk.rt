@@ -99,20 +99,14 @@ impl Talk for ListTalk {
     ghost use Rattle.lk_outside.specs.Sink.{Accepts, HasWriteCause, IfTook};
     ghost use Rattle.lk_outside.specs.Source.{Gives, HasReadCause, IfGot, KeepsRest};
     ghost use Rattle.lk_outside.specs.Talk.{Opens};
-    ghost use Rattle.lk_outside.specs.ListTalk.{left_of, rest_of, written_of, opened_of, most_of, room_of, room_left_of, failing_of, listens_of, next_listen_of, reads_of, next_read_of, writes_of, next_write_of, faults_of, IsQuietTalk};
+    ghost use Rattle.lk_outside.specs.ListTalk.{seen_of, rest_of, opened_of, most_of, room_of, room_left_of, failing_of, listens_of, next_listen_of, reads_of, next_read_of, writes_of, next_write_of, faults_of, IsQuietTalk};
 
-    ghost left = { left_of };
-
-    ghost written = { written_of };
-
-    ghost opened = { opened_of };
-
-    ghost faults = { faults_of };
+    ghost seen = { seen_of };
 
     fn listen(&mut self, at: Endpoint) -> Bound
         ensures opened { Opens (opened_of self.old) (opened_of self.new) at result }
-        ensures left { left_of self.new ≡ left_of self.old }
-        ensures written { written_of self.new ≡ written_of self.old }
+        ensures left { (seen_of self.new).left ≡ (seen_of self.old).left }
+        ensures written { (seen_of self.new).written ≡ (seen_of self.old).written }
         ensures cause { HasBindCause (faults_of self.old) (faults_of self.new) result }
 
         // Which call fails.
@@ -140,9 +134,9 @@ impl Talk for ListTalk {
     fn read(&mut self, buf: &mut [u8]) -> Taken
         requires some { 0 < length buf.old }
         requires opened { IsSome (opened_of self.old) }
-        ensures bytes { Gives (left_of self.old) (left_of self.new) buf.new result }
-        ensures rest { KeepsRest (left_of self.old) buf.old buf.new result }
-        ensures written { written_of self.new ≡ written_of self.old }
+        ensures bytes { Gives (seen_of self.old).left (seen_of self.new).left buf.new result }
+        ensures rest { KeepsRest (seen_of self.old).left buf.old buf.new result }
+        ensures written { (seen_of self.new).written ≡ (seen_of self.old).written }
         ensures opened { opened_of self.new ≡ opened_of self.old }
         ensures cause { HasReadCause (faults_of self.old) (faults_of self.new) result }
 
@@ -179,8 +173,8 @@ impl Talk for ListTalk {
     fn write(&mut self, bytes: &[u8]) -> Put
         requires some { 0 < length bytes.now }
         requires opened { IsSome (opened_of self.old) }
-        ensures bytes { Accepts (written_of self.old) (written_of self.new) bytes.now result }
-        ensures left { left_of self.new ≡ left_of self.old }
+        ensures bytes { Accepts (seen_of self.old).written (seen_of self.new).written bytes.now result }
+        ensures left { (seen_of self.new).left ≡ (seen_of self.old).left }
         ensures opened { opened_of self.new ≡ opened_of self.old }
         ensures cause { HasWriteCause (faults_of self.old) (faults_of self.new) result }
 

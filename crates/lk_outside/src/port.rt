@@ -1,9 +1,8 @@
 //! Where datagrams come from and go to.
 
-ghost use Rattle.std.specs.Prelude.{◌≡◌, ℕ, List, Option, ◌<◌, ◌≤◌, length};
-ghost use Rattle.lk_base.specs.declared.endpoint.Endpoint.{Endpoint};
+ghost use Rattle.std.specs.Prelude.{◌≡◌, ◌<◌, ◌≤◌, length};
 ghost use Rattle.lk_outside.specs.Arrivals.{IsAnswer, PostValue};
-ghost use Rattle.lk_outside.specs.Port.{PortContents, Binds, HasBindCause, Receives, HasReceiveCause, Posts, HasSendCause};
+ghost use Rattle.lk_outside.specs.Port.{PortSeen, Binds, HasBindCause, Receives, HasReceiveCause, Posts, HasSendCause};
 
 use lk_base::{Endpoint, Gate, Wire};
 
@@ -48,36 +47,31 @@ pub enum Posted {
 
 /// The sockets of a node, one a gate, numbered from 0.
 pub trait Port {
-    /// The arrivals left, those given and the datagrams posted, where the port tells them.
-    ghost contents: { Self → Option PortContents };
-
-    /// The local endpoints of the gates bound, in order.
-    ghost bound: { Self → List Endpoint };
-
-    /// How often a call has failed. It never falls, and stays at its type's last value.
-    ghost faults: { Self → ℕ };
+    /// The arrivals left, those given and the datagrams posted, where the port tells them; the local endpoints of the gates bound, in
+    /// order; and how often a call has failed. That count never falls, and stays at its type's last value.
+    ghost seen: { Self → PortSeen };
 
     /// Binds one gate to each of these local endpoints, in place of those bound before.
     fn bind(&mut self, gates: &[Endpoint]) -> Bound
         requires some { 0 < length gates.now }
         requires few { length gates.now ≤ 4 }
-        ensures gates { Binds (bound self.old) (bound self.new) gates.now result }
-        ensures contents { contents self.new ≡ contents self.old }
-        ensures cause { HasBindCause (faults self.old) (faults self.new) result };
+        ensures gates { Binds (seen self.old).gates (seen self.new).gates gates.now result }
+        ensures contents { (seen self.new).told ≡ (seen self.old).told }
+        ensures cause { HasBindCause (seen self.old).faults (seen self.new).faults result };
 
     /// The next datagram that comes on any gate, or that none came until the moment `until`, in microseconds.
     fn receive(&mut self, until: i64) -> Arrival
-        requires { 0 < length (bound self.old) }
-        ensures answer { IsAnswer (length (bound self.old)) result }
-        ensures contents { Receives (contents self.old) (contents self.new) result }
-        ensures gates { bound self.new ≡ bound self.old }
-        ensures cause { HasReceiveCause (faults self.old) (faults self.new) result };
+        requires { 0 < length (seen self.old).gates }
+        ensures answer { IsAnswer (length (seen self.old).gates) result }
+        ensures contents { Receives (seen self.old).told (seen self.new).told result }
+        ensures gates { (seen self.new).gates ≡ (seen self.old).gates }
+        ensures cause { HasReceiveCause (seen self.old).faults (seen self.new).faults result };
 
     /// Sends a datagram from a gate to an endpoint.
     fn send(&mut self, gate: Gate, to: Endpoint, bytes: &[u8]) -> Posted
-        requires { gate.0 < length (bound self.old) }
-        ensures contents { Posts (contents self.old) (contents self.new)
+        requires { gate.0 < length (seen self.old).gates }
+        ensures contents { Posts (seen self.old).told (seen self.new).told
             (record { gate = gate; to = to; bytes = bytes.now }) result }
-        ensures gates { bound self.new ≡ bound self.old }
-        ensures cause { HasSendCause (faults self.old) (faults self.new) result };
+        ensures gates { (seen self.new).gates ≡ (seen self.old).gates }
+        ensures cause { HasSendCause (seen self.old).faults (seen self.new).faults result };
 }

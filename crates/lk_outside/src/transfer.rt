@@ -37,21 +37,21 @@ pub fn read_all<S: Source>(
     limit: usize,
 ) -> Result<Vec<u8>, InputFault>
     ensures whole { IfOk result
-        (λ bytes. ReadsWhole (S.left source.old) bytes.items (S.left source.new)) }
+        (λ bytes. ReadsWhole (S.seen source.old).told bytes.items (S.seen source.new).told) }
     ensures within { IfOk result (λ bytes. length bytes.items ≤ limit) }
     ensures too_long { IsErrOf result InputFault.TooLong
-        → TakesOver limit (S.left source.old) (S.left source.new) }
+        → TakesOver limit (S.seen source.old).told (S.seen source.new).told }
     ensures failed { IsErrOf result InputFault.Failed
-        → TakesWithin limit (S.left source.old) (S.left source.new) }
+        → TakesWithin limit (S.seen source.old).told (S.seen source.new).told }
 
     // Whatever the answer is.
-    ensures bounded { TakesWithin (limit + 65_536) (S.left source.old) (S.left source.new) }
+    ensures bounded { TakesWithin (limit + 65_536) (S.seen source.old).told (S.seen source.new).told }
 
     // The count rises with the answer `Failed`, and stays with any other.
     ensures cause { IsErrOf result InputFault.Failed
-        → Rose (S.faults source.old) (S.faults source.new) }
+        → Rose (S.seen source.old).faults (S.seen source.new).faults }
     ensures quiet { ¬ (IsErrOf result InputFault.Failed)
-        → S.faults source.new ≡ S.faults source.old }
+        → (S.seen source.new).faults ≡ (S.seen source.old).faults }
 {
     let mut piece = zeros(alloc, PIECE).map_err(InputFault::Memory)?;
     let mut bytes = Vec::new(alloc);
@@ -83,11 +83,11 @@ fn zeros(alloc: Global, count: usize) -> Result<Vec<u8>, AllocError>
 ///
 /// Waits: in the sink's writes alone. Memory: none.
 pub fn write_whole<K: Sink>(sink: &mut K, bytes: &[u8]) -> bool
-    ensures whole { OnTrue result (Appends (K.written sink.old) bytes.now (K.written sink.new)) }
+    ensures whole { OnTrue result (Appends (K.seen sink.old).told bytes.now (K.seen sink.new).told) }
     ensures part { OnFalse result
-        (AppendsPrefix (K.written sink.old) bytes.now (K.written sink.new)) }
-    ensures quiet { OnTrue result (K.faults sink.new ≡ K.faults sink.old) }
-    ensures cause { OnFalse result (Rose (K.faults sink.old) (K.faults sink.new)) }
+        (AppendsPrefix (K.seen sink.old).told bytes.now (K.seen sink.new).told) }
+    ensures quiet { OnTrue result ((K.seen sink.new).faults ≡ (K.seen sink.old).faults) }
+    ensures cause { OnFalse result (Rose (K.seen sink.old).faults (K.seen sink.new).faults) }
     ensures empty { bytes.now ≡ [] → IsTrue result × (sink.new ≡ sink.old) }
 {
     let mut done = 0;

@@ -15,9 +15,7 @@ use std::thread::Threads;
 struct Endless;
 
 impl Source for Endless {
-    ghost left = { λ _. None };
-
-    ghost faults = { λ _. 0 };
+    ghost seen = { λ _. record { told = None; faults = 0 } };
 
     fn read(&mut self, buf: &mut [u8]) -> Taken {
         Taken::Got(buf.len())

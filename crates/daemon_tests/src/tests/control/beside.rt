@@ -1,7 +1,7 @@
 //! That a client is served while the network's loop runs, which sends in the group of the words.
 
 ghost use Rattle.std.specs.Prelude.{None};
-ghost use Rattle.lk_outside.specs.ListTalk.{written_of, opened_of, faults_of};
+ghost use Rattle.lk_outside.specs.ListTalk.{seen_of};
 
 use super::super::live::flags::has_come;
 use super::super::live::held::Telling;
@@ -37,13 +37,7 @@ struct Patient<'a> {
 }
 
 impl<'a> Talk for Patient<'a> {
-    ghost left = { λ _. None };
-
-    ghost written = { λ patient. written_of patient.talk };
-
-    ghost opened = { λ patient. opened_of patient.talk };
-
-    ghost faults = { λ patient. faults_of patient.talk };
+    ghost seen = { λ patient. record (seen_of patient.talk) { left = None } };
 
     fn listen(&mut self, at: Endpoint) -> Bound {
         self.talk.listen(at)

@@ -1,7 +1,7 @@
 //! A port that tells when it is over and when it sends, and a pace that holds commands until it is over.
 
 ghost use Rattle.std.specs.Prelude.{None};
-ghost use Rattle.lk_outside.specs.ListPort.{told_of, bound_of, faults_of};
+ghost use Rattle.lk_outside.specs.ListPort.{seen_of};
 
 use super::flags::{has_come, raise};
 use lk_base::{Endpoint, Gate};
@@ -20,11 +20,7 @@ pub struct Telling<'a> {
 }
 
 impl<'a> Port for Telling<'a> {
-    ghost contents = { λ telling. told_of telling.port };
-
-    ghost bound = { λ telling. bound_of telling.port };
-
-    ghost faults = { λ telling. faults_of telling.port };
+    ghost seen = { λ telling. seen_of telling.port };
 
     fn bind(&mut self, gates: &[Endpoint]) -> Bound {
         let bound = self.port.bind(gates);

@@ -6,7 +6,7 @@
 //! objects notice by the number of their looks.
 
 ghost use Rattle.std.specs.Prelude.{None};
-ghost use Rattle.lk_outside.specs.ListPort.{bound_of, faults_of};
+ghost use Rattle.lk_outside.specs.ListPort.{seen_of};
 
 use super::super::runs::{empty_log, silent_talk, spelled};
 use super::blocks::block_after;
@@ -109,11 +109,7 @@ impl<'a> Peers<'a> {
 }
 
 impl<'a> Port for Peers<'a> {
-    ghost contents = { λ _. None };
-
-    ghost bound = { λ peers. bound_of peers.port };
-
-    ghost faults = { λ peers. faults_of peers.port };
+    ghost seen = { λ peers. record (seen_of peers.port) { told = None } };
 
     fn bind(&mut self, gates: &[Endpoint]) -> Bound {
         self.port.bind(gates)
@@ -154,9 +150,7 @@ impl<'a> Blocks<'a> {
 }
 
 impl<'a> Audio for Blocks<'a> {
-    ghost contents = { λ _. None };
-
-    ghost faults = { λ _. 0 };
+    ghost seen = { λ _. record { told = None; faults = 0 } };
 
     fn next(&mut self) -> Next {
         if self.given > ROUNDS || !self.marks.wait_for(&self.marks.answered, self.given) {

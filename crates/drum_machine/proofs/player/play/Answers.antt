@@ -33,7 +33,7 @@ loop-number-init g c = record {
   played = c.start.ensures.played;
   within = omega arith;
   origin = search rules;
-  begun = is_begun (g.A.Audio.contents c.args.audio.now) c.in-Some.block.start c.start_at.result _ _ c.in-Some.ensures.begins c.in-Some.ensures.some.0 c.start_at.ensures.moment
+  begun = is_begun (g.A.Audio.seen c.args.audio.now).told c.in-Some.block.start c.start_at.result _ _ c.in-Some.ensures.begins c.in-Some.ensures.some.0 c.start_at.ensures.moment
       c.start_at.ensures.value c.start.ensures.started;
   asked = asked_first c.in-Some.block _ _ c.in-Some.ensures.given;
   playing = has_begun _ _ _ _ _ _ _ _ _ _ refl refl refl c.wav_header.ensures (OnTrue_at c.if-not-write_whole.false c.write_whole.ensures.whole);

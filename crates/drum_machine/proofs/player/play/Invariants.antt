@@ -9,13 +9,13 @@ invariant-loop-number g l = record {
   played : HasPlayed l.fn.pass l.pass;
   within : l.number ≤ l.blocks;
   origin : IsMoment l.drums.origin;
-  begun : HasBegun l.drums.origin (g.A.Audio.contents l.fn.audio) l.fn.pass l.pass;
-  asked : HasAsked (l.number + 1) (g.A.Audio.contents l.fn.audio) (g.A.Audio.contents l.audio);
+  begun : HasBegun l.drums.origin (g.A.Audio.seen l.fn.audio).told l.fn.pass l.pass;
+  asked : HasAsked (l.number + 1) (g.A.Audio.seen l.fn.audio).told (g.A.Audio.seen l.audio).told;
   playing : IsPlaying l.number l.blocks l.fn.drums.pattern l.fn.drums.kit l.fn.drums.clock l.drums l.pass
-      (g.W.Sink.written l.fn.sound) (g.W.Sink.written l.sound) (g.M.Sink.written l.fn.midi) (g.M.Sink.written l.midi);
-  audio : g.A.Audio.faults l.audio ≡ g.A.Audio.faults l.fn.audio;
-  sound : g.W.Sink.faults l.sound ≡ g.W.Sink.faults l.fn.sound;
-  midi : g.M.Sink.faults l.midi ≡ g.M.Sink.faults l.fn.midi;
+      (g.W.Sink.seen l.fn.sound).told (g.W.Sink.seen l.sound).told (g.M.Sink.seen l.fn.midi).told (g.M.Sink.seen l.midi).told;
+  audio : (g.A.Audio.seen l.audio).faults ≡ (g.A.Audio.seen l.fn.audio).faults;
+  sound : (g.W.Sink.seen l.sound).faults ≡ (g.W.Sink.seen l.fn.sound).faults;
+  midi : (g.M.Sink.seen l.midi).faults ≡ (g.M.Sink.seen l.fn.midi).faults;
 }
 
 abbrev pub decreases-loop-number : goal.decreases-loop-number

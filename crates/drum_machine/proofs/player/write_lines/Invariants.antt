@@ -5,6 +5,6 @@ use Rattle.drum_machine.proofs.player.write_lines.Given as goal
 
 abbrev pub invariant-loop-event : goal.invariant-loop-event
 invariant-loop-event g l = record {
-  lines : Appends (g.M.Sink.written l.fn.midi) (midi_lines_of (take l.event-index l.events)) (g.M.Sink.written l.midi);
-  faults : g.M.Sink.faults l.midi ≡ g.M.Sink.faults l.fn.midi;
+  lines : Appends (g.M.Sink.seen l.fn.midi).told (midi_lines_of (take l.event-index l.events)) (g.M.Sink.seen l.midi).told;
+  faults : (g.M.Sink.seen l.midi).faults ≡ (g.M.Sink.seen l.fn.midi).faults;
 }

@@ -10,8 +10,8 @@ invariant-loop-block g l = record {
   made : length l.pass.made ≤ l.block;
   pattern : l.drums.pattern ≡ l.fn.pattern;
   origin : l.drums.origin ≡ pos 1_000_000;
-  rehearsing : IsRehearsing l.block l.fn.pattern l.pass l.score.mpb (g.K.Sink.written l.fn.out) (g.K.Sink.written l.out);
-  faults : g.K.Sink.faults l.out ≡ g.K.Sink.faults l.fn.out;
+  rehearsing : IsRehearsing l.block l.fn.pattern l.pass l.score.mpb (g.K.Sink.seen l.fn.out).told (g.K.Sink.seen l.out).told;
+  faults : (g.K.Sink.seen l.out).faults ≡ (g.K.Sink.seen l.fn.out).faults;
 }
 
 abbrev pub decreases-loop-block : goal.decreases-loop-block

@@ -11,6 +11,6 @@ returns g c =
         c.run_node-run.result.failed,
         c.run_node-run.result.full,
         c.status_of.ensures,
-        has_session _ _ _ _ _ _ _ _ _ _ _ _ _ _ _ _ _ _ _ _ _ _ _ _ _ _ c.requires.opening.1 c.requires.still.0 c.requires.still.1 run.4 run.2,
+        has_session _ _ _ _ _ _ _ _ _ _ _ _ _ _ c.requires.opening.1 c.requires.still.0 c.requires.still.1 run.4 run.2,
       );
     }

@@ -5,8 +5,8 @@ use Rattle.link_commands.proofs.decode.hand_lines.Given as goal
 
 abbrev pub invariant-loop-at : goal.invariant-loop-at
 invariant-loop-at g l = record {
-  decoded : HasDecoded l.text l.at (g.K.Sink.written l.fn.out) l.fn.outlet.kept.items (g.K.Sink.written l.out) l.outlet.kept.items;
-  quiet : g.K.Sink.faults l.out ≡ g.K.Sink.faults l.fn.out;
+  decoded : HasDecoded l.text l.at (g.K.Sink.seen l.fn.out).told l.fn.outlet.kept.items (g.K.Sink.seen l.out).told l.outlet.kept.items;
+  quiet : (g.K.Sink.seen l.out).faults ≡ (g.K.Sink.seen l.fn.out).faults;
   room : length l.bytes ≡ length l.fn.bytes;
 }
 

@@ -7,5 +7,5 @@ use Rattle.link_commands.proofs.replay_lines.hand_sends.Given as goal
 
 abbrev pub invariant-loop-sending : goal.invariant-loop-sending
 invariant-loop-sending g l =
-    HasHandedEach (λ s. sending_line_of (moment_of (event_value l.event)) (sending_value s)) l.sends l.sending-index (g.K.Sink.written l.fn.out) l.fn.outlet.kept.items (g.K.Sink.written l.out) l.outlet.kept.items
-    × (g.K.Sink.faults l.out ≡ g.K.Sink.faults l.fn.out)
+    HasHandedEach (λ s. sending_line_of (moment_of (event_value l.event)) (sending_value s)) l.sends l.sending-index (g.K.Sink.seen l.fn.out).told l.fn.outlet.kept.items (g.K.Sink.seen l.out).told l.outlet.kept.items
+    × ((g.K.Sink.seen l.out).faults ≡ (g.K.Sink.seen l.fn.out).faults)

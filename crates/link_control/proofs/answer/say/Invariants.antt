@@ -5,11 +5,11 @@ use Rattle.link_control.proofs.answer.say.Given as goal
 abbrev pub invariant-loop-done : goal.invariant-loop-done
 invariant-loop-done g l = record {
   within : l.done ≤ length l.answer;
-  written : Appends (g.L.Talk.written l.fn.talk) (take l.done l.answer) (g.L.Talk.written l.talk);
-  faults : g.L.Talk.faults l.talk ≡ g.L.Talk.faults l.fn.talk;
-  left : g.L.Talk.left l.talk ≡ g.L.Talk.left l.fn.talk;
-  opened : g.L.Talk.opened l.talk ≡ g.L.Talk.opened l.fn.talk;
-  is_open : IsSome (g.L.Talk.opened l.talk);
+  written : Appends (g.L.Talk.seen l.fn.talk).written (take l.done l.answer) (g.L.Talk.seen l.talk).written;
+  faults : (g.L.Talk.seen l.talk).faults ≡ (g.L.Talk.seen l.fn.talk).faults;
+  left : (g.L.Talk.seen l.talk).left ≡ (g.L.Talk.seen l.fn.talk).left;
+  opened : (g.L.Talk.seen l.talk).opened ≡ (g.L.Talk.seen l.fn.talk).opened;
+  is_open : IsSome (g.L.Talk.seen l.talk).opened;
 }
 
 abbrev pub decreases-loop-done : goal.decreases-loop-done

@@ -1,7 +1,6 @@
 use Rattle.std.proofs.Common.{◌≤◌, ◌∙◌, List, length, sym, ap, subst}
 use Rattle.link_control.specs.ControlRun.{EndsControlRun, told_of}
 use Rattle.link_control.specs.Log.{captures_in}
-use Rattle.link_control.specs.Serving.{seen_talk}
 use Rattle.link_control.specs.declared.log.LineLog.{LineLog}
 use Rattle.link_control.specs.declared.run.ControlEnd.{ControlEnd}
 use Rattle.link_control.proofs.ClientLemmas.{few_logged, made_in}
@@ -24,9 +23,9 @@ returns g c =
           subst
           (λ (e : ControlEnd).
           EndsControlRun (record { config = c.args.parts.config; events = c.args.parts.most; at = c.args.at }) (g.T.Pace.late c.args.pace.now)
-          (g.P.Port.contents c.args.port.now) (g.P.Port.contents c.run_node-run.new.port) (g.P.Port.bound c.run_node-run.new.port) (g.P.Port.faults c.args.port.now) (g.P.Port.faults c.run_node-run.new.port)
-          (seen_talk g.L.Talk.left g.L.Talk.written g.L.Talk.opened g.L.Talk.faults c.args.talk.now)
-          (seen_talk g.L.Talk.left g.L.Talk.written g.L.Talk.opened g.L.Talk.faults c.run_node-run.new.first)
+          (g.P.Port.seen c.args.port.now).told (g.P.Port.seen c.run_node-run.new.port).told (g.P.Port.seen c.run_node-run.new.port).gates (g.P.Port.seen c.args.port.now).faults (g.P.Port.seen c.run_node-run.new.port).faults
+          (g.L.Talk.seen c.args.talk.now)
+          (g.L.Talk.seen c.run_node-run.new.first)
           (told_of c.args.parts.config c.args.parts.opened_at
           (record {
             end = c.end_of.result;

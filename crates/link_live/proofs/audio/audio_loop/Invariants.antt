@@ -4,9 +4,9 @@ use Rattle.link_live.proofs.audio.audio_loop.Given as goal
 
 abbrev pub invariant-loop-played : goal.invariant-loop-played
 invariant-loop-played g l = record {
-  playing : IsPlaying l.fn.script.blocks.items (l.played + 1) l.fn.pass l.pass (g.A.Audio.contents l.fn.audio) (g.A.Audio.contents l.audio)
+  playing : IsPlaying l.fn.script.blocks.items (l.played + 1) l.fn.pass l.pass (g.A.Audio.seen l.fn.audio).told (g.A.Audio.seen l.audio).told
       l.report.reads.items l.report.commits.items (map (λ clicks. clicks.items) l.report.plays.items);
-  faults : g.A.Audio.faults l.audio ≡ g.A.Audio.faults l.fn.audio;
+  faults : (g.A.Audio.seen l.audio).faults ≡ (g.A.Audio.seen l.fn.audio).faults;
   within : l.played ≤ l.blocks;
   reads : vec_capacity l.report.reads ≡ vec_capacity l.fn.report.reads;
   commits : vec_capacity l.report.commits ≡ vec_capacity l.fn.report.commits;

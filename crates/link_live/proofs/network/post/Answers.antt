@@ -6,7 +6,7 @@ use Rattle.link_live.proofs.network.post.Goals as goal
 
 pub post_one-requires : goal.post_one-requires
 post_one-requires g c = record {
-  gate = gate_at (length (g.P.Port.bound c.loop-sending.port)) c.args.sends.now c.loop-sending.sending-index c.sending-item.result c.loop-sending-test.true c.sending-item.is
+  gate = gate_at (length (g.P.Port.seen c.loop-sending.port).gates) c.args.sends.now c.loop-sending.sending-index c.sending-item.result c.loop-sending-test.true c.sending-item.is
       (subst (λ l. AllByRecursion (λ s. s.gate.0 < length l) (map sending_value c.args.sends.now)) (sym c.loop-sending.invariant.gates) (c.requires.gates c.if-failed.false));
 }
 

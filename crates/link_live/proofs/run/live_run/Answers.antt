@@ -18,9 +18,9 @@ returns g c =
       ends =
           subst
           (λ (e : LiveEnd).
-          EndsLiveRun (setup_of c.args.parts.config c.args.parts.most c.args.script.now c.args.blocks) (g.T.Pace.late c.args.pace.now) (g.P.Port.contents c.args.port.now)
-          (g.P.Port.contents c.run_node-run.new.port) (g.P.Port.bound c.run_node-run.new.port) (g.P.Port.faults c.args.port.now) (g.P.Port.faults c.run_node-run.new.port)
-          (g.A.Audio.contents c.args.audio.now) (g.A.Audio.contents c.run_node-run.new.device) (g.A.Audio.faults c.args.audio.now) (g.A.Audio.faults c.run_node-run.new.device)
+          EndsLiveRun (setup_of c.args.parts.config c.args.parts.most c.args.script.now c.args.blocks) (g.T.Pace.late c.args.pace.now) (g.P.Port.seen c.args.port.now).told
+          (g.P.Port.seen c.run_node-run.new.port).told (g.P.Port.seen c.run_node-run.new.port).gates (g.P.Port.seen c.args.port.now).faults (g.P.Port.seen c.run_node-run.new.port).faults
+          (g.A.Audio.seen c.args.audio.now).told (g.A.Audio.seen c.run_node-run.new.device).told (g.A.Audio.seen c.args.audio.now).faults (g.A.Audio.seen c.run_node-run.new.device).faults
           (told_of c.args.parts.config c.args.parts.opened_at
           (record {
             end = c.end_of.result;

@@ -7,5 +7,5 @@ use Rattle.link_live_command.proofs.report_text.hand_events.Given as goal
 
 abbrev pub invariant-loop-event : goal.invariant-loop-event
 invariant-loop-event g l =
-    HasHandedEach (λ e. ended (event_line (event_value e))) l.events l.event-index (g.K.Sink.written l.fn.out) l.fn.outlet.kept.items (g.K.Sink.written l.out) l.outlet.kept.items
-    × (g.K.Sink.faults l.out ≡ g.K.Sink.faults l.fn.out)
+    HasHandedEach (λ e. ended (event_line (event_value e))) l.events l.event-index (g.K.Sink.seen l.fn.out).told l.fn.outlet.kept.items (g.K.Sink.seen l.out).told l.outlet.kept.items
+    × ((g.K.Sink.seen l.out).faults ≡ (g.K.Sink.seen l.fn.out).faults)

@@ -21,6 +21,6 @@ returns-in_err-put_line-clause-part g c =
     let lines = head_lines 2 (config_value c.args.config.now) (to_z w64 (of_z w64 c.args.now)) in
     let within : c.loop-k.k < length lines = omega (arith, c.loop-k-test.true, c.head_length-k-end.ensures (to_z w64 (of_z w64 c.args.now))) in
     on_failure c.from_residual.result
-    (subst (λ (at : ℤ). HandsPart (flat_map ended (head_lines 2 (config_value c.args.config.now) at)) (g.K.Sink.written c.args.out.now) c.args.outlet.now.kept.items (g.K.Sink.written c.put_line.new.out))
+    (subst (λ (at : ℤ). HandsPart (flat_map ended (head_lines 2 (config_value c.args.config.now) at)) (g.K.Sink.seen c.args.out.now).told c.args.outlet.now.kept.items (g.K.Sink.seen c.put_line.new.out).told)
     (to_z-of_z w64 c.args.now c.ranges.now)
     (head_part lines c.loop-k.k _ _ _ _ _ _ _ _ within c.write_head-there.ensures.there c.as_slice.ensures.value c.loop-k.invariant.0 c.in_err-put_line.ensures.part))

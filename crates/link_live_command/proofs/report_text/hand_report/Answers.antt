@@ -20,7 +20,7 @@ returns-in_err-hand_last_state-clause-part g c =
 pub returns-then-not-recorded-clause-kept : goal.returns-then-not-recorded-clause-kept
 returns-then-not-recorded-clause-kept g c =
     let state = c.in_ok-hand_last_state.ensures.kept in
-    subst (λ (recorded : Bool). HandsOver (live_text_of (report_value c.args.report.now) recorded) (g.K.Sink.written c.args.out.now) c.args.outlet.now.kept.items (g.K.Sink.written c.hand_last_state.new.out) c.hand_last_state.new.outlet.kept.items)
+    subst (λ (recorded : Bool). HandsOver (live_text_of (report_value c.args.report.now) recorded) (g.K.Sink.seen c.args.out.now).told c.args.outlet.now.kept.items (g.K.Sink.seen c.hand_last_state.new.out).told c.hand_last_state.new.outlet.kept.items)
     (sym c.if-not-recorded.true)
     (live_over (report_value c.args.report.now) _ _ _ _ _ _ c.in_ok-hand_counts.ensures.kept (rw c.deref.ensures.value at state))
 
@@ -28,7 +28,7 @@ pub returns-clause-kept : goal.returns-clause-kept
 returns-clause-kept g c =
     let state = c.in_ok-hand_last_state.ensures.kept in
     where_ok c.hand_record.result
-    (λ record_is. subst (λ (recorded : Bool). HandsOver (live_text_of (report_value c.args.report.now) recorded) (g.K.Sink.written c.args.out.now) c.args.outlet.now.kept.items (g.K.Sink.written c.hand_record.new.out) c.hand_record.new.outlet.kept.items)
+    (λ record_is. subst (λ (recorded : Bool). HandsOver (live_text_of (report_value c.args.report.now) recorded) (g.K.Sink.seen c.args.out.now).told c.args.outlet.now.kept.items (g.K.Sink.seen c.hand_record.new.out).told c.hand_record.new.outlet.kept.items)
     (sym c.if-not-recorded.false)
     (recorded_over (report_value c.args.report.now) _ _ _ _ _ _ _ _ c.in_ok-hand_counts.ensures.kept (rw c.deref.ensures.value at state) record_is))
     c.hand_record.ensures.kept
@@ -37,7 +37,7 @@ pub returns-clause-part : goal.returns-clause-part
 returns-clause-part g c =
     let state = c.in_ok-hand_last_state.ensures.kept in
     where_err c.hand_record.result
-    (λ part. subst (λ (recorded : Bool). HandsPart (live_text_of (report_value c.args.report.now) recorded) (g.K.Sink.written c.args.out.now) c.args.outlet.now.kept.items (g.K.Sink.written c.hand_record.new.out))
+    (λ part. subst (λ (recorded : Bool). HandsPart (live_text_of (report_value c.args.report.now) recorded) (g.K.Sink.seen c.args.out.now).told c.args.outlet.now.kept.items (g.K.Sink.seen c.hand_record.new.out).told)
     (sym c.if-not-recorded.false)
     (live_part_record (report_value c.args.report.now) _ _ _ _ _ _ _ c.in_ok-hand_counts.ensures.kept (rw c.deref.ensures.value at state) part))
     c.hand_record.ensures.part

@@ -6,8 +6,8 @@ abbrev pub invariant-loop-source : goal.invariant-loop-source
 invariant-loop-source g l = record {
   room : vec_len l.piece ≡ 65_536;
   few : vec_len l.bytes ≤ l.limit + 65_536;
-  taken : Takes (g.S.Source.left l.initial.source) l.bytes.items (g.S.Source.left l.source);
-  faults : g.S.Source.faults l.source ≡ g.S.Source.faults l.initial.source;
+  taken : Takes (g.S.Source.seen l.initial.source).told l.bytes.items (g.S.Source.seen l.source).told;
+  faults : (g.S.Source.seen l.source).faults ≡ (g.S.Source.seen l.initial.source).faults;
 }
 
 abbrev pub decreases-loop-source : goal.decreases-loop-source

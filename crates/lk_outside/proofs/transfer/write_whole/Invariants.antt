@@ -5,8 +5,8 @@ use Rattle.lk_outside.proofs.transfer.write_whole.Given as goal
 abbrev pub invariant-loop-done : goal.invariant-loop-done
 invariant-loop-done g l = record {
   within : l.done ≤ length l.bytes;
-  written : Appends (g.K.Sink.written l.initial.sink) (take l.done l.bytes) (g.K.Sink.written l.sink);
-  faults : g.K.Sink.faults l.sink ≡ g.K.Sink.faults l.initial.sink;
+  written : Appends (g.K.Sink.seen l.initial.sink).told (take l.done l.bytes) (g.K.Sink.seen l.sink).told;
+  faults : (g.K.Sink.seen l.sink).faults ≡ (g.K.Sink.seen l.initial.sink).faults;
   untouched : l.done ≡ 0 → l.sink ≡ l.initial.sink;
 }
 

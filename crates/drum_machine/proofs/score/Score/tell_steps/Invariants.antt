@@ -5,9 +5,9 @@ use Rattle.drum_machine.proofs.score.Score.tell_steps.Given as goal
 
 abbrev pub invariant-loop-hit : goal.invariant-loop-hit
 invariant-loop-hit g l = record {
-  told : Appends (g.K.Sink.written l.fn.out) (steps_text_of l.pattern (take l.hit-index l.hits)) (g.K.Sink.written l.out);
+  told : Appends (g.K.Sink.seen l.fn.out).told (steps_text_of l.pattern (take l.hit-index l.hits)) (g.K.Sink.seen l.out).told;
   steps : l.self.steps ≡ counted_on l.fn.self.steps (length l.hits);
   tempo : l.self.mpb ≡ l.fn.self.mpb;
   events : l.self.events ≡ l.fn.self.events;
-  faults : g.K.Sink.faults l.out ≡ g.K.Sink.faults l.fn.out;
+  faults : (g.K.Sink.seen l.out).faults ≡ (g.K.Sink.seen l.fn.out).faults;
 }

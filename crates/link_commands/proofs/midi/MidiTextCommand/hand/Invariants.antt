@@ -7,8 +7,8 @@ use Rattle.link_commands.proofs.midi.MidiTextCommand.hand.Given as goal
 abbrev pub invariant-loop-blocks : goal.invariant-loop-blocks
 invariant-loop-blocks g l = record {
   played : HasPlayed l.params.length l.params.blocks (StandsFor l.self.script.node) (gates_of l.self.script.node) (app_of l.self.script.node) (audio_of l.self.script.node) l.text l.at l.start l.blocks l.events l.clock
-      (g.K.Sink.written l.fn.out) l.fn.outlet.kept.items (g.K.Sink.written l.out) l.outlet.kept.items;
-  quiet : g.K.Sink.faults l.out ≡ g.K.Sink.faults l.fn.out;
+      (g.K.Sink.seen l.fn.out).told l.fn.outlet.kept.items (g.K.Sink.seen l.out).told l.outlet.kept.items;
+  quiet : (g.K.Sink.seen l.out).faults ≡ (g.K.Sink.seen l.fn.out).faults;
   low : pos 0 ≤ℤ l.start;
   high : l.start ≤ℤ pos (2 ^ 55 + 1_000_000 * l.blocks);
   few : l.events ≤ 404 * l.blocks;

@@ -15,10 +15,10 @@ invariant-loop-event g l = record {
   handed : (m : Machine) (es : List EventValue)
       → NodeGoesOn l.fn.self.node l.text l.fn.self.first m es
       → HasHanded l.fn.self.version (StandsFor l.self.node) (gates_of l.self.node) (app_of l.self.node) (audio_of l.self.node) l.text l.at l.counts.events l.counts.states l.counts.sends
-      (g.K.Sink.written l.fn.out) l.fn.outlet.kept.items (g.K.Sink.written l.out) l.outlet.kept.items m es;
+      (g.K.Sink.seen l.fn.out).told l.fn.outlet.kept.items (g.K.Sink.seen l.out).told l.outlet.kept.items m es;
   few_states : l.counts.states ≤ l.counts.events + 1;
   few_sends : l.counts.sends ≤ 129 * l.counts.events;
-  quiet : g.K.Sink.faults l.out ≡ g.K.Sink.faults l.fn.out;
+  quiet : (g.K.Sink.seen l.out).faults ≡ (g.K.Sink.seen l.fn.out).faults;
 }
 
 abbrev pub decreases-loop-event : goal.decreases-loop-event

@@ -1,6 +1,6 @@
 //! A port in memory that notes until when it was asked to wait.
 
-ghost use Rattle.lk_outside.specs.ListPort.{told_of, bound_of, faults_of};
+ghost use Rattle.lk_outside.specs.ListPort.{seen_of};
 
 use arrayvec::ArrayVec;
 use lk_base::{Endpoint, Gate};
@@ -17,11 +17,7 @@ pub struct Watch {
 }
 
 impl Port for Watch {
-    ghost contents = { λ watch. told_of watch.port };
-
-    ghost bound = { λ watch. bound_of watch.port };
-
-    ghost faults = { λ watch. faults_of watch.port };
+    ghost seen = { λ watch. seen_of watch.port };
 
     fn bind(&mut self, gates: &[Endpoint]) -> Bound {
         self.port.bind(gates)
