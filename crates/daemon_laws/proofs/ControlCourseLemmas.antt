@@ -2,9 +2,8 @@
 -- sent more lines than are answered.
 use Rattle.std.proofs.Common.{◌≡◌, ◌⊎◌, inl, inr, ◌<◌, ◌≤◌, length, true, false, ℕ, ℤ, List, Option, Some, IsSome, ap, subst, arith}
 use Rattle.std.proofs.lemmas.List.{length-map}
-use Rattle.lk_base.specs.declared.endpoint.Endpoint.{Endpoint}
 use Rattle.lk_outside.specs.Faults.{Rose}
-use Rattle.lk_outside.specs.Port.{PortContents}
+use Rattle.lk_outside.specs.Port.{PortSeen}
 use Rattle.lk_outside.specs.Source.{IsAtEnd, Takes}
 use Rattle.lk_outside.specs.Talk.{TalkSeen}
 use Rattle.link_shared.specs.Passes.{AppView}
@@ -86,14 +85,14 @@ module _ (at : Endpoint) (late : Option ℤ) (talk talk_then : TalkSeen) (pass :
 
 -- ---- how the run ended
 
-module _ {setup : ControlSetup} {late : Option ℤ} {port port' : Option PortContents} {gates : List Endpoint} {port_faults port_faults' : ℕ}
-    {talk talk' : TalkSeen} {report : ReportValue} {log : List LineLog} where
-  pub port_met : EndsTell → EndsControlRun setup late port port' gates port_faults port_faults' talk talk' report log end.Port
-      → Rose port_faults port_faults'
+module _ {setup : ControlSetup} {late : Option ℤ} {port port' : PortSeen} {talk talk' : TalkSeen}
+    {report : ReportValue} {log : List LineLog} where
+  pub port_met : EndsTell → EndsControlRun setup late port port' talk talk' report log end.Port
+      → Rose port.faults port'.faults
   port_met laws run = run.port_fails (laws.port run.served run.failed run.full run.ended_is).0
 
-  pub talk_met : EndsTell → EndsControlRun setup late port port' gates port_faults port_faults' talk talk' report log end.Talk
-      → (port_faults' ≡ port_faults) × Rose talk.faults talk'.faults
+  pub talk_met : EndsTell → EndsControlRun setup late port port' talk talk' report log end.Talk
+      → (port'.faults ≡ port.faults) × Rose talk.faults talk'.faults
   talk_met laws run =
       let met = laws.talk run.served run.failed run.full run.ended_is in
       let client = run.run.served in (
@@ -102,8 +101,8 @@ module _ {setup : ControlSetup} {late : Option ℤ} {port port' : Option PortCon
             (told_as setup.at late talk talk' client.pass log run.served served.Failed met.0 client.talked),
       )
 
-  pub events_met : EndsTell → EndsControlRun setup late port port' gates port_faults port_faults' talk talk' report log end.Events
-      → (port_faults' ≡ port_faults) × (talk'.faults ≡ talk.faults) × (has_ended report.events ≡ false)
+  pub events_met : EndsTell → EndsControlRun setup late port port' talk talk' report log end.Events
+      → (port'.faults ≡ port.faults) × (talk'.faults ≡ talk.faults) × (has_ended report.events ≡ false)
   events_met laws run =
       let met = laws.events run.served run.failed run.full run.ended_is in
       let client = run.run.served in (
@@ -112,8 +111,8 @@ module _ {setup : ControlSetup} {late : Option ℤ} {port port' : Option PortCon
         (run.run.recorded.journal.cut met.2).1,
       )
 
-  pub many_met : EndsTell → EndsControlRun setup late port port' gates port_faults port_faults' talk talk' report log end.Lines
-      → (port_faults' ≡ port_faults) × (talk'.faults ≡ talk.faults) × (has_ended report.events ≡ true) × SendsMany talk.left talk'.left
+  pub many_met : EndsTell → EndsControlRun setup late port port' talk talk' report log end.Lines
+      → (port'.faults ≡ port.faults) × (talk'.faults ≡ talk.faults) × (has_ended report.events ≡ true) × SendsMany talk.left talk'.left
   many_met laws run =
       let met = laws.lines run.served run.failed run.full run.ended_is in
       let client = run.run.served in
@@ -121,8 +120,8 @@ module _ {setup : ControlSetup} {late : Option ℤ} {port port' : Option PortCon
       (told_as setup.at late talk talk' client.pass log run.served served.Lines met.0 client.talked) in
       (run.port_works met.1, talked.0, run.run.recorded.journal.ended met.2, talked.1)
 
-  pub well_met : EndsTell → EndsControlRun setup late port port' gates port_faults port_faults' talk talk' report log end.Well
-      → (port_faults' ≡ port_faults) × (talk'.faults ≡ talk.faults) × (has_ended report.events ≡ true) × SendsFew talk.left talk'.left
+  pub well_met : EndsTell → EndsControlRun setup late port port' talk talk' report log end.Well
+      → (port'.faults ≡ port.faults) × (talk'.faults ≡ talk.faults) × (has_ended report.events ≡ true) × SendsFew talk.left talk'.left
   well_met laws run =
       let met = laws.well run.served run.failed run.full run.ended_is in
       let client = run.run.served in

@@ -25,20 +25,20 @@ use Rattle.daemon_laws.proofs.ScriptStatusLemmas.{ScriptCauses, one_script_end, 
 -- of a run that was begun
 abbrev RunCauses : AllSeen → AllSeen → End → Type 0
 RunCauses before after =
-    First (Rose before.outside.port.faults after.outside.port.faults) (λ cause. end_of status.Port)
+    First (Rose before.port.faults after.port.faults) (λ cause. end_of status.Port)
     (First (Rose before.talk.faults after.talk.faults) (λ cause. end_of status.Talk)
-    (First (has_ended after.outside.report.events ≡ false) (λ cause. end_of status.Events)
+    (First (has_ended after.report.events ≡ false) (λ cause. end_of status.Events)
     (First (SendsMany before.talk.left after.talk.left) (λ cause. end_of status.Lines)
-    (First (Rose before.outside.out.faults after.outside.out.faults) (λ cause. end_of status.Sink)
+    (First (Rose before.out.faults after.out.faults) (λ cause. end_of status.Sink)
     (λ end. end ≡ end_of status.Done)))))
 
 one_run_end : (before after : AllSeen) → IsOne (RunCauses before after)
 one_run_end before after =
-    first_is_one (Rose before.outside.port.faults after.outside.port.faults) (λ cause. end_of status.Port) _ (λ p q. refl)
+    first_is_one (Rose before.port.faults after.port.faults) (λ cause. end_of status.Port) _ (λ p q. refl)
     (first_is_one (Rose before.talk.faults after.talk.faults) (λ cause. end_of status.Talk) _ (λ p q. refl)
-    (first_is_one (has_ended after.outside.report.events ≡ false) (λ cause. end_of status.Events) _ (λ p q. refl)
+    (first_is_one (has_ended after.report.events ≡ false) (λ cause. end_of status.Events) _ (λ p q. refl)
     (first_is_one (SendsMany before.talk.left after.talk.left) (λ cause. end_of status.Lines) _ (λ p q. refl)
-    (first_is_one (Rose before.outside.out.faults after.outside.out.faults) (λ cause. end_of status.Sink) (λ end. end ≡ end_of status.Done) (λ p q. refl)
+    (first_is_one (Rose before.out.faults after.out.faults) (λ cause. end_of status.Sink) (λ end. end ≡ end_of status.Done) (λ p q. refl)
     (λ one other is is'. is ∙ sym is')))))
 
 -- of the command
@@ -62,18 +62,18 @@ run_cause laws setup before after status.Lines can tells some_memory ended =
     let met = many_met laws ended.run in
     later (λ rose. rose_and_quiet _ _ can.port_counts rose met.0)
     (later (λ rose. rose_and_quiet _ _ can.talk_counts rose met.1)
-    (later (λ goes_on. ended_and_not (has_ended after.outside.report.events) met.2 goes_on) (here met.3 refl)))
+    (later (λ goes_on. ended_and_not (has_ended after.report.events) met.2 goes_on) (here met.3 refl)))
 run_cause laws setup before after status.Sink can tells some_memory ended =
     let met = well_met laws ended.run in
     later (λ rose. rose_and_quiet _ _ can.port_counts rose met.0)
     (later (λ rose. rose_and_quiet _ _ can.talk_counts rose met.1)
-    (later (λ goes_on. ended_and_not (has_ended after.outside.report.events) met.2 goes_on)
+    (later (λ goes_on. ended_and_not (has_ended after.report.events) met.2 goes_on)
     (later (λ many. sent_many_and_few before.talk.left after.talk.left tells many met.3) (here ended.written.rose refl))))
 run_cause laws setup before after status.Done can tells some_memory ended =
     let met = well_met laws ended.run in
     later (λ rose. rose_and_quiet _ _ can.port_counts rose met.0)
     (later (λ rose. rose_and_quiet _ _ can.talk_counts rose met.1)
-    (later (λ goes_on. ended_and_not (has_ended after.outside.report.events) met.2 goes_on)
+    (later (λ goes_on. ended_and_not (has_ended after.report.events) met.2 goes_on)
     (later (λ many. sent_many_and_few before.talk.left after.talk.left tells many met.3)
     (later (λ rose. rose_and_quiet _ _ can.out_counts rose ended.written.quiet) refl))))
 run_cause laws setup before after status.Memory can tells some_memory ended = absurd (some_memory refl)

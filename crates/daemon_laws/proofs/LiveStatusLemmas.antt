@@ -10,6 +10,7 @@ use Rattle.link_live.specs.Journal.{has_ended}
 use Rattle.link_live_command.specs.LiveEnds.{EndsLive, EndsRun, Runs}
 use Rattle.link_words.specs.LiveWords.{IsLive}
 use Rattle.link_daemon.specs.AllSeen.{AllSeen}
+use Rattle.link_daemon.specs.Ends.{live_seen}
 use Rattle.link_live_command.specs.Outside.{Outside}
 use Rattle.link_live_command.specs.ScriptRead.{EndsRead}
 use Rattle.link_commands.specs.declared.status.Grammar.TheVariants as grammar
@@ -47,7 +48,7 @@ LiveCauses words input input' before after =
 -- ---- each status has its cause
 
 run_cause : CourseLaws → (setup : LiveSetup) (recorded : Bool) (before after : AllSeen) (end : Status) → CanFail before → end ≢ status.Memory
-    → EndsRun setup recorded before.outside after.outside end → RunCauses before.outside after.outside (end_of end)
+    → EndsRun setup recorded (live_seen before) (live_seen after) end → RunCauses (live_seen before) (live_seen after) (end_of end)
 run_cause laws setup recorded before after status.Port can some_memory ended = here (port_met laws ended.run) refl
 run_cause laws setup recorded before after status.Audio can some_memory ended =
     let met = audio_met laws ended.run in
@@ -60,35 +61,35 @@ run_cause laws setup recorded before after status.Sink can some_memory ended =
     let met = well_met laws ended.run in
     later (λ rose. rose_and_quiet _ _ can.port_counts rose met.0)
     (later (λ rose. rose_and_quiet _ _ can.audio_counts rose met.1)
-    (later (λ goes_on. ended_and_not (has_ended after.outside.report.events) met.2 goes_on) (here ended.written.rose refl)))
+    (later (λ goes_on. ended_and_not (has_ended after.report.events) met.2 goes_on) (here ended.written.rose refl)))
 run_cause laws setup recorded before after status.Done can some_memory ended =
     let met = well_met laws ended.run in
     later (λ rose. rose_and_quiet _ _ can.port_counts rose met.0)
     (later (λ rose. rose_and_quiet _ _ can.audio_counts rose met.1)
-    (later (λ goes_on. ended_and_not (has_ended after.outside.report.events) met.2 goes_on)
+    (later (λ goes_on. ended_and_not (has_ended after.report.events) met.2 goes_on)
     (later (λ rose. rose_and_quiet _ _ can.out_counts rose ended.written.quiet) refl)))
 run_cause laws setup recorded before after status.Memory can some_memory ended = absurd (some_memory refl)
 run_cause laws setup recorded before after other can some_memory never = absurd never
 
 module _ (laws : CourseLaws) (words : List (String Global)) (seed : ℕ) (input input' : Stream) (before after : AllSeen) (tells : IsTold input)
     (can : CanFail before) where
-  runs_so : (end : Status) → end ≢ status.Memory → Runs words seed input input' before.outside after.outside end
-      → LiveCauses words input input' before.outside after.outside (end_of end)
+  runs_so : (end : Status) → end ≢ status.Memory → Runs words seed input input' (live_seen before) (live_seen after) end
+      → LiveCauses words input input' (live_seen before) (live_seen after) (end_of end)
   runs_so end some_memory runs =
       let up = runs.set_up in
-      script_so (IsLive words) grammar.LiveScript IsLiveLineFault (RunCauses before.outside after.outside) input input' tells
+      script_so (IsLive words) grammar.LiveScript IsLiveLineFault (RunCauses (live_seen before) (live_seen after)) input input' tells
       up.bytes (end_of end) up.named.is_live up.read up.few
       (λ line fault.
       fault.none (runs.setup.config.mpb, runs.setup.config.sync, runs.setup.config.gates, up.script.commands, up.script.script))
       (run_cause laws runs.setup runs.options.«record» before after end can some_memory runs.ends)
 
   unread_so : (end : Status) → end ≢ status.Memory → IsLive words → EndsRead input input' end
-      → LiveCauses words input input' before.outside after.outside (end_of end)
+      → LiveCauses words input input' (live_seen before) (live_seen after) (end_of end)
   unread_so =
-      unread_cause (IsLive words) grammar.LiveScript IsLiveLineFault (RunCauses before.outside after.outside) input input' tells
+      unread_cause (IsLive words) grammar.LiveScript IsLiveLineFault (RunCauses (live_seen before) (live_seen after)) input input' tells
 
-  live_cause : (end : Status) → end ≢ status.Memory → EndsLive words seed input input' before.outside after.outside end
-      → LiveCauses words input input' before.outside after.outside (end_of end)
+  live_cause : (end : Status) → end ≢ status.Memory → EndsLive words seed input input' (live_seen before) (live_seen after) end
+      → LiveCauses words input input' (live_seen before) (live_seen after) (end_of end)
   live_cause status.Words some_memory (other, unread, not_begun) = here other refl
   live_cause status.Input some_memory (live, ends, not_begun) = unread_so status.Input some_memory live ends
   live_cause (status.TooLong limit) some_memory (live, ends, not_begun) = unread_so (status.TooLong limit) some_memory live ends
@@ -101,10 +102,10 @@ module _ (laws : CourseLaws) (words : List (String Global)) (seed : ℕ) (input 
 -- one live run
 pub one_live : CourseLaws → HasOneLiveFaultLine → (words : List (String Global)) (seed : ℕ) (input input' : Stream) (before after : AllSeen)
     (one other : Status) → IsTold input → CanFail before → one ≢ status.Memory → other ≢ status.Memory
-    → EndsLive words seed input input' before.outside after.outside one → EndsLive words seed input input' before.outside after.outside other
+    → EndsLive words seed input input' (live_seen before) (live_seen after) one → EndsLive words seed input input' (live_seen before) (live_seen after) other
     → end_of one ≡ end_of other
 one_live laws once words seed input input' before after one other tells can not_one not_other ends ends' =
-    one_script_end (IsLive words) grammar.LiveScript IsLiveLineFault (RunCauses before.outside after.outside) once
-    (one_run_end before.outside after.outside) input input' tells.told (end_of one) (end_of other)
+    one_script_end (IsLive words) grammar.LiveScript IsLiveLineFault (RunCauses (live_seen before) (live_seen after)) once
+    (one_run_end (live_seen before) (live_seen after)) input input' tells.told (end_of one) (end_of other)
     (live_cause laws words seed input input' before after tells can one not_one ends)
     (live_cause laws words seed input input' before after tells can other not_other ends')

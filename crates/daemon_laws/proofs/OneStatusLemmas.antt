@@ -230,31 +230,31 @@ one_load words out out' one other counts not_one not_other ends ends' =
 -- ---- the program
 
 module _ (courses : CourseLaws) (tell : EndsTell) (law : IsFaultOnce) (live_law : HasOneLiveFaultLine) (head_law : HasOneHeadFaultLine)
-    (words : List (String Global)) (seed : ℕ) (input input' : Stream) (before after : AllSeen) (one other : Status) (tells : IsTold input)
+    (words : List (String Global)) (seed : ℕ) (before after : AllSeen) (one other : Status) (tells : IsTold before.input)
     (can : CanFail before) (talks : TellsTalk words before) (not_one : one ≢ status.Memory) (not_other : other ≢ status.Memory) where
-  one_end : (found : Option CommandName) → EndsNamed found words seed input input' before after one
-      → EndsNamed found words seed input input' before after other → end_of one ≡ end_of other
+  one_end : (found : Option CommandName) → EndsNamed found words seed before after one
+      → EndsNamed found words seed before after other → end_of one ≡ end_of other
   one_end (Some name.Replay) (ends, aside) (ends', aside') =
-      one_of name.Replay replay_command replay_exclusive (one_script_fault law) words input input' before.outside.out after.outside.out one other
+      one_of name.Replay replay_command replay_exclusive (one_script_fault law) words before.input after.input before.out after.out one other
       tells can.out_counts not_one not_other ends ends'
   one_end (Some name.Decode) (ends, aside) (ends', aside') =
-      one_of name.Decode decode_command decode_exclusive one_bad_line words input input' before.outside.out after.outside.out one other
+      one_of name.Decode decode_command decode_exclusive one_bad_line words before.input after.input before.out after.out one other
       tells can.out_counts not_one not_other ends ends'
   one_end (Some name.Filter) (ends, aside) (ends', aside') =
-      one_of name.Filter filter_command filter_exclusive one_no_pair words input input' before.outside.out after.outside.out one other
+      one_of name.Filter filter_command filter_exclusive one_no_pair words before.input after.input before.out after.out one other
       tells can.out_counts not_one not_other ends ends'
   one_end (Some name.Midi) (ends, aside) (ends', aside') =
-      one_midi (one_script_fault law) words input input' before.outside.out after.outside.out one other tells can.out_counts not_one not_other
+      one_midi (one_script_fault law) words before.input after.input before.out after.out one other tells can.out_counts not_one not_other
       ends ends'
   one_end (Some name.Load) (ends, unread, aside) (ends', unread', aside') =
-      one_load words before.outside.out after.outside.out one other can.out_counts not_one not_other ends ends'
+      one_load words before.out after.out one other can.out_counts not_one not_other ends ends'
   one_end (Some name.Live) (ends, untalked) (ends', untalked') =
-      one_live courses live_law words seed input input' before after one other tells can not_one not_other ends ends'
+      one_live courses live_law words seed before.input after.input before after one other tells can not_one not_other ends ends'
   one_end (Some name.Control) (ends, soundless) (ends', soundless') =
-      one_control tell head_law words seed input input' before after one other tells can talks not_one not_other ends ends'
+      one_control tell head_law words seed before.input after.input before after one other tells can talks not_one not_other ends ends'
   one_end None ends ends' = ap end_of (ends.words_at_fault ∙ sym ends'.words_at_fault)
 
 pub one_status : CourseLaws → EndsTell → IsFaultOnce → HasOneLiveFaultLine → HasOneHeadFaultLine → HasOneStatus
-one_status courses tell law live_law head_law words seed input input' before after one other tells can talks not_one not_other =
-    one_end courses tell law live_law head_law words seed input input' before after one other tells can talks not_one not_other
+one_status courses tell law live_law head_law words seed before after one other tells can talks not_one not_other =
+    one_end courses tell law live_law head_law words seed before after one other tells can talks not_one not_other
     (named_by words)

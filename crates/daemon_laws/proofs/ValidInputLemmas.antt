@@ -76,19 +76,19 @@ module _ (command : Command) (IsText : List ℕ → Type 0) (faultless : IsFault
   completes_by named words end taken (inr untaken) = absurd (untaken.other_words taken)
 
 completes_replay : CompletesValid name.Replay replay_command IsScriptText
-completes_replay words seed input input' before after end named valid reads writes ends =
-    completes_by replay_command IsScriptText script_faultless input input' before.outside.out after.outside.out valid reads writes name.Replay words end named
-    (as_named words name.Replay seed input input' before after end ([], named) ends).0
+completes_replay words seed before after end named valid reads writes ends =
+    completes_by replay_command IsScriptText script_faultless before.input after.input before.out after.out valid reads writes name.Replay words end named
+    (as_named words name.Replay seed before after end ([], named) ends).0
 
 completes_decode : CompletesValid name.Decode decode_command IsDecodable
-completes_decode words seed input input' before after end named valid reads writes ends =
-    completes_by decode_command IsDecodable decode_faultless input input' before.outside.out after.outside.out valid reads writes name.Decode words end named
-    (as_named words name.Decode seed input input' before after end ([], named) ends).0
+completes_decode words seed before after end named valid reads writes ends =
+    completes_by decode_command IsDecodable decode_faultless before.input after.input before.out after.out valid reads writes name.Decode words end named
+    (as_named words name.Decode seed before after end ([], named) ends).0
 
 completes_filter : CompletesValid name.Filter filter_command IsPairText
-completes_filter words seed input input' before after end named valid reads writes ends =
-    completes_by filter_command IsPairText filter_faultless input input' before.outside.out after.outside.out valid reads writes name.Filter words end named
-    (as_named words name.Filter seed input input' before after end ([], named) ends).0
+completes_filter words seed before after end named valid reads writes ends =
+    completes_by filter_command IsPairText filter_faultless before.input after.input before.out after.out valid reads writes name.Filter words end named
+    (as_named words name.Filter seed before after end ([], named) ends).0
 
 -- ---- a script that is played in blocks
 
@@ -101,9 +101,9 @@ midi_ends words input input' out out' end midi valid reads writes (inr (inl unta
 midi_ends words input input' out out' end midi valid reads writes (inr (inr unread)) = inr unread.no_memory
 
 completes_midi : CompletesMidi
-completes_midi words seed input input' before after end midi valid reads writes ends =
-    midi_ends words input input' before.outside.out after.outside.out end midi valid reads writes
-    (as_named words name.Midi seed input input' before after end midi.0 ends).0
+completes_midi words seed before after end midi valid reads writes ends =
+    midi_ends words before.input after.input before.out after.out end midi valid reads writes
+    (as_named words name.Midi seed before after end midi.0 ends).0
 
 -- ---- a load
 
@@ -116,8 +116,8 @@ load_ends words out out' status.Sink load writes (seed, count, named, (output, t
 load_ends words out out' other load writes never = absurd never
 
 completes_load : CompletesLoad
-completes_load words seed input input' before after end load writes ends =
-    load_ends words before.outside.out after.outside.out end load writes (as_named words name.Load seed input input' before after end load.0 ends).0
+completes_load words seed before after end load writes ends =
+    load_ends words before.out after.out end load writes (as_named words name.Load seed before after end load.0 ends).0
 
 pub complete_valid : CourseLaws → EndsTell → CompleteValid
 complete_valid courses tell = (

@@ -19,7 +19,7 @@ use Rattle.link_commands.specs.declared.status.Grammar.TheVariants as grammar
 use Rattle.link_commands.specs.declared.status.Status.{Status}
 use Rattle.link_commands.specs.declared.status.Status.TheVariants as status
 use Rattle.link_daemon.specs.ControlEnds.{EndsControl}
-use Rattle.link_daemon.specs.Ends.{control_seen}
+use Rattle.link_daemon.specs.Ends.{control_seen, live_seen}
 use Rattle.link_live_command.specs.LiveEnds.{EndsLive}
 use Rattle.link_daemon.specs.AllSeen.{AllSeen}
 use Rattle.link_live_command.specs.ScriptRead.{EndsHeadRead, EndsRead, EndsReadOf, ReadsScriptFault, ReadsTooMany}
@@ -59,16 +59,16 @@ module _ (wanted : Grammar) (FaultsAt : List ℕ → ℕ → Type 0) (input inpu
 -- ---- a live run
 
 module _ (laws : CourseLaws) (words : List (String Global)) (seed : ℕ) (input input' : Stream) (before after : AllSeen) (live : IsLive words)
-    (valid : IsValidLive input) (fits : has_ended after.outside.report.events ≡ true) (reads : Rose input.faults input'.faults → ⊥)
-    (posts : Rose before.outside.port.faults after.outside.port.faults → ⊥)
-    (plays : Rose before.outside.audio.faults after.outside.audio.faults → ⊥)
-    (writes : Rose before.outside.out.faults after.outside.out.faults → ⊥) where
+    (valid : IsValidLive input) (fits : has_ended after.report.events ≡ true) (reads : Rose input.faults input'.faults → ⊥)
+    (posts : Rose before.port.faults after.port.faults → ⊥)
+    (plays : Rose before.audio.faults after.audio.faults → ⊥)
+    (writes : Rose before.out.faults after.out.faults → ⊥) where
   no_live : (end : Status) → EndsRead input input' end → end ≡ status.Memory
   no_live =
       unread_ends grammar.LiveScript IsLiveLineFault input input' valid.bytes valid.told valid.within valid.few
       (λ line fault. fault.none valid.script) reads
 
-  live_ends : (end : Status) → EndsLive words seed input input' before.outside after.outside end → (end ≡ status.Done) ⊎ (end ≡ status.Memory)
+  live_ends : (end : Status) → EndsLive words seed input input' (live_seen before) (live_seen after) end → (end ≡ status.Done) ⊎ (end ≡ status.Memory)
   live_ends status.Done ends = inl refl
   live_ends status.Memory ends = inr refl
   live_ends status.Words (other, unread, not_begun) = absurd (other live)
@@ -83,9 +83,9 @@ module _ (laws : CourseLaws) (words : List (String Global)) (seed : ℕ) (input 
   live_ends other runs = absurd runs.ends
 
 pub completes_live : CourseLaws → CompletesLive
-completes_live laws words seed input input' before after end live valid fits reads posts plays writes ends =
-    live_ends laws words seed input input' before after live valid fits reads posts plays writes end
-    (as_named words name.Live seed input input' before after end live.0 ends).0
+completes_live laws words seed before after end live valid fits reads posts plays writes ends =
+    live_ends laws words seed before.input after.input before after live valid fits reads posts plays writes end
+    (as_named words name.Live seed before after end live.0 ends).0
 
 -- ---- a run under control
 
@@ -123,9 +123,9 @@ valid_and_many talk left valid many =
     many.many
 
 module _ (laws : EndsTell) (words : List (String Global)) (seed : ℕ) (input input' : Stream) (before after : AllSeen) (taken : IsControl words)
-    (valid : IsValidHead input) (valid_talk : IsValidTalk before.talk) (fits : has_ended after.outside.report.events ≡ true)
-    (reads : Rose input.faults input'.faults → ⊥) (posts : Rose before.outside.port.faults after.outside.port.faults → ⊥)
-    (talks : Rose before.talk.faults after.talk.faults → ⊥) (writes : Rose before.outside.out.faults after.outside.out.faults → ⊥) where
+    (valid : IsValidHead input) (valid_talk : IsValidTalk before.talk) (fits : has_ended after.report.events ≡ true)
+    (reads : Rose input.faults input'.faults → ⊥) (posts : Rose before.port.faults after.port.faults → ⊥)
+    (talks : Rose before.talk.faults after.talk.faults → ⊥) (writes : Rose before.out.faults after.out.faults → ⊥) where
   no_head : (end : Status) → EndsHeadRead input input' end → end ≡ status.Memory
   no_head =
       unread_ends grammar.LiveHead IsHeadLineFault input input' valid.bytes valid.told valid.within valid.few
@@ -148,6 +148,6 @@ module _ (laws : EndsTell) (words : List (String Global)) (seed : ℕ) (input in
   control_ends other runs = absurd runs.ends
 
 pub completes_control : EndsTell → CompletesControl
-completes_control laws words seed input input' before after end taken valid valid_talk fits reads posts talks writes ends =
-    control_ends laws words seed input input' before after taken valid valid_talk fits reads posts talks writes end
-    (as_named words name.Control seed input input' before after end taken.begins ends).0
+completes_control laws words seed before after end taken valid valid_talk fits reads posts talks writes ends =
+    control_ends laws words seed before.input after.input before after taken valid valid_talk fits reads posts talks writes end
+    (as_named words name.Control seed before after end taken.begins ends).0

@@ -32,9 +32,9 @@ end_of other = record { number = status_number_of other; fault = None; limit = N
 
 -- the counts of failures can still rise
 pub record CanFail (all : AllSeen) : Type 0 where
-  pub out_counts : all.outside.out.faults < 2 ^ 64 - 1
-  pub port_counts : all.outside.port.faults < 2 ^ 64 - 1
-  pub audio_counts : all.outside.audio.faults < 2 ^ 64 - 1
+  pub out_counts : all.out.faults < 2 ^ 64 - 1
+  pub port_counts : all.port.faults < 2 ^ 64 - 1
+  pub audio_counts : all.audio.faults < 2 ^ 64 - 1
   pub talk_counts : all.talk.faults < 2 ^ 64 - 1
 
 -- where the words are of `control`, the talk tells what its client sends
@@ -46,11 +46,11 @@ TellsTalk words all = BeginsControl words → IsSome all.talk.left
 -- The counts of failures can still rise, and the words that say to people why a line is at fault are left out.
 abbrev pub HasOneStatus : Type 0
 HasOneStatus =
-    (words : List (String Global)) (seed : ℕ) (input input' : Stream) (before after : AllSeen) (one other : Status)
-    → IsTold input → CanFail before → TellsTalk words before
+    (words : List (String Global)) (seed : ℕ) (before after : AllSeen) (one other : Status)
+    → IsTold before.input → CanFail before → TellsTalk words before
     → one ≢ status.Memory → other ≢ status.Memory
-    → Ends words seed input input' before after one
-    → Ends words seed input input' before after other
+    → Ends words seed before after one
+    → Ends words seed before after other
     → end_of one ≡ end_of other
 
 -- the first line at fault of a text is one line

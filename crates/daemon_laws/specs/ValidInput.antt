@@ -40,27 +40,27 @@ IsScriptText text = IsSomeScript (lines_of text)
 -- Where the words name the command, the input is valid and no count rose, all is done, or there was no memory.
 abbrev pub CompletesValid : CommandName → Command → (List ℕ → Type 0) → Type 0
 CompletesValid named command IsText =
-    (words : List (String Global)) (seed : ℕ) (input input' : Stream) (before after : AllSeen) (end : Status)
-    → Names named words → IsValidFor command.limit IsText input
-    → (Rose input.faults input'.faults → ⊥) → (Rose before.outside.out.faults after.outside.out.faults → ⊥)
-    → Ends words seed input input' before after end
+    (words : List (String Global)) (seed : ℕ) (before after : AllSeen) (end : Status)
+    → Names named words → IsValidFor command.limit IsText before.input
+    → (Rose before.input.faults after.input.faults → ⊥) → (Rose before.out.faults after.out.faults → ⊥)
+    → Ends words seed before after end
     → (end ≡ status.Done) ⊎ (end ≡ status.Memory)
 
 -- Where the words are those of `midi`, the input is a replay script, and no count rose, all is done, or there was no memory.
 abbrev pub CompletesMidi : Type 0
 CompletesMidi =
-    (words : List (String Global)) (seed : ℕ) (input input' : Stream) (before after : AllSeen) (end : Status)
-    → IsMidi words → IsValidFor replay_command.limit IsScriptText input
-    → (Rose input.faults input'.faults → ⊥) → (Rose before.outside.out.faults after.outside.out.faults → ⊥)
-    → Ends words seed input input' before after end
+    (words : List (String Global)) (seed : ℕ) (before after : AllSeen) (end : Status)
+    → IsMidi words → IsValidFor replay_command.limit IsScriptText before.input
+    → (Rose before.input.faults after.input.faults → ⊥) → (Rose before.out.faults after.out.faults → ⊥)
+    → Ends words seed before after end
     → (end ≡ status.Done) ⊎ (end ≡ status.Memory)
 
 -- Where the words are those of a load and no write failed, all is done, or there was no memory.
 abbrev pub CompletesLoad : Type 0
 CompletesLoad =
-    (words : List (String Global)) (seed : ℕ) (input input' : Stream) (before after : AllSeen) (end : Status)
-    → IsLoad words → (Rose before.outside.out.faults after.outside.out.faults → ⊥)
-    → Ends words seed input input' before after end
+    (words : List (String Global)) (seed : ℕ) (before after : AllSeen) (end : Status)
+    → IsLoad words → (Rose before.out.faults after.out.faults → ⊥)
+    → Ends words seed before after end
     → (end ≡ status.Done) ⊎ (end ≡ status.Memory)
 
 -- the input tells a live script within the limits
@@ -75,11 +75,11 @@ pub record IsValidLive (input : Stream) : Type 0 where
 -- the end last (where one finds none the journal has no end), all is done, or there was no memory.
 abbrev pub CompletesLive : Type 0
 CompletesLive =
-    (words : List (String Global)) (seed : ℕ) (input input' : Stream) (before after : AllSeen) (end : Status)
-    → IsLive words → IsValidLive input → has_ended after.outside.report.events ≡ true
-    → (Rose input.faults input'.faults → ⊥) → (Rose before.outside.port.faults after.outside.port.faults → ⊥)
-    → (Rose before.outside.audio.faults after.outside.audio.faults → ⊥) → (Rose before.outside.out.faults after.outside.out.faults → ⊥)
-    → Ends words seed input input' before after end
+    (words : List (String Global)) (seed : ℕ) (before after : AllSeen) (end : Status)
+    → IsLive words → IsValidLive before.input → has_ended after.report.events ≡ true
+    → (Rose before.input.faults after.input.faults → ⊥) → (Rose before.port.faults after.port.faults → ⊥)
+    → (Rose before.audio.faults after.audio.faults → ⊥) → (Rose before.out.faults after.out.faults → ⊥)
+    → Ends words seed before after end
     → (end ≡ status.Done) ⊎ (end ≡ status.Memory)
 
 -- the input tells the head of a live script within the limits
@@ -100,11 +100,11 @@ pub record IsValidTalk (talk : TalkSeen) : Type 0 where
 -- the journal, the end last, all is done, or there was no memory.
 abbrev pub CompletesControl : Type 0
 CompletesControl =
-    (words : List (String Global)) (seed : ℕ) (input input' : Stream) (before after : AllSeen) (end : Status)
-    → IsControl words → IsValidHead input → IsValidTalk before.talk → has_ended after.outside.report.events ≡ true
-    → (Rose input.faults input'.faults → ⊥) → (Rose before.outside.port.faults after.outside.port.faults → ⊥)
-    → (Rose before.talk.faults after.talk.faults → ⊥) → (Rose before.outside.out.faults after.outside.out.faults → ⊥)
-    → Ends words seed input input' before after end
+    (words : List (String Global)) (seed : ℕ) (before after : AllSeen) (end : Status)
+    → IsControl words → IsValidHead before.input → IsValidTalk before.talk → has_ended after.report.events ≡ true
+    → (Rose before.input.faults after.input.faults → ⊥) → (Rose before.port.faults after.port.faults → ⊥)
+    → (Rose before.talk.faults after.talk.faults → ⊥) → (Rose before.out.faults after.out.faults → ⊥)
+    → Ends words seed before after end
     → (end ≡ status.Done) ⊎ (end ≡ status.Memory)
 
 -- Rule: A run of valid words, input and talk within their limits ends with status 0, or 9 for want of memory, where no count of failures

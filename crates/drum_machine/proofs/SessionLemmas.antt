@@ -12,7 +12,7 @@ use Rattle.link_live.specs.NodeRun.{IsNodeRun, recorded_of}
 use Rattle.step_sequencer.specs.Sound.{Ages, silent}
 use Rattle.step_sequencer.specs.declared.pattern.Pattern.{Pattern}
 use Rattle.drum_machine.specs.Player.{HasDrummed, IsPlayed}
-use Rattle.drum_machine.specs.Session.{DevicesSeen, EndsSession, HasSession, counts_of}
+use Rattle.drum_machine.specs.Session.{DevicesSeen, EndsSession, HasSession}
 use Rattle.drum_machine.specs.declared.callback.Drums.{Drums}
 use Rattle.drum_machine.specs.declared.player.PlayEnd.{PlayEnd}
 use Rattle.drum_machine.specs.declared.status.Status.{Status}
@@ -23,8 +23,8 @@ none_read = λ j k first second le e f. absurd (some-ne-none first (sym e))
 pub has_session : (config : ConfigValue) (now : ℤ) (most : ℕ) (before after : DevicesSeen) (events : List EventValue) (published : List State)
     (app : AppView) (pass : AudioView) (blocks : ℕ) (drums : Drums) (ended : PlayEnd) (failed full : Bool)
     → most ≡ 262_144 → drums.kit ≡ silent → drums.clock ≡ false
-    → IsNodeRun config now most failed full before.port.told after.port.told after.port.gates before.port.faults after.port.faults pass app events published
-    → HasDrummed blocks drums new_audio pass (counts_of before) (counts_of after) before.audio.told after.audio.told before.sound.told after.sound.told before.midi.told after.midi.told ended
+    → IsNodeRun config now most failed full before.port after.port pass app events published
+    → HasDrummed blocks drums new_audio pass before.audio after.audio before.sound after.sound before.midi after.midi ended
     → HasSession blocks drums.pattern config now before after ended failed full
 has_session config now most before after events published app pass blocks drums ended failed full most_is still stopped run drummed =
     let Played : Ages → Bool → PlayEnd → Type 0 = λ ages running end.

@@ -2,6 +2,7 @@
 use Rattle.std.specs.Prelude.{◌≡◌, ◌⊎◌, ℕ, List, [], Option, IfSome}
 use Rattle.lk_outside.specs.Audio.{AudioContents}
 use Rattle.lk_outside.specs.Faults.{Rose}
+use Rattle.lk_outside.specs.Stream.{Stream}
 use Rattle.lk_outside.specs.Transfer.{ReadsWhole, TakesOver}
 use Rattle.step_sequencer.specs.Pattern.{IsFaultAt}
 use Rattle.drum_machine.specs.declared.player.PlayEnd.{PlayEnd}
@@ -49,15 +50,15 @@ EndsRehearsal faults faults_then status.TooLong = ⊥
 -- wanting.
 -- Why no pattern was read: the source failed, it has more bytes than are read, or its text has its first fault in a line. Only want of
 -- memory is free, and no other status is told.
-abbrev pub IsUnread : (left left_then : Option (List ℕ)) → (faults faults_then : ℕ) → Status → Type 0
-IsUnread left left_then faults faults_then status.Input = Rose faults faults_then
-IsUnread left left_then faults faults_then status.TooLong = (faults_then ≡ faults) × TakesOver 4_096 left left_then
-IsUnread left left_then faults faults_then (status.Pattern line) =
-    (faults_then ≡ faults) × (bytes : List ℕ) × ReadsWhole left bytes left_then × IsFaultAt bytes line
-IsUnread left left_then faults faults_then status.Memory = Unit {0}
-IsUnread left left_then faults faults_then status.Done = ⊥
-IsUnread left left_then faults faults_then status.Words = ⊥
-IsUnread left left_then faults faults_then status.Network = ⊥
-IsUnread left left_then faults faults_then status.Audio = ⊥
-IsUnread left left_then faults faults_then status.Events = ⊥
-IsUnread left left_then faults faults_then status.Output = ⊥
+abbrev pub IsUnread : Stream → Stream → Status → Type 0
+IsUnread input input_then status.Input = Rose input.faults input_then.faults
+IsUnread input input_then status.TooLong = (input_then.faults ≡ input.faults) × TakesOver 4_096 input.told input_then.told
+IsUnread input input_then (status.Pattern line) =
+    (input_then.faults ≡ input.faults) × (bytes : List ℕ) × ReadsWhole input.told bytes input_then.told × IsFaultAt bytes line
+IsUnread input input_then status.Memory = Unit {0}
+IsUnread input input_then status.Done = ⊥
+IsUnread input input_then status.Words = ⊥
+IsUnread input input_then status.Network = ⊥
+IsUnread input input_then status.Audio = ⊥
+IsUnread input input_then status.Events = ⊥
+IsUnread input input_then status.Output = ⊥

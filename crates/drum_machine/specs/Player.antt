@@ -8,9 +8,10 @@ use Rattle.client_state.specs.Commit.{commit_between}
 use Rattle.client_state.specs.Words.{state_of_words}
 use Rattle.client_state.specs.declared.commit.Commit.{Commit}
 use Rattle.client_state.specs.declared.state.State.{State}
-use Rattle.lk_outside.specs.Audio.{AudioContents}
+use Rattle.lk_outside.specs.Audio.{AudioContents, AudioSeen}
 use Rattle.lk_outside.specs.Contents.{BothTell}
 use Rattle.lk_outside.specs.Sink.{Appends}
+use Rattle.lk_outside.specs.Stream.{Stream}
 use Rattle.link_midi.specs.Events.{events_of, running_after}
 use Rattle.link_shared.specs.Audio.{AudioView}
 use Rattle.step_sequencer.specs.Sound.{Ages, sounds_from, ages_from}
@@ -18,7 +19,7 @@ use Rattle.step_sequencer.specs.Wav.{samples_bytes}
 use Rattle.step_sequencer.specs.declared.pattern.Pattern.{Pattern}
 use Rattle.drum_machine.specs.Callback.{block_from, changed_by}
 use Rattle.drum_machine.specs.declared.callback.Change.TheVariants as change
-use Rattle.drum_machine.specs.Ends.{Counts, HasPlayCause}
+use Rattle.drum_machine.specs.Ends.{HasPlayCause, counted}
 use Rattle.drum_machine.specs.Written.{AppendsFront, AreCutShortByReads, AreWrittenByReads, midi_lines_of, shown_of}
 use Rattle.drum_machine.specs.declared.callback.Drums.{Drums}
 use Rattle.drum_machine.specs.declared.player.PlayEnd.{PlayEnd}
@@ -132,7 +133,7 @@ IsPlayed blocks pattern ages running told told_then pass pass_then sound sound_t
     IsCutOff blocks pattern ages running told told_then pass pass_then sound sound_then midi midi_then
 
 -- Only for proofs: all that the loop promises, as threads that are joined have one clause.
-pub record HasDrummed (blocks : ℕ) (drums : Drums) (pass pass_then : AudioView) (before after : Counts) (told told_then : Option AudioContents) (sound sound_then midi midi_then : Option (List ℕ)) (end : PlayEnd) : Type 0 where
+pub record HasDrummed (blocks : ℕ) (drums : Drums) (pass pass_then : AudioView) (audio audio_then : AudioSeen) (sound sound_then midi midi_then : Stream) (end : PlayEnd) : Type 0 where
   pub played : HasPlayed pass pass_then
-  pub written : IsPlayed blocks drums.pattern drums.kit drums.clock told told_then pass pass_then sound sound_then midi midi_then end
-  pub cause : HasPlayCause before after told_then end
+  pub written : IsPlayed blocks drums.pattern drums.kit drums.clock audio.told audio_then.told pass pass_then sound.told sound_then.told midi.told midi_then.told end
+  pub cause : HasPlayCause (counted audio.faults sound.faults midi.faults) (counted audio_then.faults sound_then.faults midi_then.faults) audio_then.told end

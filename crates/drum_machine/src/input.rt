@@ -18,7 +18,7 @@ const MOST_BYTES: usize = 4_096;
 /// Waits: in the source. Memory: the text.
 pub fn read_input<S: Source>(alloc: Global, input: &mut S) -> Result<Pattern, Status>
     ensures pattern { IfOk result (λ pattern. ReadsWhole (S.seen input.old).told (spelled_of pattern) (S.seen input.new).told) }
-    ensures fault { IfErr result (IsUnread (S.seen input.old).told (S.seen input.new).told (S.seen input.old).faults (S.seen input.new).faults) }
+    ensures fault { IfErr result (IsUnread (S.seen input.old) (S.seen input.new)) }
     ensures quiet { OnOk result ((S.seen input.new).faults ≡ (S.seen input.old).faults) }
 {
     let text = match read_all(alloc, input, MOST_BYTES) {

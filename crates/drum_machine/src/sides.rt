@@ -1,6 +1,5 @@
 //! The drum machine's side of a run: its audio thread.
 
-ghost use Rattle.drum_machine.specs.Ends.{counted};
 ghost use Rattle.drum_machine.specs.Player.{CanPlay, HasDrummed};
 
 use crate::callback::Drums;
@@ -31,10 +30,8 @@ impl<N: LinkName, A: Audio, W: Sink, M: Sink, R> Side<
 
     ghost runs = { λ side side_then pass pass_then outlet outlet_then none none_then end.
         HasDrummed side.blocks side.drums pass pass_then
-        (counted (A.seen outlet.audio).faults (W.seen outlet.sound).faults (M.seen outlet.midi).faults)
-        (counted (A.seen outlet_then.audio).faults (W.seen outlet_then.sound).faults (M.seen outlet_then.midi).faults)
-        (A.seen outlet.audio).told (A.seen outlet_then.audio).told
-        (W.seen outlet.sound).told (W.seen outlet_then.sound).told (M.seen outlet.midi).told (M.seen outlet_then.midi).told end };
+        (A.seen outlet.audio) (A.seen outlet_then.audio) (W.seen outlet.sound) (W.seen outlet_then.sound)
+        (M.seen outlet.midi) (M.seen outlet_then.midi) end };
 
     fn run(
         &mut self,

@@ -2,7 +2,7 @@
 use Rattle.std.proofs.Common.{◌≡◌, ℕ, ℤ, pos, Bool, List, [], Option, refl, subst}
 use Rattle.lk_base.specs.declared.endpoint.Endpoint.{Endpoint}
 use Rattle.lk_outside.specs.Pace.{IsPaced}
-use Rattle.lk_outside.specs.Port.{PortContents}
+use Rattle.lk_outside.specs.Port.{PortSeen}
 use Rattle.lk_outside.specs.Talk.{TalkSeen}
 use Rattle.client_state.specs.declared.commit.Commit.{Commit}
 use Rattle.client_state.specs.declared.state.State.{State}
@@ -22,7 +22,7 @@ use Rattle.link_control.specs.declared.log.LineLog.{LineLog}
 use Rattle.link_control.specs.declared.server.Served.{Served}
 use Rattle.link_control.proofs.ClientLemmas.{is_client_part, made_in}
 
-module _ (config : ConfigValue) (now : ℤ) (most : ℕ) (at : Endpoint) (late : Option ℤ) (p0 p1 : Option PortContents) (gates : List Endpoint) (f0 f1 : ℕ) (talk talk_then : TalkSeen)
+module _ (config : ConfigValue) (now : ℤ) (most : ℕ) (at : Endpoint) (late : Option ℤ) (p0 p1 : PortSeen) (talk talk_then : TalkSeen)
     (events : List EventValue) (published : List State) (captures : List Capture) (commits : List Commit) (log : List LineLog) where
   abbrev told : ReportValue
   told = record {
@@ -41,9 +41,9 @@ module _ (config : ConfigValue) (now : ℤ) (most : ℕ) (at : Endpoint) (late :
   setup = record { config = config; events = most; at = at }
 
   pub control_ends : (audio : AudioView) (app : AppView) (ended : Served) (failed full : Bool) → IsPaced late (pos 0) now
-      → IsNodeRun config now most failed full p0 p1 gates f0 f1 audio app events published → audio ≡ new_audio
+      → IsNodeRun config now most failed full p0 p1 audio app events published → audio ≡ new_audio
       → IsTalked at late talk talk_then app log ended → captures ≡ captures_in log → commits ≡ made_in log
-      → EndsControlRun setup late p0 p1 gates f0 f1 talk talk_then told log (first_of ended failed full)
+      → EndsControlRun setup late p0 p1 talk talk_then told log (first_of ended failed full)
   control_ends audio app ended failed full opening run still talked captures_are commits_are = record {
     served = ended;
     failed = failed;
@@ -52,7 +52,7 @@ module _ (config : ConfigValue) (now : ℤ) (most : ℕ) (at : Endpoint) (late :
     port_works = run.works;
     port_fails = run.fails;
     run = record {
-      recorded = recorded_late config now most late failed full p0 p1 gates events published told opening run.recorded;
+      recorded = recorded_late config now most late failed full p0.told p1.told p1.gates events published told opening run.recorded;
       served = is_client_part app audio events published full setup late ended talk talk_then told log run.fits talked captures_are commits_are;
       -- an audio thread that made no commit has none in the journal
       silent = record {

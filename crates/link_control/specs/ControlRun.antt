@@ -5,7 +5,7 @@ use Rattle.std.specs.Vec.{vec_capacity}
 use Rattle.audio_handoff.specs.Cell.{Grows}
 use Rattle.lk_base.specs.declared.endpoint.Endpoint.{Endpoint}
 use Rattle.lk_outside.specs.Faults.{Rose}
-use Rattle.lk_outside.specs.Port.{PortContents}
+use Rattle.lk_outside.specs.Port.{PortContents, PortSeen}
 use Rattle.lk_outside.specs.Talk.{TalkSeen}
 use Rattle.link_node.specs.Config.{ConfigValue}
 use Rattle.link_node.specs.Event.{event_value}
@@ -104,14 +104,14 @@ pub record IsControlRun (setup : ControlSetup) (late : Option ℤ) (ended : Serv
   pub silent : HasNoAudio report
 
 -- What the run met, by which its end goes, with the causes; and what is promised of it then.
-pub record EndsControlRun (setup : ControlSetup) (late : Option ℤ) (port port_then : Option PortContents) (gates : List Endpoint) (port_faults port_faults_then : ℕ) (talk talk_then : TalkSeen) (report : ReportValue) (log : List LineLog) (ended : ControlEnd) : Type 0 where
+pub record EndsControlRun (setup : ControlSetup) (late : Option ℤ) (port port_then : PortSeen) (talk talk_then : TalkSeen) (report : ReportValue) (log : List LineLog) (ended : ControlEnd) : Type 0 where
   pub served : Served
   pub failed : Bool
   pub full : Bool
   pub ended_is : ended ≡ first_of served failed full
-  pub port_works : failed ≡ false → port_faults_then ≡ port_faults
-  pub port_fails : failed ≡ true → Rose port_faults port_faults_then
-  pub run : IsControlRun setup late served failed full port port_then gates talk talk_then report log
+  pub port_works : failed ≡ false → port_then.faults ≡ port.faults
+  pub port_fails : failed ≡ true → Rose port.faults port_then.faults
+  pub run : IsControlRun setup late served failed full port.told port_then.told port_then.gates talk talk_then report log
 
 -- by how a run ended, what it met
 pub record EndsTell : Type 0 where

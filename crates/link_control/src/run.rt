@@ -82,8 +82,7 @@ pub fn control_run<
     requires opening { IsPaced (T.late pace.old) (pos 0) parts.opened_at }
     requires ready { IsReady room log.old }
     ensures ends { EndsControlRun (record { config = parts.config; events = parts.most; at = at }) (T.late pace.old)
-        (P.seen port.old).told (P.seen port.new).told (P.seen port.new).gates (P.seen port.old).faults (P.seen port.new).faults
-        (L.seen talk.old) (L.seen talk.new)
+        (P.seen port.old) (P.seen port.new) (L.seen talk.old) (L.seen talk.new)
         (told_of parts.config parts.opened_at result) log.new.lines.items result.end }
     ensures fitting { AreFitting (length parts.config.gates) 0 0 (map event_value result.events.items) }
 {

@@ -27,7 +27,7 @@ use Rattle.link_live_command.proofs.RunLemmas.{wrote_some}
 
 -- how a run ends whose summary was written, or in part
 pub run_ended : (setup : ControlSetup) (before after : ControlSeen) (ended : ControlEnd) (wrote : Bool)
-    → EndsControlRun setup before.late before.port.told after.port.told after.port.gates before.port.faults after.port.faults before.talk after.talk after.report after.log ended
+    → EndsControlRun setup before.late before.port after.port before.talk after.talk after.report after.log ended
     → (wrote ≡ true → WritesWhole before.out after.out (live_text_of after.report false))
     → (wrote ≡ false → WritesPart before.out after.out (live_text_of after.report false))
     → EndsControlled setup before after (control_status_from ended wrote)
@@ -59,7 +59,7 @@ module _ (seed : ℕ) (options : ControlOptions) (head : LiveHead) (config opene
       ∙ ap (λ (n : ℕ). setup_of (controlled_config_from seed options head) n options.at) most_is
 
   pub run_of_head : config ≡ controlled_config_from seed options head → (opened ≡ config) × (at ≡ now) × (most ≡ options.events) → late' ≡ late
-      → EndsControlRun (setup_of opened most options.at) late' port.told port'.told port'.gates port.faults port'.faults talk talk' (told_of opened at run) log' run.end
+      → EndsControlRun (setup_of opened most options.at) late' port port' talk talk' (told_of opened at run) log' run.end
       → report ≡ told_of config now run
       → (wrote ≡ true → WritesWhole out out' (live_text_of report false))
       → (wrote ≡ false → WritesPart out out' (live_text_of report false))
@@ -74,11 +74,11 @@ module _ (seed : ℕ) (options : ControlOptions) (head : LiveHead) (config opene
       (run_ended (control_setup_from seed options head)
       (record { port = port; talk = talk; late = late; out = out; report = before; log = log })
       (record { port = port'; talk = talk'; late = late''; out = out'; report = report; log = log' }) run.end wrote
-      (subst (λ (s : ControlSetup). EndsControlRun s late port.told port'.told port'.gates port.faults port'.faults talk talk' report log' run.end)
+      (subst (λ (s : ControlSetup). EndsControlRun s late port port' talk talk' report log' run.end)
       (same_setup config_is given)
-      (subst (λ (l : Option ℤ). EndsControlRun (setup_of opened most options.at) l port.told port'.told port'.gates port.faults port'.faults talk talk' report log' run.end)
+      (subst (λ (l : Option ℤ). EndsControlRun (setup_of opened most options.at) l port port' talk talk' report log' run.end)
       late_is
-      (subst (λ (r : ReportValue). EndsControlRun (setup_of opened most options.at) late' port.told port'.told port'.gates port.faults port'.faults talk talk' r log' run.end)
+      (subst (λ (r : ReportValue). EndsControlRun (setup_of opened most options.at) late' port port' talk talk' r log' run.end)
       (ap (λ (c : ConfigValue). told_of c at run) given.0 ∙ ap (λ (n : ℤ). told_of config n run) given.1 ∙ sym report_is)
       ends)))
       whole part)

@@ -1,7 +1,6 @@
 -- How the program ends, from how the command ends that its words name.
 use Rattle.std.proofs.Common.{◌≡◌, List, ℕ, Option, Some, Global, subst, sym, ◌∙◌}
 use Rattle.std.specs.declared.string.String.{String}
-use Rattle.lk_outside.specs.Stream.{Stream}
 use Rattle.link_words.specs.CommandNames.{BeginsBy, named_by}
 use Rattle.link_words.proofs.NameLemmas.{begun_is}
 use Rattle.link_words.specs.declared.command_name.CommandName.{CommandName}
@@ -12,10 +11,10 @@ use Rattle.link_daemon.specs.Ends.{Ends, EndsNamed}
 use Rattle.link_daemon.specs.AllSeen.{AllSeen}
 
 -- as the command whose word is the first
-pub as_named : (words : List (String Global)) (named : CommandName) (seed : ℕ) (input input' : Stream) (before after : AllSeen) (end : Status)
-    → BeginsBy named words → Ends words seed input input' before after end → EndsNamed (Some named) words seed input input' before after end
-as_named words named seed input input' before after end begun ends =
-    subst (λ (f : Option CommandName). EndsNamed f words seed input input' before after end) (begun_is words named begun) ends
+pub as_named : (words : List (String Global)) (named : CommandName) (seed : ℕ) (before after : AllSeen) (end : Status)
+    → BeginsBy named words → Ends words seed before after end → EndsNamed (Some named) words seed before after end
+as_named words named seed before after end begun ends =
+    subst (λ (f : Option CommandName). EndsNamed f words seed before after end) (begun_is words named begun) ends
 
 -- words that begin with a command's word name no other
 pub one_command : (words : List (String Global)) (named other : CommandName) → named_by words ≡ Some named → BeginsBy other words → named ≡ other

@@ -65,7 +65,7 @@ pub record IsControlSetUp (words : List (String Global)) (seed : ℕ) (input inp
 -- Rule: The summary of `control` has the two lines of a report of `live` without a record.
 -- A run ended so, which holds to all that is promised of a run under control whatever it met, and so much of its summary was written.
 pub record HasEndedControl (setup : ControlSetup) (before after : ControlSeen) (ended : ControlEnd) (Writes : Stream → Stream → List ℕ → Type 0) : Type 0 where
-  pub run : EndsControlRun setup before.late before.port.told after.port.told after.port.gates before.port.faults after.port.faults before.talk after.talk after.report after.log ended
+  pub run : EndsControlRun setup before.late before.port after.port before.talk after.talk after.report after.log ended
   pub written : Writes before.out after.out (live_text_of after.report false)
 
 -- nothing was called but the input and the pace, and nothing is told anew

@@ -6,8 +6,7 @@ ghost use Rattle.link_live_command.specs.LiveEnds.{IfNotBegun};
 ghost use Rattle.link_words.specs.ControlWords.{BeginsControl};
 ghost use Rattle.link_words.specs.LiveWords.{BeginsLive};
 ghost use Rattle.link_words.specs.LoadWords.{BeginsLoad};
-ghost use Rattle.link_daemon.specs.AllSeen.{all_seen_of};
-ghost use Rattle.link_live_command.specs.Outside.{outside_of};
+ghost use Rattle.link_daemon.specs.AllSeen.{all_seen};
 ghost use Rattle.link_live.specs.Report.{report_value};
 ghost use Rattle.link_commands.specs.Statuses.{IfNothingWritten};
 
@@ -49,12 +48,11 @@ pub fn link_main<
     report: &mut Report,
     log: &mut SessionLog,
 ) -> Status
-    ensures ends { Ends words.now seed (S.seen input.old) (S.seen input.new)
-        (all_seen_of (outside_of (P.seen port.old) (A.seen audio.old) (T.late pace.old) (K.seen out.old) (report_value report.old))
-        (L.seen talk.old) log.old.lines.items)
-        (all_seen_of (outside_of (P.seen port.new) (A.seen audio.new) (T.late pace.new) (K.seen out.new) (report_value report.new))
-        (L.seen talk.new) log.new.lines.items)
-        result }
+    ensures ends { Ends words.now seed
+        (all_seen (S.seen input.old) (P.seen port.old) (A.seen audio.old) (L.seen talk.old) (T.late pace.old) (K.seen out.old)
+        (report_value report.old) log.old.lines.items)
+        (all_seen (S.seen input.new) (P.seen port.new) (A.seen audio.new) (L.seen talk.new) (T.late pace.new) (K.seen out.new)
+        (report_value report.new) log.new.lines.items) result }
 
     // No object is called, or just those of the command.
     ensures untouched { result ≡ Status.Words → (input.new ≡ input.old) × (pace.new ≡ pace.old) × (out.new ≡ out.old) }

@@ -2,9 +2,9 @@
 use Rattle.std.proofs.Common.{ℕ, ℤ, pos, ◌≤◌, Bool, List, [], ◌∷◌, length, map, Option, refl, ap, length-append, arith}
 use Rattle.lk_base.specs.declared.block.Click.{Click}
 use Rattle.lk_base.specs.declared.endpoint.Endpoint.{Endpoint}
-use Rattle.lk_outside.specs.Audio.{AudioContents}
+use Rattle.lk_outside.specs.Audio.{AudioContents, AudioSeen}
 use Rattle.lk_outside.specs.Pace.{IsPaced}
-use Rattle.lk_outside.specs.Port.{PortContents}
+use Rattle.lk_outside.specs.Port.{PortSeen}
 use Rattle.client_state.specs.declared.commit.Commit.{Commit}
 use Rattle.client_state.specs.declared.state.State.{State}
 use Rattle.link_node.specs.Config.{ConfigValue}
@@ -50,11 +50,11 @@ can_take blocks script room ready = record {
 -- ---- how it ends
 
 pub run_ends : (config : ConfigValue) (now : ℤ) (most blocks : ℕ) (apps : List AppCommand) (list : List BlockCommand) (late : Option ℤ) (app : AppView) (pass : AudioView)
-    (p0 p1 : Option PortContents) (gates : List Endpoint) (f0 f1 : ℕ) (a0 a1 : Option AudioContents) (af0 af1 : ℕ) (audio_report : AudioReport) (script_report : ScriptReport)
+    (p0 p1 : PortSeen) (a0 a1 : AudioSeen) (audio_report : AudioReport) (script_report : ScriptReport)
     (events : List EventValue) (published : List State) (captured failed played full : Bool) → IsPaced late (pos 0) now
-    → IsNodeRun config now most failed full p0 p1 gates f0 f1 pass app events published
-    → HasPlayedBlocks blocks list new_audio pass a0 a1 af0 af1 audio_report played → HasTakenCommands late apps app script_report captured
-    → EndsLiveRun (record { config = config; events = most; blocks = blocks; apps = apps; block_commands = list }) late p0 p1 gates f0 f1 a0 a1 af0 af1
+    → IsNodeRun config now most failed full p0 p1 pass app events published
+    → HasPlayedBlocks blocks list new_audio pass a0 a1 audio_report played → HasTakenCommands late apps app script_report captured
+    → EndsLiveRun (record { config = config; events = most; blocks = blocks; apps = apps; block_commands = list }) late p0 p1 a0 a1
     (record {
       config = config;
       now = now;
@@ -67,7 +67,7 @@ pub run_ends : (config : ConfigValue) (now : ℤ) (most blocks : ℕ) (apps : Li
       plays = map (λ clicks. clicks.items) audio_report.plays.items;
     })
     (first_of captured failed played full)
-run_ends config now most blocks apps list late app pass p0 p1 gates f0 f1 a0 a1 af0 af1 audio_report script_report events published captured failed played full opening run audio script = record {
+run_ends config now most blocks apps list late app pass p0 p1 a0 a1 audio_report script_report events published captured failed played full opening run audio script = record {
   course = record { captured = captured; failed = failed; played = played; full = full };
   ended_is = refl;
   port_works = run.works;
@@ -75,8 +75,8 @@ run_ends config now most blocks apps list late app pass p0 p1 gates f0 f1 a0 a1 
   audio_works = audio.cause.works;
   audio_fails = audio.cause.fails;
   run = record {
-    recorded = recorded_late config now most late failed full p0 p1 gates events published told opening run.recorded;
-    played = is_audio_part pass app events published full setup played a0 a1 told run.fits audio.run;
+    recorded = recorded_late config now most late failed full p0.told p1.told p1.gates events published told opening run.recorded;
+    played = is_audio_part pass app events published full setup played a0.told a1.told told run.fits audio.run;
     taken = is_script_part pass app events published full setup captured late told run.fits script;
   };
 }

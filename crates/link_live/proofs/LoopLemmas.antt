@@ -8,7 +8,7 @@ use Rattle.std.proofs.lemmas.List.{length-map}
 use Rattle.lk_base.specs.Ranges.{IsMoment}
 use Rattle.lk_base.specs.declared.endpoint.Endpoint.{Endpoint}
 use Rattle.lk_outside.specs.Faults.{Rose}
-use Rattle.lk_outside.specs.Port.{PortContents}
+use Rattle.lk_outside.specs.Port.{PortContents, PortSeen}
 use Rattle.link_node.specs.Config.{ConfigValue}
 use Rattle.link_node.specs.Due.{due_of, earliest_of}
 use Rattle.link_node.specs.Event.{EventValue, Rx, SendingValue}
@@ -186,24 +186,24 @@ has_ended_run first hub told told_then line run = record {
 
 -- ---- the cause of a failure
 
-pub has_cause : (bound : Bool) (faults : ℕ) (told : Option PortContents) (failed : Bool) → failed ≡ not bound → HasCause bound faults faults told told failed
-has_cause true faults told failed is = record {
+pub has_cause : (bound : Bool) (port : PortSeen) (failed : Bool) → failed ≡ not bound → HasCause bound port port failed
+has_cause true port failed is = record {
   works = λ _. (refl, refl);
   fails = λ e. absurd (true≢false (sym e ∙ is));
   unbound = λ e. absurd (true≢false e);
 }
-has_cause false faults told failed is = record {
+has_cause false port failed is = record {
   works = λ e. absurd (true≢false (sym is ∙ e));
   fails = λ _. inl refl;
   unbound = λ _. (is, refl, refl);
 }
 
-pub has_cause_then : (bound : Bool) (faults between after : ℕ) (told told_between told_then : Option PortContents) (failed failed_then : Bool)
-    → HasCause bound faults between told told_between failed
-    → (failed_then ≡ false → (failed ≡ false) × (after ≡ between)) → (failed ≡ false → failed_then ≡ true → Rose between after)
-    → (failed ≡ true → (failed_then ≡ true) × (after ≡ between) × (told_then ≡ told_between))
-    → HasCause bound faults after told told_then failed_then
-has_cause_then bound faults between after told told_between told_then failed failed_then cause works fails stays = record {
+pub has_cause_then : (bound : Bool) (first between after : PortSeen) (failed failed_then : Bool)
+    → HasCause bound first between failed
+    → (failed_then ≡ false → (failed ≡ false) × (after.faults ≡ between.faults)) → (failed ≡ false → failed_then ≡ true → Rose between.faults after.faults)
+    → (failed ≡ true → (failed_then ≡ true) × (after.faults ≡ between.faults) × (after.told ≡ between.told))
+    → HasCause bound first after failed_then
+has_cause_then bound first between after failed failed_then cause works fails stays = record {
   works = λ e. ((cause.works (works e).0).0, (works e).1 ∙ (cause.works (works e).0).1);
   fails = λ e. by_failed failed refl e;
   unbound = λ e.
@@ -211,10 +211,10 @@ has_cause_then bound faults between after told told_between told_then failed fai
       let same = stays before.0 in (same.0, same.1 ∙ before.1, same.2 ∙ before.2);
 }
   where
-    by_failed : (was : Bool) → failed ≡ was → failed_then ≡ true → (bound ≡ false) ⊎ Rose faults after
-    by_failed false test e = inr (subst (λ (n : ℕ). Rose n after) (cause.works test).1 (fails test e))
+    by_failed : (was : Bool) → failed ≡ was → failed_then ≡ true → (bound ≡ false) ⊎ Rose first.faults after.faults
+    by_failed false test e = inr (subst (λ (n : ℕ). Rose n after.faults) (cause.works test).1 (fails test e))
     by_failed true test e =
-        ⊎_elim (λ (unbound : bound ≡ false). inl unbound) (λ (rose : Rose faults between). inr (subst (λ (n : ℕ). Rose faults n) (sym (stays test).1) rose)) (cause.fails test)
+        ⊎_elim (λ (unbound : bound ≡ false). inl unbound) (λ (rose : Rose first.faults between.faults). inr (subst (λ (n : ℕ). Rose first.faults n) (sym (stays test).1) rose)) (cause.fails test)
 
 -- the same of the turn that popped a quit, with the clock as it is stored
 pub ended_run : (first hub : HubView) (told told_then : Option PortContents) (line : Line) (quit : Bool) → quit ≡ true → IsRunning first hub told told_then line quit

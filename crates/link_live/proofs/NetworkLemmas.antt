@@ -5,7 +5,7 @@ use Rattle.std.proofs.lemmas.List.{length-map}
 use Rattle.lk_base.specs.declared.endpoint.Endpoint.{Endpoint}
 use Rattle.lk_outside.specs.Faults.{Rose}
 use Rattle.lk_outside.specs.Pace.{IsPaced}
-use Rattle.lk_outside.specs.Port.{PortContents}
+use Rattle.lk_outside.specs.Port.{PortContents, PortSeen}
 use Rattle.client_state.specs.declared.state.State.{State}
 use Rattle.link_node.specs.Config.{ConfigValue}
 use Rattle.link_node.specs.Event.{EventValue, SendingValue}
@@ -26,9 +26,9 @@ use Rattle.link_live.proofs.RecordedLemmas.{BestLaw, is_recorded}
 
 -- ---- what the loop owes
 
-pub can_run : (bound : Bool) (hub : HubView) (gates : List Endpoint) (config given : ConfigValue) (now : ℤ) (most : ℕ)
-    → hub ≡ new_hub config now most → config ≡ given → (bound ≡ true → gates ≡ locals_of given) → CanRun bound hub gates
-can_run bound hub gates config given now most is same gates_are = record {
+pub can_run : (bound : Bool) (hub : HubView) (port : PortSeen) (config given : ConfigValue) (now : ℤ) (most : ℕ)
+    → hub ≡ new_hub config now most → config ≡ given → (bound ≡ true → port.gates ≡ locals_of given) → CanRun bound hub port
+can_run bound hub port config given now most is same gates_are = record {
   empty = ap (λ (h : HubView). h.journal) is;
   bound_to = λ yes. gates_are yes ∙ ap locals_of (sym same ∙ sym (ap (λ (h : HubView). h.config) is));
 }
@@ -51,77 +51,77 @@ last_on_gates laws hub pass clock events published sends list full bound law las
     both = ap (λ l. sent_by (opening_of hub) l) last.offered.journal ∙ laws.sent (opening_of hub) hub.journal last.offered.taken
 
 -- the gates that are bound, where the port has not failed in the network's loop
-pub still_bound : (bound : Bool) (hub0 hub1 hub2 : HubView) (app : AppView) (told told_then : Option PortContents) (gates gates_then : List Endpoint) (faults faults_then : ℕ) (end : NetEnd) (config given : ConfigValue) (now : ℤ) (most : ℕ)
-    → hub0 ≡ new_hub config now most → config ≡ given → HasRun bound hub0 hub1 told told_then gates gates_then faults faults_then end
-    → (bound ≡ true → gates ≡ locals_of given) → hub2 ≡ record hub1 { handed = hub1.handed ++ app ∷ [] } → end.failed ≡ false → gates_then ≡ locals_of hub2.config
-still_bound bound hub0 hub1 hub2 app told told_then gates gates_then faults faults_then end config given now most is same net gates_are hub2_is works =
+pub still_bound : (bound : Bool) (hub0 hub1 hub2 : HubView) (app : AppView) (port port_then : PortSeen) (end : NetEnd) (config given : ConfigValue) (now : ℤ) (most : ℕ)
+    → hub0 ≡ new_hub config now most → config ≡ given → HasRun bound hub0 hub1 port port_then end
+    → (bound ≡ true → port.gates ≡ locals_of given) → hub2 ≡ record hub1 { handed = hub1.handed ++ app ∷ [] } → end.failed ≡ false → port_then.gates ≡ locals_of hub2.config
+still_bound bound hub0 hub1 hub2 app port port_then end config given now most is same net gates_are hub2_is works =
     net.stay ∙ gates_are (net.cause.works works).0
     ∙ ap locals_of (sym same ∙ sym (ap (λ (h : HubView). h.config) is) ∙ sym net.run.same_config ∙ sym (ap (λ (h : HubView). h.config) hub2_is))
 
 -- ---- what the loop leaves
 
 -- the events of a run are ones that its node can take
-pub all_fit : (bound : Bool) (hub0 hub1 hub2 : HubView) (app : AppView) (given given_then : Option PortContents) (gates gates_then : List Endpoint) (faults faults_then : ℕ) (end : NetEnd) (config : ConfigValue) (now : ℤ) (most : ℕ) (events : List EventValue)
-    → hub0 ≡ new_hub config now most → HasRun bound hub0 hub1 given given_then gates gates_then faults faults_then end
+pub all_fit : (bound : Bool) (hub0 hub1 hub2 : HubView) (app : AppView) (port port_then : PortSeen) (end : NetEnd) (config : ConfigValue) (now : ℤ) (most : ℕ) (events : List EventValue)
+    → hub0 ≡ new_hub config now most → HasRun bound hub0 hub1 port port_then end
     → hub2 ≡ record hub1 { handed = hub1.handed ++ app ∷ [] } → AreFitting (length hub2.config.gates) 0 0 events → AreFitting (length config.gates) 0 0 events
-all_fit bound hub0 hub1 hub2 app given given_then gates gates_then faults faults_then end config now most events is net hub2_is fit =
+all_fit bound hub0 hub1 hub2 app port port_then end config now most events is net hub2_is fit =
     subst (λ (c : ConfigValue). AreFitting (length c.gates) 0 0 events)
     (ap (λ (h : HubView). h.config) hub2_is ∙ net.run.same_config ∙ ap (λ (h : HubView). h.config) is) fit
 
 -- the application's pass is the only one that was handed in
-pub only_handed : (bound : Bool) (hub0 hub1 hub2 : HubView) (app : AppView) (told told_then : Option PortContents) (gates gates_then : List Endpoint) (faults faults_then : ℕ) (end : NetEnd) (config : ConfigValue) (now : ℤ) (most : ℕ)
-    → hub0 ≡ new_hub config now most → HasRun bound hub0 hub1 told told_then gates gates_then faults faults_then end
+pub only_handed : (bound : Bool) (hub0 hub1 hub2 : HubView) (app : AppView) (port port_then : PortSeen) (end : NetEnd) (config : ConfigValue) (now : ℤ) (most : ℕ)
+    → hub0 ≡ new_hub config now most → HasRun bound hub0 hub1 port port_then end
     → hub2 ≡ record hub1 { handed = hub1.handed ++ app ∷ [] } → hub2.handed ≡ app ∷ []
-only_handed bound hub0 hub1 hub2 app told told_then gates gates_then faults faults_then end config now most is net hub2_is =
+only_handed bound hub0 hub1 hub2 app port port_then end config now most is net hub2_is =
     ap (λ (h : HubView). h.handed) hub2_is ∙ ap (λ (l : List AppView). l ++ app ∷ []) (net.run.same_handed ∙ ap (λ (h : HubView). h.handed) is)
 
 -- ---- how it ends
 
 -- what is recorded of a run, and whether a call of its port failed
-pub record HasClosed (config : ConfigValue) (most : ℕ) (late : Option ℤ) (failed full : Bool) (port port_then : Option PortContents) (gates : List Endpoint) (faults faults_then : ℕ) (report : ReportValue) : Type 0 where
-  pub works : failed ≡ false → faults_then ≡ faults
-  pub fails : failed ≡ true → Rose faults faults_then
-  pub recorded : IsRecorded config most late failed full port port_then gates report
+pub record HasClosed (config : ConfigValue) (most : ℕ) (late : Option ℤ) (failed full : Bool) (port port_then : PortSeen) (report : ReportValue) : Type 0 where
+  pub works : failed ≡ false → port_then.faults ≡ port.faults
+  pub fails : failed ≡ true → Rose port.faults port_then.faults
+  pub recorded : IsRecorded config most late failed full port.told port_then.told port_then.gates report
 
 module _ (laws : RunLaws) (best : BestLaw) (config : ConfigValue) (now : ℤ) (most : ℕ) (late : Option ℤ) (hub0 hub1 hub2 : HubView) (app : AppView) (pass : AudioView) (end : NetEnd) (clock : ℤ)
-    (p0 p1 p2 p3 : Option PortContents) (gates1 gates2 gates3 : List Endpoint) (f0 f1 f2 f3 : ℕ)
+    (p0 p1 p2 p3 : PortSeen)
     (events : List EventValue) (published : List State) (sends posts : List SendingValue) (bound : Bool)
-    (hub0_is : hub0 ≡ new_hub config now most) (net : HasRun bound hub0 hub1 p1 p2 gates1 gates2 f1 f2 end)
-    (bind_gates : bound ≡ true → gates1 ≡ locals_of config) (bind_works : bound ≡ true → f1 ≡ f0) (bind_fails : bound ≡ false → Rose f0 f1) (bind_contents : p1 ≡ p0)
+    (hub0_is : hub0 ≡ new_hub config now most) (net : HasRun bound hub0 hub1 p1 p2 end)
+    (bind_gates : bound ≡ true → p1.gates ≡ locals_of config) (bind_works : bound ≡ true → p1.faults ≡ p0.faults) (bind_fails : bound ≡ false → Rose p0.faults p1.faults) (bind_contents : p1.told ≡ p0.told)
     (hub2_is : hub2 ≡ record hub1 { handed = hub1.handed ++ app ∷ [] }) (clock_is : clock ≡ end.clock) (opening : IsPaced late (pos 0) now)
-    (posts_are : posts ≡ sends) (post_gates : gates3 ≡ gates2) where
-  run : IsNetworkRun (new_hub config now most) hub1 p1 p2 end.clock end.failed end.full
-  run = subst (λ (h : HubView). IsNetworkRun h hub1 p1 p2 end.clock end.failed end.full) hub0_is net.run
+    (posts_are : posts ≡ sends) (post_gates : p3.gates ≡ p2.gates) where
+  run : IsNetworkRun (new_hub config now most) hub1 p1.told p2.told end.clock end.failed end.full
+  run = subst (λ (h : HubView). IsNetworkRun h hub1 p1.told p2.told end.clock end.failed end.full) hub0_is net.run
 
-  net_is : IsNetworkRun (new_hub config now most) hub1 p0 p2 end.clock end.failed end.full
-  net_is = subst (λ (o : Option PortContents). IsNetworkRun (new_hub config now most) hub1 o p2 end.clock end.failed end.full) bind_contents run
+  net_is : IsNetworkRun (new_hub config now most) hub1 p0.told p2.told end.clock end.failed end.full
+  net_is = subst (λ (o : Option PortContents). IsNetworkRun (new_hub config now most) hub1 o p2.told end.clock end.failed end.full) bind_contents run
 
   -- the port's count rose
-  rose : (failed : Bool) → (end.failed ≡ false → failed ≡ true → Rose f2 f3) → (end.failed ≡ true → f3 ≡ f2) → failed ≡ true → Rose f0 f3
-  rose failed post_fails post_unbound fails = has_risen f0 f2 f3 end.failed failed
+  rose : (failed : Bool) → (end.failed ≡ false → failed ≡ true → Rose p2.faults p3.faults) → (end.failed ≡ true → p3.faults ≡ p2.faults) → failed ≡ true → Rose p0.faults p3.faults
+  rose failed post_fails post_unbound fails = has_risen p0.faults p2.faults p3.faults end.failed failed
       (λ works. (net.cause.works works).1 ∙ bind_works (net.cause.works works).0)
       (λ failed_then. by_bound bound refl (net.cause.fails failed_then))
       post_fails post_unbound fails
     where
-      by_bound : (b : Bool) → bound ≡ b → (bound ≡ false) ⊎ Rose f1 f2 → Rose f0 f2
-      by_bound false e why = subst (λ (n : ℕ). Rose f0 n) (sym (net.cause.unbound e).1) (bind_fails e)
+      by_bound : (b : Bool) → bound ≡ b → (bound ≡ false) ⊎ Rose p1.faults p2.faults → Rose p0.faults p2.faults
+      by_bound false e why = subst (λ (n : ℕ). Rose p0.faults n) (sym (net.cause.unbound e).1) (bind_fails e)
       by_bound true e why =
-          ⊎_elim (λ (n : bound ≡ false). absurd (true≢false (sym e ∙ n))) (λ (r : Rose f1 f2). subst (λ (n : ℕ). Rose n f2) (bind_works e) r) why
+          ⊎_elim (λ (n : bound ≡ false). absurd (true≢false (sym e ∙ n))) (λ (r : Rose p1.faults p2.faults). subst (λ (n : ℕ). Rose n p2.faults) (bind_works e) r) why
 
   -- and stayed
-  stays : (failed : Bool) → HasPosted posts end.failed failed p2 p3 → (failed ≡ false → f3 ≡ f2) → failed ≡ false → f3 ≡ f0
+  stays : (failed : Bool) → HasPosted posts end.failed failed p2.told p3.told → (failed ≡ false → p3.faults ≡ p2.faults) → failed ≡ false → p3.faults ≡ p0.faults
   stays failed posted post_works works =
       let before = (posted.all works).0 in post_works works ∙ (net.cause.works before).1 ∙ bind_works (net.cause.works before).0
 
-  pub network_closes : (failed full : Bool) (report : ReportValue) → HasEnded hub2 pass clock events published sends full → HasPosted posts end.failed failed p2 p3
-      → (failed ≡ false → f3 ≡ f2) → (end.failed ≡ false → failed ≡ true → Rose f2 f3) → (end.failed ≡ true → f3 ≡ f2)
-      → HasClosed config most late failed full p0 p3 gates3 f0 f3 (record report { config = config; now = now; events = events; published = published })
+  pub network_closes : (failed full : Bool) (report : ReportValue) → HasEnded hub2 pass clock events published sends full → HasPosted posts end.failed failed p2.told p3.told
+      → (failed ≡ false → p3.faults ≡ p2.faults) → (end.failed ≡ false → failed ≡ true → Rose p2.faults p3.faults) → (end.failed ≡ true → p3.faults ≡ p2.faults)
+      → HasClosed config most late failed full p0 p3 (record report { config = config; now = now; events = events; published = published })
   network_closes failed full report last posted works fails unbound = record {
     works = λ e. stays failed posted works e;
     fails = λ e. rose failed fails unbound e;
     recorded =
-        is_recorded laws config now most hub1 (hub1.handed ++ app ∷ []) pass end.clock p0 p2 events published sends end.failed end.full full net_is last_is best late failed p3 gates3 report opening
-        (subst (λ (l : List SendingValue). HasPosted l end.failed failed p2 p3) posts_are posted)
+        is_recorded laws config now most hub1 (hub1.handed ++ app ∷ []) pass end.clock p0.told p2.told events published sends end.failed end.full full net_is last_is best late failed p3.told p3.gates report opening
+        (subst (λ (l : List SendingValue). HasPosted l end.failed failed p2.told p3.told) posts_are posted)
         (λ e. let before = (posted.all e).0 in post_gates ∙ net.stay ∙ bind_gates (net.cause.works before).0);
   }
     where

@@ -4,7 +4,7 @@ use Rattle.lk_base.specs.Ranges.{IsMoment}
 use Rattle.lk_base.specs.declared.endpoint.Endpoint.{Endpoint}
 use Rattle.lk_outside.specs.Faults.{Rose}
 use Rattle.lk_outside.specs.Pace.{IsPaced}
-use Rattle.lk_outside.specs.Port.{PortContents}
+use Rattle.lk_outside.specs.Port.{PortContents, PortSeen}
 use Rattle.client_state.specs.declared.state.State.{State}
 use Rattle.link_node.specs.Config.{ConfigValue}
 use Rattle.link_node.specs.Event.{EventValue, SendingValue}
@@ -37,30 +37,30 @@ fits_journal hub audio app clock events published sends full last only = record 
 }
 
 module _ (laws : RunLaws) (best : BestLaw) (config : ConfigValue) (now : ℤ) (most : ℕ) (hub0 hub1 hub2 : HubView) (app : AppView) (audio : AudioView) (end : NetEnd) (clock : ℤ)
-    (p0 p1 p2 p3 : Option PortContents) (gates1 gates2 gates3 : List Endpoint) (f0 f1 f2 f3 : ℕ)
+    (p0 p1 p2 p3 : PortSeen)
     (events : List EventValue) (published : List State) (sends posts : List SendingValue) (bound : Bool)
-    (hub0_is : hub0 ≡ new_hub config now most) (net : HasRun bound hub0 hub1 p1 p2 gates1 gates2 f1 f2 end)
-    (bind_gates : bound ≡ true → gates1 ≡ locals_of config) (bind_works : bound ≡ true → f1 ≡ f0) (bind_fails : bound ≡ false → Rose f0 f1) (bind_contents : p1 ≡ p0)
+    (hub0_is : hub0 ≡ new_hub config now most) (net : HasRun bound hub0 hub1 p1 p2 end)
+    (bind_gates : bound ≡ true → p1.gates ≡ locals_of config) (bind_works : bound ≡ true → p1.faults ≡ p0.faults) (bind_fails : bound ≡ false → Rose p0.faults p1.faults) (bind_contents : p1.told ≡ p0.told)
     (hub2_is : hub2 ≡ record hub1 { handed = hub1.handed ++ app ∷ [] }) (clock_is : clock ≡ end.clock) (opened : IsMoment now)
-    (posts_are : posts ≡ sends) (post_gates : gates3 ≡ gates2) where
+    (posts_are : posts ≡ sends) (post_gates : p3.gates ≡ p2.gates) where
   opening : IsPaced None (pos 0) now
   opening = record { range = opened; lateness = tt; told = tt }
 
-  pub node_run : (failed full : Bool) → HasEnded hub2 audio clock events published sends full → HasPosted posts end.failed failed p2 p3
-      → (failed ≡ false → f3 ≡ f2) → (end.failed ≡ false → failed ≡ true → Rose f2 f3) → (end.failed ≡ true → f3 ≡ f2)
-      → IsNodeRun config now most failed full p0 p3 gates3 f0 f3 audio app events published
+  pub node_run : (failed full : Bool) → HasEnded hub2 audio clock events published sends full → HasPosted posts end.failed failed p2.told p3.told
+      → (failed ≡ false → p3.faults ≡ p2.faults) → (end.failed ≡ false → failed ≡ true → Rose p2.faults p3.faults) → (end.failed ≡ true → p3.faults ≡ p2.faults)
+      → IsNodeRun config now most failed full p0 p3 audio app events published
   node_run failed full last posted works fails unbound = record {
     recorded = closed.recorded;
     fits =
         fits_journal hub2 audio app clock events published sends full last
-        (only_handed bound hub0 hub1 hub2 app p1 p2 gates1 gates2 f1 f2 end config now most hub0_is net hub2_is);
+        (only_handed bound hub0 hub1 hub2 app p1 p2 end config now most hub0_is net hub2_is);
     works = closed.works;
     fails = closed.fails;
   }
     where
-      closed : HasClosed config most None failed full p0 p3 gates3 f0 f3 (recorded_of config now events published)
+      closed : HasClosed config most None failed full p0 p3 (recorded_of config now events published)
       closed =
-          network_closes laws best config now most None hub0 hub1 hub2 app audio end clock p0 p1 p2 p3 gates1 gates2 gates3 f0 f1 f2 f3 events published sends posts bound
+          network_closes laws best config now most None hub0 hub1 hub2 app audio end clock p0 p1 p2 p3 events published sends posts bound
           hub0_is net bind_gates bind_works bind_fails bind_contents hub2_is clock_is opening posts_are post_gates
           failed full (recorded_of config now events published) last posted works fails unbound
 

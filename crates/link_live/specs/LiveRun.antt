@@ -1,10 +1,9 @@
 -- How a live run ends.
 use Rattle.std.specs.Prelude.{◌≡◌, ◌≤◌, ◌<◌, ◌^◌, ℕ, ℤ, Bool, true, false, if◌then◌else◌, List, [], length, map, All, Option}
 use Rattle.std.specs.Vec.{vec_capacity}
-use Rattle.lk_base.specs.declared.endpoint.Endpoint.{Endpoint}
-use Rattle.lk_outside.specs.Audio.{AudioContents}
+use Rattle.lk_outside.specs.Audio.{AudioSeen}
 use Rattle.lk_outside.specs.Faults.{Rose}
-use Rattle.lk_outside.specs.Port.{PortContents}
+use Rattle.lk_outside.specs.Port.{PortSeen}
 use Rattle.link_node.specs.Config.{ConfigValue, GateValue}
 use Rattle.link_node.specs.Event.{event_value}
 use Rattle.link_script.specs.LiveScript.{IsCommand, IsLiveText, app, block}
@@ -58,14 +57,14 @@ first_of captured failed played full =
     if captured then (if failed then end.Port else (if played then (if full then end.Events else end.Well) else end.Audio)) else end.Memory
 
 -- What the run met, by which its end goes, with the causes; and what is promised of it then.
-pub record EndsLiveRun (setup : LiveSetup) (late : Option ℤ) (port port_then : Option PortContents) (gates : List Endpoint) (port_faults port_faults_then : ℕ) (audio audio_then : Option AudioContents) (audio_faults audio_faults_then : ℕ) (report : ReportValue) (ended : LiveEnd) : Type 0 where
+pub record EndsLiveRun (setup : LiveSetup) (late : Option ℤ) (port port_then : PortSeen) (audio audio_then : AudioSeen) (report : ReportValue) (ended : LiveEnd) : Type 0 where
   pub course : Course
   pub ended_is : ended ≡ first_of course.captured course.failed course.played course.full
-  pub port_works : course.failed ≡ false → port_faults_then ≡ port_faults
-  pub port_fails : course.failed ≡ true → Rose port_faults port_faults_then
-  pub audio_works : course.played ≡ true → audio_faults_then ≡ audio_faults
-  pub audio_fails : course.played ≡ false → Rose audio_faults audio_faults_then
-  pub run : IsLiveRun setup late course port port_then gates audio audio_then report
+  pub port_works : course.failed ≡ false → port_then.faults ≡ port.faults
+  pub port_fails : course.failed ≡ true → Rose port.faults port_then.faults
+  pub audio_works : course.played ≡ true → audio_then.faults ≡ audio.faults
+  pub audio_fails : course.played ≡ false → Rose audio.faults audio_then.faults
+  pub run : IsLiveRun setup late course port.told port_then.told port_then.gates audio.told audio_then.told report
 
 -- each command that a live script says is one that a run can take
 abbrev pub ScriptsHaveCommands : Type 0

@@ -1,9 +1,8 @@
 -- Only for proofs: what the three loops of a live run owe and promise, one record each, as threads that are joined have one clause.
 use Rattle.std.specs.Prelude.{◌≡◌, ◌≤◌, ◌<◌, ◌^◌, ◌+◌, ℕ, ℤ, not, Bool, true, None, List, [], length, map, All, Option}
 use Rattle.std.specs.Vec.{vec_capacity}
-use Rattle.lk_base.specs.declared.endpoint.Endpoint.{Endpoint}
-use Rattle.lk_outside.specs.Audio.{AudioContents}
-use Rattle.lk_outside.specs.Port.{PortContents}
+use Rattle.lk_outside.specs.Audio.{AudioSeen}
+use Rattle.lk_outside.specs.Port.{PortSeen}
 use Rattle.link_shared.specs.Audio.{AudioView}
 use Rattle.link_shared.specs.Hub.{HubView}
 use Rattle.link_shared.specs.Passes.{AppView}
@@ -19,14 +18,14 @@ use Rattle.link_live.specs.declared.script.ScriptReport.{ScriptReport}
 
 -- ---- the network's
 
-pub record CanRun (bound : Bool) (hub : HubView) (gates : List Endpoint) : Type 0 where
+pub record CanRun (bound : Bool) (hub : HubView) (port : PortSeen) : Type 0 where
   pub empty : hub.journal ≡ []
-  pub bound_to : bound ≡ true → gates ≡ locals_of hub.config
+  pub bound_to : bound ≡ true → port.gates ≡ locals_of hub.config
 
-pub record HasRun (bound : Bool) (before after : HubView) (told told_then : Option PortContents) (gates gates_then : List Endpoint) (faults faults_then : ℕ) (end : NetEnd) : Type 0 where
-  pub run : IsNetworkRun before after told told_then end.clock end.failed end.full
-  pub cause : HasCause bound faults faults_then told told_then end.failed
-  pub stay : gates_then ≡ gates
+pub record HasRun (bound : Bool) (before after : HubView) (port port_then : PortSeen) (end : NetEnd) : Type 0 where
+  pub run : IsNetworkRun before after port.told port_then.told end.clock end.failed end.full
+  pub cause : HasCause bound port port_then end.failed
+  pub stay : port_then.gates ≡ port.gates
 
 -- ---- the audio thread's
 
@@ -37,9 +36,9 @@ pub record CanPlay (blocks : ℕ) (commands : List BlockCommand) (pass : AudioVi
   pub room : (blocks ≤ vec_capacity report.reads) × (blocks ≤ vec_capacity report.plays)
   pub room_for_commits : length commands ≤ vec_capacity report.commits
 
-pub record HasPlayedBlocks (blocks : ℕ) (commands : List BlockCommand) (before after : AudioView) (told told_then : Option AudioContents) (faults faults_then : ℕ) (report : AudioReport) (ended : Bool) : Type 0 where
-  pub run : IsAudioRun blocks commands before after told told_then report.reads.items report.commits.items (map (λ clicks. clicks.items) report.plays.items) (not ended)
-  pub cause : HasAudioCause faults faults_then ended
+pub record HasPlayedBlocks (blocks : ℕ) (commands : List BlockCommand) (before after : AudioView) (audio audio_then : AudioSeen) (report : AudioReport) (ended : Bool) : Type 0 where
+  pub run : IsAudioRun blocks commands before after audio.told audio_then.told report.reads.items report.commits.items (map (λ clicks. clicks.items) report.plays.items) (not ended)
+  pub cause : HasAudioCause audio.faults audio_then.faults ended
 
 -- ---- the application's
 

@@ -7,7 +7,7 @@ use Rattle.lk_base.specs.declared.endpoint.Gate.{Gate}
 use Rattle.lk_outside.specs.Arrivals.{ArrivalValue, PostValue}
 use Rattle.lk_outside.specs.Contents.{BothTell}
 use Rattle.lk_outside.specs.Faults.{Rose}
-use Rattle.lk_outside.specs.Port.{PortContents}
+use Rattle.lk_outside.specs.Port.{PortContents, PortSeen}
 use Rattle.link_node.specs.Config.{ConfigValue}
 use Rattle.link_node.specs.Event.{EventValue, Rx, SendingValue}
 use Rattle.link_node.specs.Runs.{machine_after, sent_of}
@@ -82,7 +82,7 @@ pub record IsNetworkRun (before after : HubView) (told told_then : Option PortCo
 
 -- Rule: A run's port failed exactly where no gate was bound or its count of failures rose.
 -- `failed` is told exactly where no gate was bound or the port's count rose, and where none was bound no call was made
-pub record HasCause (bound : Bool) (faults faults_then : ℕ) (told told_then : Option PortContents) (failed : Bool) : Type 0 where
-  pub works : failed ≡ false → (bound ≡ true) × (faults_then ≡ faults)
-  pub fails : failed ≡ true → (bound ≡ false) ⊎ Rose faults faults_then
-  pub unbound : bound ≡ false → (failed ≡ true) × (faults_then ≡ faults) × (told_then ≡ told)
+pub record HasCause (bound : Bool) (port port_then : PortSeen) (failed : Bool) : Type 0 where
+  pub works : failed ≡ false → (bound ≡ true) × (port_then.faults ≡ port.faults)
+  pub fails : failed ≡ true → (bound ≡ false) ⊎ Rose port.faults port_then.faults
+  pub unbound : bound ≡ false → (failed ≡ true) × (port_then.faults ≡ port.faults) × (port_then.told ≡ port.told)

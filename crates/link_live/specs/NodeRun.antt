@@ -2,9 +2,8 @@
 use Rattle.std.specs.Prelude.{◌≡◌, ℕ, ℤ, Bool, true, false, List, [], length, Option, None}
 use Rattle.atomic_table.specs.Seated.{TableId}
 use Rattle.audio_handoff.specs.Cell.{Grows}
-use Rattle.lk_base.specs.declared.endpoint.Endpoint.{Endpoint}
 use Rattle.lk_outside.specs.Faults.{Rose}
-use Rattle.lk_outside.specs.Port.{PortContents}
+use Rattle.lk_outside.specs.Port.{PortSeen}
 use Rattle.client_state.specs.declared.commit.Commit.{Commit}
 use Rattle.client_state.specs.declared.state.State.{State}
 use Rattle.link_node.specs.Config.{ConfigValue}
@@ -57,8 +56,8 @@ pub record FitsJournal (full : Bool) (audio : AudioView) (app : AppView) (events
 -- Rule: A run of a node is recorded and published as its journal is replayed, and posts what that sends, or the first of it where the port
 -- failed, whatever ran beside the network's loop.
 -- The port failed exactly where it could not be bound or its count of faults rose.
-pub record IsNodeRun (config : ConfigValue) (opened_at : ℤ) (most : ℕ) (failed full : Bool) (port port_then : Option PortContents) (gates : List Endpoint) (faults faults_then : ℕ) (audio : AudioView) (app : AppView) (events : List EventValue) (published : List State) : Type 0 where
-  pub recorded : IsRecorded config most None failed full port port_then gates (recorded_of config opened_at events published)
+pub record IsNodeRun (config : ConfigValue) (opened_at : ℤ) (most : ℕ) (failed full : Bool) (port port_then : PortSeen) (audio : AudioView) (app : AppView) (events : List EventValue) (published : List State) : Type 0 where
+  pub recorded : IsRecorded config most None failed full port.told port_then.told port_then.gates (recorded_of config opened_at events published)
   pub fits : FitsJournal full audio app events published
-  pub works : failed ≡ false → faults_then ≡ faults
-  pub fails : failed ≡ true → Rose faults faults_then
+  pub works : failed ≡ false → port_then.faults ≡ port.faults
+  pub fails : failed ≡ true → Rose port.faults port_then.faults

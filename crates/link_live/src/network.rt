@@ -67,7 +67,7 @@ pub fn network_loop<C: StateCell<11>, N: LinkName, P: Port, R: Wait>(
     requires empty { hub.old.journal ≡ [] }
     requires gates { bound ≡ true → (P.seen port.old).gates ≡ locals_of hub.old.config }
     ensures run { IsNetworkRun hub.old hub.new (P.seen port.old).told (P.seen port.new).told result.clock result.failed result.full }
-    ensures cause { HasCause bound (P.seen port.old).faults (P.seen port.new).faults (P.seen port.old).told (P.seen port.new).told result.failed }
+    ensures cause { HasCause bound (P.seen port.old) (P.seen port.new) result.failed }
     ensures gates { (P.seen port.new).gates ≡ (P.seen port.old).gates }
 {
     let mut line = Line {

@@ -77,8 +77,8 @@ pub fn run_node<
     ensures run { (pass : AudioView) × (own : AppView)
         × A.runs audio.old audio.new new_audio pass device.old device.new tt tt result.audio
         × B.runs app.old app.new new_app own first.old first.new second.old second.new result.app
-        × IsNodeRun parts.config parts.opened_at parts.most result.failed result.full (P.seen port.old).told (P.seen port.new).told
-        (P.seen port.new).gates (P.seen port.old).faults (P.seen port.new).faults pass own (map event_value result.events.items) result.published.items }
+        × IsNodeRun parts.config parts.opened_at parts.most result.failed result.full (P.seen port.old) (P.seen port.new)
+        pass own (map event_value result.events.items) result.published.items }
     ensures fitting { AreFitting (length parts.config.gates) 0 0 (map event_value result.events.items) }
 {
     // Laws, for the proof.

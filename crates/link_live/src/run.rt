@@ -75,8 +75,7 @@ pub fn live_run<
     requires opening { IsPaced (T.late pace.old) (pos 0) parts.opened_at }
     requires ready { IsReady script.now blocks room }
     ensures ends { EndsLiveRun (setup_of parts.config parts.most script.now blocks) (T.late pace.old)
-        (P.seen port.old).told (P.seen port.new).told (P.seen port.new).gates (P.seen port.old).faults (P.seen port.new).faults
-        (A.seen audio.old).told (A.seen audio.new).told (A.seen audio.old).faults (A.seen audio.new).faults
+        (P.seen port.old) (P.seen port.new) (A.seen audio.old) (A.seen audio.new)
         (told_of parts.config parts.opened_at result) result.end }
     ensures few { length result.audio.plays.items ≤ blocks }
     ensures fitting { AreFitting (length parts.config.gates) 0 0 (map event_value result.events.items) }

@@ -63,10 +63,9 @@ pub(crate) trait NetworkSide<R, L, P> {
 impl<N: LinkName, P: Port, R: Wait> NetworkSide<R, Link<Triple<11>, N>, P> for Hub<Triple<11>, N> {
     ghost use Rattle.link_live.specs.Loops.{CanRun, HasRun};
 
-    ghost starts = { λ hub port bound. CanRun bound hub (P.seen port).gates };
+    ghost starts = { λ hub port bound. CanRun bound hub (P.seen port) };
 
-    ghost runs = { λ hub hub_then port port_then bound end. HasRun bound hub hub_then (P.seen port).told (P.seen port_then).told
-        (P.seen port).gates (P.seen port_then).gates (P.seen port).faults (P.seen port_then).faults end };
+    ghost runs = { λ hub hub_then port port_then bound end. HasRun bound hub hub_then (P.seen port) (P.seen port_then) end };
 
     fn run(
         &mut self,

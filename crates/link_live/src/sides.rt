@@ -29,8 +29,8 @@ impl<'a, N: LinkName, A: Audio, E, R> Side<R, Link<Triple<11>, N>, AudioPass<Tri
     ghost starts = { λ side pass audio other. CanPlay side.blocks side.script.now.blocks.items pass side.report };
 
     ghost runs = { λ side side_then pass pass_then audio audio_then other other_then ended.
-        HasPlayedBlocks side.blocks side.script.now.blocks.items pass pass_then (A.seen audio).told (A.seen audio_then).told
-        (A.seen audio).faults (A.seen audio_then).faults side_then.report ended };
+        HasPlayedBlocks side.blocks side.script.now.blocks.items pass pass_then (A.seen audio) (A.seen audio_then)
+        side_then.report ended };
 
     fn run(
         &mut self,

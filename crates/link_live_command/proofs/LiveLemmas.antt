@@ -32,7 +32,7 @@ use Rattle.link_live_command.proofs.RunLemmas.{wrote_some}
 
 -- how a run ends whose report was written, or in part
 pub run_ended : (setup : LiveSetup) (recorded : Bool) (before after : Outside) (ended : LiveEnd) (wrote : Bool)
-    → EndsLiveRun setup before.late before.port.told after.port.told after.port.gates before.port.faults after.port.faults before.audio.told after.audio.told before.audio.faults after.audio.faults after.report ended
+    → EndsLiveRun setup before.late before.port after.port before.audio after.audio after.report ended
     → (wrote ≡ true → WritesWhole before.out after.out (live_text_of after.report recorded))
     → (wrote ≡ false → WritesPart before.out after.out (live_text_of after.report recorded))
     → IsReplayable after.report
@@ -63,7 +63,7 @@ module _ (seed : ℕ) (options : LiveOptions) (script later : LiveScript) (confi
 
   pub run_of_script : config ≡ config_from seed options script → later.apps ≡ script.apps → later.blocks ≡ script.blocks
       → (opened ≡ config) × (at ≡ now) × (most ≡ options.events) → late' ≡ late
-      → EndsLiveRun (setup_of opened most later options.blocks) late' port.told port'.told port'.gates port.faults port'.faults audio.told audio'.told audio.faults audio'.faults (told_of opened at run) run.end
+      → EndsLiveRun (setup_of opened most later options.blocks) late' port port' audio audio' (told_of opened at run) run.end
       → report ≡ told_of config now run
       → (wrote ≡ true → WritesWhole out out' (live_text_of report options.«record»))
       → (wrote ≡ false → WritesPart out out' (live_text_of report options.«record»))
@@ -79,11 +79,11 @@ module _ (seed : ℕ) (options : LiveOptions) (script later : LiveScript) (confi
       (run_ended (setup_from seed options script) options.«record»
       (record { port = port; audio = audio; late = late; out = out; report = before })
       (record { port = port'; audio = audio'; late = late''; out = out'; report = report }) run.end wrote
-      (subst (λ (s : LiveSetup). EndsLiveRun s late port.told port'.told port'.gates port.faults port'.faults audio.told audio'.told audio.faults audio'.faults report run.end)
+      (subst (λ (s : LiveSetup). EndsLiveRun s late port port' audio audio' report run.end)
       (same_setup config_is apps_are blocks_are given)
-      (subst (λ (l : Option ℤ). EndsLiveRun (setup_of opened most later options.blocks) l port.told port'.told port'.gates port.faults port'.faults audio.told audio'.told audio.faults audio'.faults report run.end)
+      (subst (λ (l : Option ℤ). EndsLiveRun (setup_of opened most later options.blocks) l port port' audio audio' report run.end)
       late_is
-      (subst (λ (r : ReportValue). EndsLiveRun (setup_of opened most later options.blocks) late' port.told port'.told port'.gates port.faults port'.faults audio.told audio'.told audio.faults audio'.faults r run.end)
+      (subst (λ (r : ReportValue). EndsLiveRun (setup_of opened most later options.blocks) late' port port' audio audio' r run.end)
       (ap (λ (c : ConfigValue). told_of c at run) given.0 ∙ ap (λ (n : ℤ). told_of config n run) given.1 ∙ sym report_is)
       ends)))
       whole part replays)

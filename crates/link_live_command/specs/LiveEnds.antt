@@ -49,7 +49,7 @@ IsReplayable report = IsScriptOf (live_text_of report true) 2 report.config repo
 -- it.
 -- A run ended so, which holds to all that is promised of a run whatever it met, and of the text of its report so much was written.
 pub record HasEndedRun (setup : LiveSetup) (recorded : Bool) (before after : Outside) (ended : LiveEnd) (Writes : Stream → Stream → List ℕ → Type 0) : Type 0 where
-  pub run : EndsLiveRun setup before.late before.port.told after.port.told after.port.gates before.port.faults after.port.faults before.audio.told after.audio.told before.audio.faults after.audio.faults after.report ended
+  pub run : EndsLiveRun setup before.late before.port after.port before.audio after.audio after.report ended
   pub written : Writes before.out after.out (live_text_of after.report recorded)
   pub replayable : IsReplayable after.report
 

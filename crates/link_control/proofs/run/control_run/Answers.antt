@@ -23,7 +23,7 @@ returns g c =
           subst
           (λ (e : ControlEnd).
           EndsControlRun (record { config = c.args.parts.config; events = c.args.parts.most; at = c.args.at }) (g.T.Pace.late c.args.pace.now)
-          (g.P.Port.seen c.args.port.now).told (g.P.Port.seen c.run_node-run.new.port).told (g.P.Port.seen c.run_node-run.new.port).gates (g.P.Port.seen c.args.port.now).faults (g.P.Port.seen c.run_node-run.new.port).faults
+          (g.P.Port.seen c.args.port.now) (g.P.Port.seen c.run_node-run.new.port)
           (g.L.Talk.seen c.args.talk.now)
           (g.L.Talk.seen c.run_node-run.new.first)
           (told_of c.args.parts.config c.args.parts.opened_at
@@ -36,7 +36,7 @@ returns g c =
           }))
           c.run_node-run.new.app.log.lines.items e)
           (sym c.end_of.ensures)
-          (control_ends _ _ _ _ _ _ _ _ _ _ _ _ _ _ c.tell_captures.new.captures.items c.tell_commits.new.commits.items c.run_node-run.new.app.log.lines.items run.0 run.1
+          (control_ends _ _ _ _ _ _ _ _ _ _ _ c.tell_captures.new.captures.items c.tell_commits.new.commits.items c.run_node-run.new.app.log.lines.items run.0 run.1
           c.run_node-run.result.app c.run_node-run.result.failed c.run_node-run.result.full c.requires.opening run.4 run.2 run.3
           (c.tell_captures.ensures ∙ ap captures_in c.deref.ensures.value)
           (c.tell_commits.ensures ∙ ap made_in c.deref-2.ensures.value));

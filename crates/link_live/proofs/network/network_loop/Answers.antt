@@ -7,7 +7,7 @@ pub loop-init : goal.loop-init
 loop-init g c = record {
   goes = (tt, tt);
   run = has_begun _ _ _ _ c.requires.empty c.moment.ensures.opening.1 (to_z-of_z w64 _ (record { sfits = c.moment.type_inv }) ∙ c.moment.ensures.moment);
-  cause = has_cause _ _ _ _ refl;
+  cause = has_cause _ _ _ refl;
   gates = refl;
   config = refl;
 }
@@ -18,4 +18,4 @@ returns-then-network_turn-clause-run g c =
 
 pub returns-then-network_turn-clause-cause : goal.returns-then-network_turn-clause-cause
 returns-then-network_turn-clause-cause g c =
-    has_cause_then _ _ _ _ _ _ _ _ _ c.loop.invariant.cause c.network_turn.ensures.works c.network_turn.ensures.fails c.network_turn.ensures.unbound
+    has_cause_then _ _ _ _ _ _ c.loop.invariant.cause c.network_turn.ensures.works c.network_turn.ensures.fails c.network_turn.ensures.unbound

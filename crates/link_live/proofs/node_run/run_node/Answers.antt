@@ -16,7 +16,7 @@ pub post-failed-requires : goal.post-failed-requires
 post-failed-requires g c = record {
   gates = λ works.
       last_on_gates c.run_laws.ensures _ _ _ _ _ _ _ _ _ c.datagrams_go_out_on_gates.ensures c.last_turn-ended.ensures.ended
-      (still_bound _ _ _ _ _ _ _ _ _ _ _ _ _ _ _ _ c.make-link.ensures.hub c.requires.config.0 c.run_beside-ends.ensures.network c.bind-bound.ensures.gates c.hand_in.ensures works)
+      (still_bound _ _ _ _ _ _ _ _ _ _ _ _ c.make-link.ensures.hub c.requires.config.0 c.run_beside-ends.ensures.network c.bind-bound.ensures.gates c.hand_in.ensures works)
       c.list.ensures;
 }
 
@@ -35,12 +35,12 @@ returns g c = record {
           best = c.best_timelines_are_told.ensures.best;
           shows = c.clients_follow_sessions.ensures.run;
         })
-        _ _ _ _ _ _ _ _ _ _ _ _ _ _ _ _ _ _ _ _ _ _ _ _ _ _
+        _ _ _ _ _ _ _ _ _ _ _ _ _ _ _ _ _ _ _
         c.make-link.ensures.hub c.run_beside-ends.ensures.network (λ yes. c.bind-bound.ensures.gates yes ∙ ap locals_of (sym c.requires.config.0)) c.bind-bound.ensures.works c.bind-bound.ensures.fails
         c.bind-bound.ensures.contents c.hand_in.ensures (to_z-of_z w64 _ (moment_fits _ c.run_beside-ends.ensures.network.run.moment))
         c.requires.opening c.list.ensures c.post-failed.ensures.gates c.post-failed.result c.last_turn-ended.result.full
         c.last_turn-ended.ensures.ended c.post-failed.ensures.posted c.post-failed.ensures.works c.post-failed.ensures.fails
         (λ failed. (c.post-failed.ensures.unbound failed).0),
   );
-  fitting = all_fit _ _ _ _ _ _ _ _ _ _ _ _ _ _ _ _ c.make-link.ensures.hub c.run_beside-ends.ensures.network c.hand_in.ensures c.last_turn-ended.ensures.ended.fits;
+  fitting = all_fit _ _ _ _ _ _ _ _ _ _ _ _ c.make-link.ensures.hub c.run_beside-ends.ensures.network c.hand_in.ensures c.last_turn-ended.ensures.ended.fits;
 }

@@ -18,9 +18,8 @@ returns g c =
       ends =
           subst
           (λ (e : LiveEnd).
-          EndsLiveRun (setup_of c.args.parts.config c.args.parts.most c.args.script.now c.args.blocks) (g.T.Pace.late c.args.pace.now) (g.P.Port.seen c.args.port.now).told
-          (g.P.Port.seen c.run_node-run.new.port).told (g.P.Port.seen c.run_node-run.new.port).gates (g.P.Port.seen c.args.port.now).faults (g.P.Port.seen c.run_node-run.new.port).faults
-          (g.A.Audio.seen c.args.audio.now).told (g.A.Audio.seen c.run_node-run.new.device).told (g.A.Audio.seen c.args.audio.now).faults (g.A.Audio.seen c.run_node-run.new.device).faults
+          EndsLiveRun (setup_of c.args.parts.config c.args.parts.most c.args.script.now c.args.blocks) (g.T.Pace.late c.args.pace.now) (g.P.Port.seen c.args.port.now)
+          (g.P.Port.seen c.run_node-run.new.port) (g.A.Audio.seen c.args.audio.now) (g.A.Audio.seen c.run_node-run.new.device)
           (told_of c.args.parts.config c.args.parts.opened_at
           (record {
             end = c.end_of.result;
@@ -31,7 +30,7 @@ returns g c =
           }))
           e)
           (sym c.end_of.ensures)
-          (run_ends _ _ _ _ _ _ _ run.1 run.0 _ _ _ _ _ _ _ _ _ c.run_node-run.new.audio.report c.run_node-run.new.app.report _ _ c.run_node-run.result.app
+          (run_ends _ _ _ _ _ _ _ run.1 run.0 _ _ _ _ c.run_node-run.new.audio.report c.run_node-run.new.app.report _ _ c.run_node-run.result.app
           c.run_node-run.result.failed c.run_node-run.result.audio c.run_node-run.result.full c.requires.opening run.4 run.2 run.3);
       few = omega (
         arith,
