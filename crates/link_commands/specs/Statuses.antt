@@ -5,6 +5,7 @@ use Rattle.std.specs.declared.alloc.Global.{Global}
 use Rattle.std.specs.declared.string.String.{String}
 use Rattle.lk_outside.specs.Faults.{Rose}
 use Rattle.lk_outside.specs.Sink.{Appends}
+use Rattle.lk_outside.specs.Stream.{Stream}
 use Rattle.lk_outside.specs.Transfer.{ReadsWhole, TakesOver, TakesWithin, AppendsPrefix}
 use Rattle.link_node.specs.Config.{ConfigValue}
 use Rattle.link_node.specs.Event.{EventValue}

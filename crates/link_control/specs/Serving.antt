@@ -10,6 +10,7 @@ use Rattle.lk_outside.specs.Faults.{Rose}
 use Rattle.lk_outside.specs.Pace.{IsPaced}
 use Rattle.lk_outside.specs.Sink.{Appends}
 use Rattle.lk_outside.specs.Source.{IsAtEnd, Takes}
+use Rattle.lk_outside.specs.Talk.{TalkSeen}
 use Rattle.link_shared.specs.Passes.{AppView}
 use Rattle.link_text.specs.ControlLine.{IsAsked}
 use Rattle.link_live.specs.ScriptRun.{AreAmong}
