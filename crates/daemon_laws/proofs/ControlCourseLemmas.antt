@@ -2,6 +2,7 @@
 -- sent more lines than are answered.
 use Rattle.std.proofs.Common.{◌≡◌, ◌⊎◌, inl, inr, ◌<◌, ◌≤◌, length, true, false, ℕ, ℤ, List, Option, Some, IsSome, ap, subst, arith}
 use Rattle.std.proofs.lemmas.List.{length-map}
+use Rattle.lk_base.specs.declared.endpoint.Endpoint.{Endpoint}
 use Rattle.lk_outside.specs.Faults.{Rose}
 use Rattle.lk_outside.specs.Port.{PortSeen}
 use Rattle.lk_outside.specs.Source.{IsAtEnd, Takes}

@@ -1,6 +1,6 @@
 -- How a call of the program may end: each status with its cause, and what was read and written then. The statuses are tried in this order:
 -- the words, a failure of the source, a text over the limit, a text outside the command's grammar, a failure of the sink.
-use Rattle.std.specs.Prelude.{◌≡◌, ◌≤◌, ◌+◌, ◌⊎◌, ℕ, ℤ, List, Option, length}
+use Rattle.std.specs.Prelude.{◌≡◌, ◌≤◌, ◌+◌, ◌⊎◌, ℕ, ℤ, List, length}
 use Rattle.std.specs.declared.alloc.Global.{Global}
 use Rattle.std.specs.declared.string.String.{String}
 use Rattle.lk_outside.specs.Faults.{Rose}

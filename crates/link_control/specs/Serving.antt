@@ -5,7 +5,6 @@ use mathlib.Core.Option.{some}
 use lib.ListN.{get_elem?}
 use Rattle.audio_handoff.specs.Cell.{Grows, NumbersNeverFall, Pair}
 use Rattle.client_state.specs.declared.commit.Commit.{Commit}
-use Rattle.lk_base.specs.declared.endpoint.Endpoint.{Endpoint}
 use Rattle.lk_outside.specs.Faults.{Rose}
 use Rattle.lk_outside.specs.Pace.{IsPaced}
 use Rattle.lk_outside.specs.Sink.{Appends}

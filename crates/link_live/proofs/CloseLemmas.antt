@@ -1,7 +1,6 @@
 -- A live run from its parts: what its loops owe, and how it ends.
 use Rattle.std.proofs.Common.{ℕ, ℤ, pos, ◌≤◌, Bool, List, [], ◌∷◌, length, map, Option, refl, ap, length-append, arith}
 use Rattle.lk_base.specs.declared.block.Click.{Click}
-use Rattle.lk_base.specs.declared.endpoint.Endpoint.{Endpoint}
 use Rattle.lk_outside.specs.Audio.{AudioContents, AudioSeen}
 use Rattle.lk_outside.specs.Pace.{IsPaced}
 use Rattle.lk_outside.specs.Port.{PortSeen}

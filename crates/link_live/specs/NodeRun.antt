@@ -1,5 +1,5 @@
 -- What every run of a node promises, whatever ran beside the network's loop.
-use Rattle.std.specs.Prelude.{◌≡◌, ℕ, ℤ, Bool, true, false, List, [], length, Option, None}
+use Rattle.std.specs.Prelude.{◌≡◌, ℕ, ℤ, Bool, true, false, List, [], length, None}
 use Rattle.atomic_table.specs.Seated.{TableId}
 use Rattle.audio_handoff.specs.Cell.{Grows}
 use Rattle.lk_outside.specs.Faults.{Rose}
