@@ -246,7 +246,7 @@ def first_builds(folder):
         calls = [call for call in copy.was_asked() or [] if call.split()[0] not in ("help", "doc", "version")]
         yield f"the runs of rt for {what}", None if calls == ["ci"] else f"rt was called, with {calls!r}"
         seen = read(copy.notes).split()
-        wrong = [other for other in ("must-fail", *({"jorazhil", "drum_machine"} - {name}), "link_world", *tests) if other in seen]
+        wrong = [other for other in ("must-fail", *({"jorazhil", "drum_machine", "first_node"} - {name}), "link_world", *tests) if other in seen]
         lacking = [other for other in ("HANDLES", "crates.txt", "lk_base", "link_node", name, "src") if other not in seen]
         yield f"the copy that is proved for {what}", f"it has {wrong} and lacks {lacking}" if wrong or lacking else None
         why, asked = differs(0, [told], [], copy.run(words)), copy.was_asked() or []

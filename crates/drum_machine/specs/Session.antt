@@ -1,16 +1,13 @@
 -- What a session leaves: what its node recorded, published and sent, and what was played of it.
-use Rattle.std.specs.Prelude.{◌≡◌, ◌⊎◌, ℕ, ℤ, pos, Bool, true, false, List, [], ◌∷◌, length, Option, None}
-use Rattle.rand_pcg.specs.Lcg.{started, increment_of}
-use Rattle.rand_pcg.specs.Pcg.{multiplier_64}
+use Rattle.std.specs.Prelude.{◌≡◌, ◌⊎◌, ℕ, ℤ, Bool, true, false, List, length, Option, None}
 use Rattle.audio_handoff.specs.Cell.{NumbersNeverFall}
-use Rattle.lk_base.specs.Ids.{drawn_id}
 use Rattle.lk_base.specs.declared.endpoint.Endpoint.{Endpoint}
 use Rattle.lk_outside.specs.Audio.{AudioSeen}
 use Rattle.lk_outside.specs.Faults.{Rose}
 use Rattle.lk_outside.specs.Port.{PortContents, PortSeen}
 use Rattle.lk_outside.specs.Stream.{Stream}
 use Rattle.client_state.specs.declared.state.State.{State}
-use Rattle.link_node.specs.Config.{ConfigValue, GateValue}
+use Rattle.link_node.specs.Config.{ConfigValue}
 use Rattle.link_node.specs.Event.{EventValue}
 use Rattle.link_shared.specs.Audio.{AudioView}
 use Rattle.link_shared.specs.Ending.{WerePublished}
@@ -26,19 +23,6 @@ use Rattle.drum_machine.specs.declared.player.PlayEnd.{PlayEnd}
 use Rattle.drum_machine.specs.declared.player.PlayEnd.TheVariants as play_end
 use Rattle.drum_machine.specs.declared.status.Status.{Status}
 use Rattle.drum_machine.specs.declared.status.Status.TheVariants as status
-
--- The config of a node by its seed, its tempo and its gate: its id is the first that the seed gives, it shares starts, it is in group 0,
--- and it counts in bars of four beats.
-abbrev pub config_from : ℕ → ℤ → GateValue → ConfigValue
-config_from seed mpb gate = record {
-  id = drawn_id (started 64 multiplier_64 seed (increment_of 64 1));
-  seed = seed;
-  mpb = mpb;
-  sync = true;
-  group = 0;
-  quantum = pos 4_000_000;
-  gates = gate ∷ [];
-}
 
 -- what is seen of the devices: the port, the audio device, and the sinks of the sound and of the MIDI
 pub record DevicesSeen : Type 0 where

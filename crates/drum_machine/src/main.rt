@@ -2,11 +2,10 @@
 //!
 //! In reading order: `callback` (the audio callback, and an edit of its own); `rehearsal` (four bars in memory, in one thread), `score`
 //! (what it tells); `player` (the loop of the audio thread), `sides` (that loop as what runs beside the network's), `session` (both over
-//! one link), which stands on `rig` and `config`; last `words`, `input` and `status`.
+//! one link), which stands on `rig`; last `words`, `input` and `status`.
 #![tactic(auto)]
 
 mod callback;
-mod config;
 mod input;
 mod player;
 mod rehearsal;

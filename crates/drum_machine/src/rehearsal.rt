@@ -6,23 +6,23 @@ ghost use Rattle.std.specs.Bool.{OnTrue, OnFalse};
 ghost use Rattle.lk_base.specs.Ranges.{IsMoment};
 ghost use Rattle.lk_outside.specs.Faults.{Rose};
 ghost use Rattle.client_state.specs.State.{IsTidyState};
-ghost use Rattle.link_node.specs.Config.{config_value, IsConfig};
 ghost use Rattle.link_shared.specs.Hub.{IsOnGate};
 ghost use Rattle.drum_machine.specs.Ends.{EndsRehearsal};
 ghost use Rattle.drum_machine.specs.Rehearsal.{AreTold, HasEdited, IsRehearsed, begins_at, change_with};
 ghost use Rattle.link_live.specs.NodeRun.{ArePartsOf};
 
-use crate::callback::{BLOCK_LENGTH, Change, Drums, FRAMES, QUANTUM, callback, edit};
+use crate::callback::{BLOCK_LENGTH, Change, Drums, FRAMES, callback, edit};
 use crate::score::Score;
 use crate::status::Status;
 use arrayvec::ArrayVec;
 use asdp_messages::write_alive;
 use audio_handoff::StateCell;
+use link_live::one_gate_config;
 use link_midi::MidiEvents;
-use link_node::{Config, GateSetup, Sends};
+use link_node::{GateSetup, Sends};
 use link_payload::PeerFields;
 use link_shared::{AudioPass, Got, Hub, Link, LinkName, Opened, Parts};
-use lk_base::{Endpoint, Gate, IdSource, NodeId, SessionStart, Timeline};
+use lk_base::{Endpoint, Gate, NodeId, SessionStart, Timeline};
 use lk_outside::Sink;
 use std::alloc::Global;
 use std::marker::Brand;
@@ -55,6 +55,11 @@ const PEERS_TIMELINE: Timeline = Timeline {
     time: 5_860_000,
 };
 
+const HERE: Endpoint = Endpoint {
+    addr: 0x7f00_0001,
+    port: 20_808,
+};
+
 const PEERS_ENDPOINT: Endpoint = Endpoint {
     addr: 0x7f00_0001,
     port: 20_809,
@@ -66,7 +71,11 @@ pub fn rehearse<R: Wait, K: Sink>(rt: &R, alloc: Global, pattern: Pattern, out: 
     ensures told { result ≡ Status.Done → IsRehearsed 373 pattern (K.seen out.old).told (K.seen out.new).told }
     ensures ends { EndsRehearsal (K.seen out.old).faults (K.seen out.new).faults result }
 {
-    let config = config_of_one();
+    let gate = GateSetup {
+        local: HERE,
+        peers: ArrayVec::new(),
+    };
+    let config = one_gate_config(1, 500_000, gate);
     let session = config.id;
     let Ok(sends) = Sends::new(alloc) else {
         return Status::Memory;
@@ -78,30 +87,6 @@ pub fn rehearse<R: Wait, K: Sink>(rt: &R, alloc: Global, pattern: Pattern, out: 
         Status::Done
     } else {
         Status::Output
-    }
-}
-
-// A node that founds its session with 120 beats a minute, and has one gate.
-fn config_of_one() -> Config
-    ensures config { IsConfig (config_value result) }
-    ensures gates { length (config_value result).gates ≡ 1 }
-{
-    let mut gates = ArrayVec::new();
-    gates.push(GateSetup {
-        local: Endpoint {
-            addr: 0x7f00_0001,
-            port: 20_808,
-        },
-        peers: ArrayVec::new(),
-    });
-    Config {
-        id: IdSource::new(1, 1).draw(),
-        seed: 1,
-        mpb: 500_000,
-        sync: true,
-        group: 0,
-        quantum: QUANTUM,
-        gates,
     }
 }
 

@@ -4,14 +4,12 @@ ghost use Rattle.std.specs.Prelude.{◌≡◌, ◌≤◌, [], IfOk, vec_capacity
 
 use crate::log::MOST_LINES;
 use client_state::Commit;
-use link_node::Sends;
 use link_shared::Capture;
 use std::alloc::{AllocError, Global};
 
-/// All room that a run under control needs beside its log: for what its node sends, and for what its report tells of the client's lines.
+/// All room that a run under control needs beside its log: for what its report tells of the client's lines.
 #[derive(Drop)]
 pub struct ControlRoom {
-    pub sends: Sends,
     pub captures: Vec<Capture>,
     pub commits: Vec<Commit>,
 }
@@ -23,7 +21,6 @@ impl ControlRoom {
         ensures commits { IfOk result (λ room. (room.commits.items ≡ []) × (4_096 ≤ vec_capacity room.commits)) }
     {
         Ok(ControlRoom {
-            sends: Sends::new(alloc)?,
             captures: Vec::with_capacity(alloc, MOST_LINES)?,
             commits: Vec::with_capacity(alloc, MOST_LINES)?,
         })

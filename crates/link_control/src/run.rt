@@ -1,11 +1,10 @@
 //! A run under control: the loop of the network beside the client's, over one link, and its end.
 
-ghost use Rattle.std.specs.Prelude.{◌≡◌, ◌≤◌, ◌<◌, ◌+◌, ◌++◌, pos, if◌then◌else◌, [], length, map, vec_capacity, vec_len};
+ghost use Rattle.std.specs.Prelude.{◌≡◌, ◌≤◌, ◌<◌, ◌+◌, ◌++◌, pos, if◌then◌else◌, [], length, map, vec_capacity, vec_len, IfOk, IsErr};
 ghost use Rattle.lk_outside.specs.Pace.{IsPaced};
 ghost use Rattle.link_node.specs.Config.{config_value, IsConfig};
 ghost use Rattle.link_node.specs.Event.{event_value};
 ghost use Rattle.link_node.specs.Runs.{AreFitting};
-ghost use Rattle.link_live.specs.NodeRun.{ArePartsOf};
 ghost use Rattle.link_control.specs.ControlRun.{EndsControlRun, EndsTell, IsReady, first_of, told_of};
 ghost use Rattle.link_control.specs.Log.{captures_in, commits_in, put_before};
 
@@ -16,14 +15,13 @@ use crate::sides::Client;
 use client_state::{Commit, State};
 use link_live::{Idle, run_node};
 use link_node::{Config, Event};
-use link_shared::{Capture, LinkName, Parts};
+use link_shared::Capture;
 use lk_base::Endpoint;
 use lk_outside::{Pace, Port, Talk};
-use std::alloc::Global;
+use std::alloc::{AllocError, Global};
 use std::mem::replace;
 use std::sync::Wait;
 use std::thread::Threads;
-use triple_buffer::Triple;
 
 /// How a run under control ended: by the first of these that holds.
 #[derive(Clone, Copy, Debug, PartialEq, Eq)]
@@ -54,40 +52,37 @@ pub struct ControlRun {
     pub commits: Vec<Commit>,
 }
 
-/// Makes a link of the parts, binds the port to the config's gates, opens the talk at an endpoint, and runs two threads: the network's
-/// loop, and the one that serves the client, after which the other is asked to end. Where the talk can't be opened, no line is served.
-/// Then it ends the link.
+/// Runs a node, which is opened with a config at a moment and whose journal takes so many events, on two threads: the network's loop, and
+/// one that opens the talk at an endpoint and serves the client. Where the talk can't be opened, no line is served.
 ///
-/// Waits: for the threads, and in the port, the talk and the pace. Memory: two notes for each capture.
-pub fn control_run<
-    N: LinkName + Send + Sync,
-    P: Port + Send,
-    L: Talk + Send,
-    T: Pace + Send,
-    R: Threads + Wait + Sync,
->(
+/// The error is want of memory; then nothing was called, and the log is as it was.
+///
+/// Waits: for the threads, and in the port, the talk and the pace. Memory: before the threads begin, all that the node needs; then two
+/// notes for each capture.
+pub fn control_run<P: Port + Send, L: Talk + Send, T: Pace + Send, R: Threads + Wait + Sync>(
     rt: &R,
     alloc: Global,
-    parts: Parts<Triple<11>>,
     config: &Config,
+    opened_at: i64,
+    events: u64,
     at: Endpoint,
     room: ControlRoom,
     port: &mut P,
     talk: &mut L,
     pace: &mut T,
     log: &mut SessionLog,
-) -> ControlRun
-    requires link { ArePartsOf N.app_states N.audio_states N.audio_commits N.queue N.name N.parts N.whole parts }
-    requires config { (parts.config ≡ config_value config.now) × IsConfig parts.config }
-    requires opening { IsPaced (T.late pace.old) (pos 0) parts.opened_at }
+) -> Result<ControlRun, AllocError>
+    requires config { IsConfig (config_value config.now) }
+    requires opening { IsPaced (T.late pace.old) (pos 0) opened_at }
+    requires events { (1 ≤ events) × (events ≤ 524_288) }
     requires ready { IsReady room log.old }
-    ensures ends { EndsControlRun (record { config = parts.config; events = parts.most; at = at }) (T.late pace.old)
+    ensures ends { IfOk result (λ run. EndsControlRun (record { config = config_value config.now; events = events; at = at }) (T.late pace.old)
         (P.seen port.old) (P.seen port.new) (L.seen talk.old) (L.seen talk.new)
-        (told_of parts.config parts.opened_at result) log.new.lines.items result.end }
-    ensures fitting { AreFitting (length parts.config.gates) 0 0 (map event_value result.events.items) }
+        (told_of (config_value config.now) opened_at run) log.new.lines.items run.end) }
+    ensures fitting { IfOk result (λ run. AreFitting (length (config_value config.now).gates) 0 0 (map event_value run.events.items)) }
+    ensures untouched { IsErr result → (port.new ≡ port.old) × (talk.new ≡ talk.old) × (pace.new ≡ pace.old) × (log.new.lines.items ≡ log.old.lines.items) }
 {
     let ControlRoom {
-        sends,
         mut captures,
         mut commits,
     } = room;
@@ -101,11 +96,12 @@ pub fn control_run<
             },
         ),
     };
-    let run = run_node::<N, P, Idle, (), Client, L, T, R>(
+    let run = run_node(
         rt,
-        parts,
+        alloc,
         config,
-        sends,
+        opened_at,
+        events,
         port,
         &mut Idle,
         &mut (),
@@ -113,16 +109,17 @@ pub fn control_run<
         talk,
         pace,
     );
-    tell_captures(&client.log.lines, &mut captures);
-    tell_commits(&client.log.lines, &mut commits);
     *log = client.log;
-    ControlRun {
+    let run = run?;
+    tell_captures(&log.lines, &mut captures);
+    tell_commits(&log.lines, &mut commits);
+    Ok(ControlRun {
         end: end_of(run.app, run.failed, run.full),
         events: run.events,
         published: run.published,
         captures,
         commits,
-    }
+    })
 }
 
 // Tells what was captured at each line, in order. Memory: none.

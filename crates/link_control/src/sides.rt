@@ -7,7 +7,7 @@ ghost use Rattle.link_control.specs.ControlRun.{CanServe, IsTalked};
 use crate::log::SessionLog;
 use crate::server::{Served, serve};
 use audio_handoff::StateCell;
-use link_live::Side;
+use link_live::AppSide;
 use link_shared::{AppPass, Link, LinkName};
 use lk_base::Endpoint;
 use lk_outside::{Bound, Pace, Talk};
@@ -23,13 +23,7 @@ pub(crate) struct Client {
     pub(crate) log: SessionLog,
 }
 
-impl<N: LinkName, D: Talk, T: Pace, R: Wait> Side<
-    R,
-    Link<Triple<11>, N>,
-    AppPass<Triple<11>, N>,
-    D,
-    T,
-> for Client {
+impl<D: Talk, T: Pace, R: Wait> AppSide<R, D, T> for Client {
     type End = Served;
 
     ghost starts = { λ client pass talk pace. CanServe pass client.log };
@@ -38,7 +32,7 @@ impl<N: LinkName, D: Talk, T: Pace, R: Wait> Side<
         IsTalked client.at (T.late pace) (D.seen talk)
         (D.seen talk_then) pass_then client_then.log.lines.items ended };
 
-    fn run(
+    fn run<N: LinkName>(
         &mut self,
         rt: &R,
         link: &Link<Triple<11>, N>,

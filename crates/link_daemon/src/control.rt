@@ -15,16 +15,13 @@ use link_control::{ControlEnd, ControlRoom, ControlRun, SessionLog, control_run}
 use link_live::Report;
 use link_live_command::{read_head, write_report};
 use link_node::Config;
-use link_shared::Parts;
 use link_text::LiveHead;
 use link_words::{ControlOptions, WordsFault, control_options};
 use lk_base::IdSource;
 use lk_outside::{Pace, Port, Sink, Source, Talk};
 use std::alloc::{AllocError, Global};
-use std::marker::Brand;
 use std::sync::Wait;
 use std::thread::Threads;
-use triple_buffer::Triple;
 
 /// Runs a node on the network under a client: reads the head of a live script on `input`, listens at the endpoint of the words, and
 /// answers the client's lines until it ends, while the node plays with its peers. Then it writes to `out` how much there was. The node's
@@ -112,12 +109,21 @@ fn run_head<P: Port + Send, L: Talk + Send, T: Pace + Send, K: Sink, R: Threads 
     let Ok(room) = make_room(alloc, log) else {
         return Status::Memory;
     };
-    let Ok(parts) = Parts::<Triple<11>>::new(rt, alloc, &(), &config, now, options.events) else {
+    let Ok(run) = control_run(
+        rt,
+        alloc,
+        &config,
+        now,
+        options.events,
+        options.at,
+        room,
+        port,
+        talk,
+        pace,
+        log,
+    ) else {
         return Status::Memory;
     };
-    let run = control_run::<Brand, P, L, T, R>(
-        rt, alloc, parts, &config, options.at, room, port, talk, pace, log,
-    );
     let end = run.end;
     keep_run(report, config, now, run);
     let written = write_report(report, false, &mut outlet, out);

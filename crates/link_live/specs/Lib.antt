@@ -7,6 +7,7 @@ pub mod PlayingRun
 pub mod ScriptRun
 pub mod Report
 pub mod Headline
+pub mod OneGate
 pub mod NodeRun
 pub mod LiveRun
 pub mod Loops

@@ -1,6 +1,6 @@
 //! The one call that runs a node.
 
-ghost use Rattle.std.specs.Prelude.{◌≡◌, [], true, false, None, length, map};
+ghost use Rattle.std.specs.Prelude.{◌≡◌, ◌≤◌, [], true, false, None, length, map, IfOk, IsErr};
 ghost use Rattle.lk_base.specs.Ranges.{IsMoment};
 ghost use Rattle.lk_outside.specs.Faults.{Rose};
 ghost use Rattle.link_node.specs.Config.{config_value, gate_value, IsConfig};
@@ -13,16 +13,18 @@ ghost use Rattle.link_live.specs.Network.{locals_of};
 ghost use Rattle.link_live.specs.NodeRun.{ArePartsOf, IsNodeRun, new_app};
 
 use crate::network::{post, run_laws};
-use crate::side::{Side, run_beside};
+use crate::side::{AppSide, AudioSide, run_beside};
 use arrayvec::ArrayVec;
 use client_state::State;
 use link_node::{
     Config, Event, GateSetup, Sends, best_timelines_are_told, clients_follow_sessions,
     datagrams_go_out_on_gates,
 };
-use link_shared::{AppPass, AudioPass, Link, LinkName, Opened, Parts};
+use link_shared::{Link, LinkName, Opened, Parts};
 use lk_base::Endpoint;
 use lk_outside::{Bound, Port};
+use std::alloc::{AllocError, Global};
+use std::marker::Brand;
 use std::sync::Wait;
 use std::thread::Threads;
 use triple_buffer::Triple;
@@ -43,17 +45,63 @@ pub struct NodeRun<X, Y> {
     pub published: Vec<State>,
 }
 
-/// Makes a link of the parts, binds the port to the config's gates, and runs the network's loop beside two sides. One has the audio
-/// thread's pass and a device, the other the application's pass and two; `Idle` stands for a side that a program hasn't. Once both have
-/// ended, the loop is asked to end, also where a side has asked before. Then the link is ended, and the goodbyes go out.
+/// Runs a node, which is opened with a config at a moment and whose journal takes so many events: binds the port to the config's gates, and
+/// runs the network's loop beside two sides. One has the audio thread's pass and a device, the other the application's pass and two; `Idle`
+/// stands for a side that a program hasn't. Once both have ended, the loop is asked to end, also where a side has asked before. Then the
+/// node says goodbye.
 ///
-/// Waits: for the threads, in the port and in the sides. Memory: the sides'.
+/// The error is want of memory; then no device was called, and no side begun.
+///
+/// Waits: for the threads, in the port and in the sides. Memory: before the threads begin, all that the node needs; then the sides'.
 pub fn run_node<
+    P: Port + Send,
+    A: AudioSide<R, D> + Send,
+    D: Send,
+    B: AppSide<R, E, F> + Send,
+    E: Send,
+    F: Send,
+    R: Threads + Wait + Sync,
+>(
+    rt: &R,
+    alloc: Global,
+    config: &Config,
+    opened_at: i64,
+    events: u64,
+    port: &mut P,
+    audio: &mut A,
+    device: &mut D,
+    app: &mut B,
+    first: &mut E,
+    second: &mut F,
+) -> Result<NodeRun<A::End, B::End>, AllocError>
+    requires config { IsConfig (config_value config.now) }
+    requires opening { IsMoment opened_at }
+    requires events { (1 ≤ events) × (events ≤ 524_288) }
+    requires audio { A.starts audio.old new_audio device.old }
+    requires app { B.starts app.old new_app first.old second.old }
+    ensures run { IfOk result (λ run. (pass : AudioView) × (own : AppView)
+        × A.runs audio.old audio.new new_audio pass device.old device.new run.audio
+        × B.runs app.old app.new new_app own first.old first.new second.old second.new run.app
+        × IsNodeRun (config_value config.now) opened_at events run.failed run.full (P.seen port.old) (P.seen port.new)
+        pass own (map event_value run.events.items) run.published.items) }
+    ensures fitting { IfOk result (λ run. AreFitting (length (config_value config.now).gates) 0 0 (map event_value run.events.items)) }
+    ensures untouched { IsErr result → (port.new ≡ port.old) × (audio.new ≡ audio.old) × (device.new ≡ device.old) × (app.new ≡ app.old)
+        × (first.new ≡ first.old) × (second.new ≡ second.old) }
+{
+    let sends = Sends::new(alloc)?;
+    let parts = Parts::<Triple<11>>::new(rt, alloc, &(), config, opened_at, events)?;
+    Ok(run_parts::<Brand, P, A, D, B, E, F, R>(
+        rt, parts, config, sends, port, audio, device, app, first, second,
+    ))
+}
+
+// Runs the node of these parts. Waits: for the threads, in the port and in the sides. Memory: the sides'.
+fn run_parts<
     N: LinkName + Send + Sync,
     P: Port + Send,
-    A: Side<R, Link<Triple<11>, N>, AudioPass<Triple<11>, N>, D, ()> + Send,
+    A: AudioSide<R, D> + Send,
     D: Send,
-    B: Side<R, Link<Triple<11>, N>, AppPass<Triple<11>, N>, E, F> + Send,
+    B: AppSide<R, E, F> + Send,
     E: Send,
     F: Send,
     R: Threads + Wait + Sync,
@@ -72,10 +120,10 @@ pub fn run_node<
     requires link { ArePartsOf N.app_states N.audio_states N.audio_commits N.queue N.name N.parts N.whole parts }
     requires config { (parts.config ≡ config_value config.now) × IsConfig parts.config }
     requires opening { IsMoment parts.opened_at }
-    requires audio { A.starts audio.old new_audio device.old tt }
+    requires audio { A.starts audio.old new_audio device.old }
     requires app { B.starts app.old new_app first.old second.old }
     ensures run { (pass : AudioView) × (own : AppView)
-        × A.runs audio.old audio.new new_audio pass device.old device.new tt tt result.audio
+        × A.runs audio.old audio.new new_audio pass device.old device.new result.audio
         × B.runs app.old app.new new_app own first.old first.new second.old second.new result.app
         × IsNodeRun parts.config parts.opened_at parts.most result.failed result.full (P.seen port.old) (P.seen port.new)
         pass own (map event_value result.events.items) result.published.items }

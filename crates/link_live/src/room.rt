@@ -6,14 +6,12 @@ ghost use Rattle.link_live.specs.LiveRun.{IsReady, ScriptsHaveCommands};
 
 use crate::audio::AudioReport;
 use crate::script::ScriptReport;
-use link_node::Sends;
 use link_script::LiveScript;
 use std::alloc::{AllocError, Global};
 
-/// All room that a live run needs: for what its node sends, and for what the audio thread and the script's application tell.
+/// All room that a live run needs: for what the audio thread and the script's application tell.
 #[derive(Drop)]
 pub struct Room {
-    pub sends: Sends,
     pub audio: AudioReport,
     pub script: ScriptReport,
 }
@@ -29,7 +27,6 @@ impl Room {
         let places = blocks as usize;
         let apps = script.apps.len();
         Ok(Room {
-            sends: Sends::new(alloc)?,
             audio: AudioReport {
                 reads: Vec::with_capacity(alloc, places)?,
                 commits: Vec::with_capacity(alloc, script.blocks.len())?,

@@ -1,12 +1,11 @@
 //! A live run: three threads over one link, and its end.
 
-ghost use Rattle.std.specs.Prelude.{◌≡◌, ◌≤◌, pos, Bool, true, false, length, map};
+ghost use Rattle.std.specs.Prelude.{◌≡◌, ◌≤◌, pos, Bool, true, false, length, map, IfOk, IsErr};
 ghost use Rattle.lk_outside.specs.Pace.{IsPaced};
 ghost use Rattle.link_node.specs.Config.{config_value, IsConfig};
 ghost use Rattle.link_node.specs.Event.{event_value};
 ghost use Rattle.link_node.specs.Runs.{AreFitting};
 ghost use Rattle.link_live.specs.LiveRun.{EndsLiveRun, IsReady, first_of, setup_of, told_of};
-ghost use Rattle.link_live.specs.NodeRun.{ArePartsOf};
 
 use crate::audio::AudioReport;
 use crate::node_run::run_node;
@@ -16,12 +15,10 @@ use crate::sides::{Player, Script};
 use client_state::State;
 use link_node::{Config, Event};
 use link_script::LiveScript;
-use link_shared::{LinkName, Parts};
 use lk_outside::{Audio, Pace, Port};
-use std::alloc::Global;
+use std::alloc::{AllocError, Global};
 use std::sync::Wait;
 use std::thread::Threads;
-use triple_buffer::Triple;
 
 /// How a live run ended: by the first of these that holds.
 #[derive(Clone, Copy, Debug, PartialEq, Eq)]
@@ -48,72 +45,67 @@ pub struct LiveRun {
     pub script: ScriptReport,
 }
 
-/// Makes a link of the parts, binds the port to the config's gates, and runs three threads: the network's loop, the audio thread's over at
-/// most `blocks` blocks, and that of an application which takes the script's commands. Then it ends the link.
+/// Runs a node, which is opened with a config at a moment and whose journal takes so many events, on three threads: the network's loop, the
+/// audio thread's over at most `blocks` blocks, and that of an application which takes the script's commands.
 ///
-/// Waits: for the threads, and in the port, the device and the pace. Memory: two notes for each capture of the application.
-pub fn live_run<
-    N: LinkName + Send + Sync,
-    P: Port + Send,
-    A: Audio + Send,
-    T: Pace + Send,
-    R: Threads + Wait + Sync,
->(
+/// The error is want of memory; then nothing was called.
+///
+/// Waits: for the threads, and in the port, the device and the pace. Memory: before the threads begin, all that the node needs; then two
+/// notes for each capture of the application.
+pub fn live_run<P: Port + Send, A: Audio + Send, T: Pace + Send, R: Threads + Wait + Sync>(
     rt: &R,
     alloc: Global,
-    parts: Parts<Triple<11>>,
     config: &Config,
+    opened_at: i64,
+    events: u64,
     script: &LiveScript,
     blocks: u64,
     room: Room,
     port: &mut P,
     audio: &mut A,
     pace: &mut T,
-) -> LiveRun
-    requires link { ArePartsOf N.app_states N.audio_states N.audio_commits N.queue N.name N.parts N.whole parts }
-    requires config { (parts.config ≡ config_value config.now) × IsConfig parts.config }
-    requires opening { IsPaced (T.late pace.old) (pos 0) parts.opened_at }
+) -> Result<LiveRun, AllocError>
+    requires config { IsConfig (config_value config.now) }
+    requires opening { IsPaced (T.late pace.old) (pos 0) opened_at }
+    requires events { (1 ≤ events) × (events ≤ 524_288) }
     requires ready { IsReady script.now blocks room }
-    ensures ends { EndsLiveRun (setup_of parts.config parts.most script.now blocks) (T.late pace.old)
+    ensures ends { IfOk result (λ run. EndsLiveRun (setup_of (config_value config.now) events script.now blocks) (T.late pace.old)
         (P.seen port.old) (P.seen port.new) (A.seen audio.old) (A.seen audio.new)
-        (told_of parts.config parts.opened_at result) result.end }
-    ensures few { length result.audio.plays.items ≤ blocks }
-    ensures fitting { AreFitting (length parts.config.gates) 0 0 (map event_value result.events.items) }
+        (told_of (config_value config.now) opened_at run) run.end) }
+    ensures few { IfOk result (λ run. length run.audio.plays.items ≤ blocks) }
+    ensures fitting { IfOk result (λ run. AreFitting (length (config_value config.now).gates) 0 0 (map event_value run.events.items)) }
+    ensures untouched { IsErr result → (port.new ≡ port.old) × (audio.new ≡ audio.old) × (pace.new ≡ pace.old) }
 {
-    let Room {
-        sends,
-        audio: audio_report,
-        script: script_report,
-    } = room;
     let mut player = Player {
         script,
         blocks,
-        report: audio_report,
+        report: room.audio,
     };
     let mut client = Script {
         alloc,
         script,
-        report: script_report,
+        report: room.script,
     };
-    let run = run_node::<N, P, Player<'_>, A, Script<'_>, T, (), R>(
+    let run = run_node(
         rt,
-        parts,
+        alloc,
         config,
-        sends,
+        opened_at,
+        events,
         port,
         &mut player,
         audio,
         &mut client,
         pace,
         &mut (),
-    );
-    LiveRun {
+    )?;
+    Ok(LiveRun {
         end: end_of(run.app, run.failed, run.audio, run.full),
         events: run.events,
         published: run.published,
         audio: player.report,
         script: client.report,
-    }
+    })
 }
 
 // The first that holds.

@@ -6,30 +6,62 @@
 ghost use Rattle.std.specs.Prelude.{◌≡◌, Bool};
 ghost use Rattle.std.specs.Thread.{IsSend, IsSync};
 ghost use Rattle.link_live.specs.declared.network.NetEnd.{NetEnd as AnyEnd};
+ghost use Rattle.link_shared.specs.Audio.{AudioView};
+ghost use Rattle.link_shared.specs.Passes.{AppView};
 
 use crate::handing::ask_to_end;
 use crate::network::{NetEnd, network_loop};
 use link_node::Sends;
-use link_shared::{Hub, Link, LinkName};
+use link_shared::{AppPass, AudioPass, Hub, Link, LinkName};
 use lk_outside::Port;
 use std::sync::Wait;
 use std::thread;
 use std::thread::Threads;
 use triple_buffer::Triple;
 
-/// What runs beside the network's loop on a thread of its own: it is lent its pass of the link, of type `U`, and at most two devices, `()`
-/// where there is none. Lists that it fills are its own.
-pub trait Side<R, L, U, D, E> {
+/// What runs on the audio thread beside the network's loop: it is lent the audio thread's pass of the link, and a device, `()` where there
+/// is none. Lists that it fills are its own.
+pub trait AudioSide<R, D> {
     /// How it ended.
     type End: Send;
 
     /// What it owes, and what it promises.
-    ghost starts: { Self → U → D → E → Type 0 };
+    ghost starts: { Self → AudioView → D → Type 0 };
 
-    ghost runs: { Self → Self → U → U → D → D → E → E → Self.End → Type 0 };
+    ghost runs: { Self → Self → AudioView → AudioView → D → D → Self.End → Type 0 };
 
     /// Runs to its end.
-    fn run(&mut self, rt: &R, link: &L, pass: &mut U, first: &mut D, second: &mut E) -> Self::End
+    fn run<N: LinkName>(
+        &mut self,
+        rt: &R,
+        link: &Link<Triple<11>, N>,
+        pass: &mut AudioPass<Triple<11>, N>,
+        device: &mut D,
+    ) -> Self::End
+        requires { starts self.old pass.old device.old }
+        ensures { runs self.old self.new pass.old pass.new device.old device.new result };
+}
+
+/// What runs on an application's thread beside the network's loop: it is lent the application's pass of the link, and at most two devices,
+/// `()` where there is none. Lists that it fills are its own.
+pub trait AppSide<R, E, F> {
+    /// How it ended.
+    type End: Send;
+
+    /// What it owes, and what it promises.
+    ghost starts: { Self → AppView → E → F → Type 0 };
+
+    ghost runs: { Self → Self → AppView → AppView → E → E → F → F → Self.End → Type 0 };
+
+    /// Runs to its end.
+    fn run<N: LinkName>(
+        &mut self,
+        rt: &R,
+        link: &Link<Triple<11>, N>,
+        pass: &mut AppPass<Triple<11>, N>,
+        first: &mut E,
+        second: &mut F,
+    ) -> Self::End
         requires { starts self.old pass.old first.old second.old }
         ensures { runs self.old self.new pass.old pass.new first.old first.new second.old second.new result };
 }
@@ -38,14 +70,100 @@ pub trait Side<R, L, U, D, E> {
 #[derive(Clone, Copy, Debug, PartialEq, Eq)]
 pub struct Idle;
 
-impl<R, L, U, D, E> Side<R, L, U, D, E> for Idle {
+impl<R, D> AudioSide<R, D> for Idle {
+    type End = ();
+
+    ghost starts = { λ side pass device. Unit {0} };
+
+    ghost runs = { λ side side_then pass pass_then device device_then end. pass_then ≡ pass };
+
+    fn run<N: LinkName>(
+        &mut self,
+        _rt: &R,
+        _link: &Link<Triple<11>, N>,
+        _pass: &mut AudioPass<Triple<11>, N>,
+        _device: &mut D,
+    ) {}
+}
+
+impl<R, E, F> AppSide<R, E, F> for Idle {
     type End = ();
 
     ghost starts = { λ side pass first second. Unit {0} };
 
     ghost runs = { λ side side_then pass pass_then first first_then second second_then end. pass_then ≡ pass };
 
-    fn run(&mut self, _rt: &R, _link: &L, _pass: &mut U, _first: &mut D, _second: &mut E) {}
+    fn run<N: LinkName>(
+        &mut self,
+        _rt: &R,
+        _link: &Link<Triple<11>, N>,
+        _pass: &mut AppPass<Triple<11>, N>,
+        _first: &mut E,
+        _second: &mut F,
+    ) {}
+}
+
+/// Either side of one link, as what joins threads knows it.
+pub(crate) trait Side<R, L, U, D, E> {
+    type End: Send;
+
+    ghost starts: { Self → U → D → E → Type 0 };
+
+    ghost runs: { Self → Self → U → U → D → D → E → E → Self.End → Type 0 };
+
+    fn go(&mut self, rt: &R, link: &L, pass: &mut U, first: &mut D, second: &mut E) -> Self::End
+        requires { starts self.old pass.old first.old second.old }
+        ensures { runs self.old self.new pass.old pass.new first.old first.new second.old second.new result };
+}
+
+impl<S: AudioSide<R, D>, N: LinkName, R, D> Side<
+    R,
+    Link<Triple<11>, N>,
+    AudioPass<Triple<11>, N>,
+    D,
+    (),
+> for S {
+    type End = S::End;
+
+    ghost starts = { λ side pass device none. S.starts side pass device };
+
+    ghost runs = { λ side side_then pass pass_then device device_then none none_then end. S.runs side side_then pass pass_then device device_then end };
+
+    fn go(
+        &mut self,
+        rt: &R,
+        link: &Link<Triple<11>, N>,
+        pass: &mut AudioPass<Triple<11>, N>,
+        device: &mut D,
+        _none: &mut (),
+    ) -> S::End {
+        self.run(rt, link, pass, device)
+    }
+}
+
+impl<S: AppSide<R, E, F>, N: LinkName, R, E, F> Side<
+    R,
+    Link<Triple<11>, N>,
+    AppPass<Triple<11>, N>,
+    E,
+    F,
+> for S {
+    type End = S::End;
+
+    ghost starts = { λ side pass first second. S.starts side pass first second };
+
+    ghost runs = { λ side side_then pass pass_then first first_then second second_then end. S.runs side side_then pass pass_then first first_then second second_then end };
+
+    fn go(
+        &mut self,
+        rt: &R,
+        link: &Link<Triple<11>, N>,
+        pass: &mut AppPass<Triple<11>, N>,
+        first: &mut E,
+        second: &mut F,
+    ) -> S::End {
+        self.run(rt, link, pass, first, second)
+    }
 }
 
 /// The network's side.
@@ -181,10 +299,10 @@ fn run_sides<
         &mut || -> A::End
             requires { A.starts audio.now audio_pass.now device.now tt }
             ensures { A.runs audio.entry.now audio.exit.now audio_pass.entry.now audio_pass.exit.now device.entry.now device.exit.now tt tt result }
-        { audio.run(rt, link, audio_pass, device, &mut none) },
+        { audio.go(rt, link, audio_pass, device, &mut none) },
         &mut || -> B::End
             requires { B.starts app.now app_pass.now first.now second.now }
             ensures { B.runs app.entry.now app.exit.now app_pass.entry.now app_pass.exit.now first.entry.now first.exit.now second.entry.now second.exit.now result }
-        { app.run(rt, link, app_pass, first, second) },
+        { app.go(rt, link, app_pass, first, second) },
     )
 }

@@ -5,7 +5,7 @@ ghost use Rattle.link_live.specs.Loops.{CanPlay, CanTake, HasPlayedBlocks, HasTa
 
 use crate::audio::{AudioReport, audio_loop};
 use crate::script::{ScriptReport, script_loop};
-use crate::side::Side;
+use crate::side::{AppSide, AudioSide};
 use link_script::LiveScript;
 use link_shared::{AppPass, AudioPass, Link, LinkName};
 use lk_outside::{Audio, Pace};
@@ -21,24 +21,22 @@ pub(crate) struct Player<'a> {
     pub(crate) report: AudioReport,
 }
 
-impl<'a, N: LinkName, A: Audio, E, R> Side<R, Link<Triple<11>, N>, AudioPass<Triple<11>, N>, A, E>
-    for Player<'a> {
+impl<'a, A: Audio, R> AudioSide<R, A> for Player<'a> {
     /// Whether no call of the device failed.
     type End = bool;
 
-    ghost starts = { λ side pass audio other. CanPlay side.blocks side.script.now.blocks.items pass side.report };
+    ghost starts = { λ side pass audio. CanPlay side.blocks side.script.now.blocks.items pass side.report };
 
-    ghost runs = { λ side side_then pass pass_then audio audio_then other other_then ended.
+    ghost runs = { λ side side_then pass pass_then audio audio_then ended.
         HasPlayedBlocks side.blocks side.script.now.blocks.items pass pass_then (A.seen audio) (A.seen audio_then)
         side_then.report ended };
 
-    fn run(
+    fn run<N: LinkName>(
         &mut self,
         _rt: &R,
         link: &Link<Triple<11>, N>,
         pass: &mut AudioPass<Triple<11>, N>,
         audio: &mut A,
-        _other: &mut E,
     ) -> bool {
         audio_loop(
             link,
@@ -59,28 +57,22 @@ pub(crate) struct Script<'a> {
     pub(crate) report: ScriptReport,
 }
 
-impl<'a, N: LinkName, T: Pace, E, R: Wait> Side<
-    R,
-    Link<Triple<11>, N>,
-    AppPass<Triple<11>, N>,
-    T,
-    E,
-> for Script<'a> {
+impl<'a, T: Pace, R: Wait> AppSide<R, T, ()> for Script<'a> {
     /// Whether memory was wanting for no capture.
     type End = bool;
 
-    ghost starts = { λ side pass pace other. CanTake side.script.now.apps.items pass side.report };
+    ghost starts = { λ side pass pace none. CanTake side.script.now.apps.items pass side.report };
 
-    ghost runs = { λ side side_then pass pass_then pace pace_then other other_then all.
+    ghost runs = { λ side side_then pass pass_then pace pace_then none none_then all.
         HasTakenCommands (T.late pace) side.script.now.apps.items pass_then side_then.report all };
 
-    fn run(
+    fn run<N: LinkName>(
         &mut self,
         rt: &R,
         link: &Link<Triple<11>, N>,
         pass: &mut AppPass<Triple<11>, N>,
         pace: &mut T,
-        _other: &mut E,
+        _none: &mut (),
     ) -> bool {
         script_loop(
             rt,

@@ -17,17 +17,14 @@ use link_commands::{Outlet, Status};
 use link_live::{LiveEnd, LiveRun, Report, Room, live_run, scripts_have_commands};
 use link_node::Config;
 use link_script::LiveScript;
-use link_shared::Parts;
 use link_text::written_scripts_are_read;
 use link_words::{LiveOptions, WordsFault, live_options};
 use lk_base::IdSource;
 use lk_outside::{Audio, Pace, Port, Sink, Source};
 use std::alloc::Global;
-use std::marker::Brand;
 use std::mem;
 use std::sync::Wait;
 use std::thread::Threads;
-use triple_buffer::Triple;
 
 /// Runs the live script on `input` over the port, the device and the pace: reads and checks it whole, plays until its commands are taken
 /// and the device's blocks are played, and then writes to `out` how much there was, and where the words ask for it the run's replay
@@ -114,21 +111,21 @@ fn run_script<P: Port + Send, A: Audio + Send, T: Pace + Send, K: Sink, R: Threa
     let Ok(room) = Room::new(alloc, &script, options.blocks) else {
         return Status::Memory;
     };
-    let Ok(parts) = Parts::<Triple<11>>::new(rt, alloc, &(), &config, now, options.events) else {
-        return Status::Memory;
-    };
-    let run = live_run::<Brand, P, A, T, R>(
+    let Ok(run) = live_run(
         rt,
         alloc,
-        parts,
         &config,
+        now,
+        options.events,
         &script,
         options.blocks,
         room,
         port,
         audio,
         pace,
-    );
+    ) else {
+        return Status::Memory;
+    };
     // Facts, for the proof: the events can be said, and what is written of them is read again.
     are_sayable(&run.events);
     written_scripts_are_read();

@@ -1,4 +1,4 @@
-use Rattle.std.proofs.Common.{◌≡◌, ℤ, length, ap, arith, sym, to_z, of_z, w64, ◌∙◌}
+use Rattle.std.proofs.Common.{◌≡◌, ℤ, length, ap, arith, refl, sym, to_z, of_z, w64, ◌∙◌}
 use Rattle.std.proofs.lemmas.Int.{to_z-of_z}
 use Rattle.std.proofs.lemmas.List.{length-map}
 use Rattle.link_node.specs.Config.{config_value}
@@ -18,17 +18,18 @@ write_report-written-requires-clause-few g c = omega (
 
 pub returns : goal.returns
 returns g c =
+    let config = config_value c.config_of-config.result in
+    let run = c.in-Ok-control_run.run' in
     let stored : to_z w64 (of_z w64 c.until-now.result) ≡ c.until-now.result = to_z-of_z w64 _ (moment_fits _ c.until-now.ensures.answer.range) in
-    let kept = c.keep_run.ensures ∙ ap (λ (n : ℤ). told_of (config_value c.config_of-config.result) n c.control_run-run.result) stored in
-    let given = c.in-Ok-new.ensures.given in
+    let kept = c.keep_run.ensures ∙ ap (λ (n : ℤ). told_of config n run) stored in
     record {
-      ends = run_of_head c.args.seed c.args.options.now c.args.head (config_value c.config_of-config.result) c.in-Ok-new.parts.config
-          c.until-now.result c.in-Ok-new.parts.opened_at c.in-Ok-new.parts.most _ _ _ _ _ _ _ _ _ _ _ _ _ c.control_run-run.result c.is_ok.result _
-          c.config_of-config.ensures (given.0, given.1 ∙ stored, given.2) c.until-now.ensures.late c.control_run-run.ensures.ends kept
+      ends = run_of_head c.args.seed c.args.options.now c.args.head config config
+          c.until-now.result _ _ _ _ _ _ _ _ _ _ _ _ _ _ _ run c.is_ok.result _
+          c.config_of-config.ensures (refl, stored, refl) c.until-now.ensures.late c.in-Ok-control_run.ensures.ends kept
           (wrote_whole c.write_report-written.result c.is_ok.result _ _ _ c.is_ok.ensures.value c.write_report-written.ensures.whole c.write_report-written.ensures.quiet)
           (wrote_part c.write_report-written.result c.is_ok.result _ _ _ c.is_ok.ensures.value c.write_report-written.ensures.part c.write_report-written.ensures.cause)
           c.status_of.ensures;
       unbegun = λ memory none.
-          absurd (has_published c.control_run-run.ensures.ends.run.recorded
+          absurd (has_published c.in-Ok-control_run.ensures.ends.run.recorded
           (sym (ap (λ (report : ReportValue). report.published) c.keep_run.ensures) ∙ none));
     }

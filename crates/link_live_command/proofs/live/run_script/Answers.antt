@@ -1,4 +1,4 @@
-use Rattle.std.proofs.Common.{◌≡◌, ℤ, List, length, ap, arith, subst, sym, to_z, of_z, w64, ◌∙◌}
+use Rattle.std.proofs.Common.{◌≡◌, ℤ, List, length, ap, arith, refl, subst, sym, to_z, of_z, w64, ◌∙◌}
 use Rattle.std.proofs.lemmas.Int.{to_z-of_z}
 use Rattle.std.specs.Prelude.{All}
 use Rattle.std.proofs.lemmas.List.{length-map}
@@ -25,33 +25,35 @@ new-requires-2-clause-commands g c =
 pub write_report-written-requires-clause-few : goal.write_report-written-requires-clause-few
 write_report-written-requires-clause-few g c = omega (
   arith,
-  c.live_run-run.ensures.few,
+  c.in-Ok-live_run.ensures.few,
   c.requires.options.2,
   length-map c.keep.new.self.plays.items (λ clicks. clicks.items),
-  length-map c.live_run-run.result.audio.plays.items (λ clicks. clicks.items),
+  length-map c.in-Ok-live_run.run'.audio.plays.items (λ clicks. clicks.items),
   ap (λ (report : ReportValue). length report.plays) c.keep.ensures,
 )
 
 pub returns : goal.returns
 returns g c =
+    let config = config_value c.config_of-config.result in
+    let run = c.in-Ok-live_run.run' in
+    let ran = c.in-Ok-live_run.ensures in
     let stored : to_z w64 (of_z w64 c.until-now.result) ≡ c.until-now.result = to_z-of_z w64 _ (moment_fits _ c.until-now.ensures.answer.range) in
-    let kept = c.keep.ensures ∙ ap (λ (n : ℤ). told_of (config_value c.config_of-config.result) n c.live_run-run.result) stored in
-    let given = c.in-Ok-new-2.ensures.given in
+    let kept = c.keep.ensures ∙ ap (λ (n : ℤ). told_of config n run) stored in
     record {
-      ends = run_of_script c.args.seed c.args.options.now c.args.script c.config_of-config.new.script (config_value c.config_of-config.result) c.in-Ok-new-2.parts.config
-          c.until-now.result c.in-Ok-new-2.parts.opened_at c.in-Ok-new-2.parts.most _ _ _ _ _ _ _ _ _ _ _ c.live_run-run.result c.is_ok.result _
-          c.config_of-config.ensures.config c.config_of-config.ensures.apps c.config_of-config.ensures.blocks (given.0, given.1 ∙ stored, given.2)
-          c.until-now.ensures.late c.live_run-run.ensures.ends kept
+      ends = run_of_script c.args.seed c.args.options.now c.args.script c.config_of-config.new.script config config
+          c.until-now.result _ _ _ _ _ _ _ _ _ _ _ _ _ run c.is_ok.result _
+          c.config_of-config.ensures.config c.config_of-config.ensures.apps c.config_of-config.ensures.blocks (refl, stored, refl)
+          c.until-now.ensures.late ran.ends kept
           (wrote_whole c.write_report-written.result c.is_ok.result _ _ _ c.is_ok.ensures.value c.write_report-written.ensures.whole c.write_report-written.ensures.quiet)
           (wrote_part c.write_report-written.result c.is_ok.result _ _ _ c.is_ok.ensures.value c.write_report-written.ensures.part c.write_report-written.ensures.cause)
           (let say = c.are_sayable.ensures in
-          replays c.written_scripts_are_read.ensures c.requires.script.0 c.args.seed c.args.options.now c.args.script (config_value c.config_of-config.result) c.in-Ok-new-2.parts.config
-          c.until-now.result c.live_run-run.result (report_value c.keep.new.self)
+          replays c.written_scripts_are_read.ensures c.requires.script.0 c.args.seed c.args.options.now c.args.script config config
+          c.until-now.result run (report_value c.keep.new.self)
           c.requires.script.2 c.config_of-config.ensures.config c.ranges.seed.fits c.config_of-config.ensures.visible
-          c.config_of-config.ensures.group c.requires.options.3 c.until-now.ensures.answer.range given.0
-          c.live_run-run.ensures.fitting (rw c.deref.ensures.value at say) kept)
+          c.config_of-config.ensures.group c.requires.options.3 c.until-now.ensures.answer.range refl
+          ran.fitting (rw c.deref.ensures.value at say) kept)
           c.status_of.ensures;
       unbegun = λ memory none.
-          absurd (has_published c.live_run-run.ensures.ends.run.recorded
+          absurd (has_published ran.ends.run.recorded
           (sym (ap (λ (report : ReportValue). report.published) c.keep.ensures) ∙ none));
     }

@@ -3,27 +3,19 @@
 //! The link opens at 1,000,000 with 500,000 microseconds per beat from beat 0 there, and a line of the client is answered each second
 //! from then on. Nothing comes to the port.
 
-ghost use Rattle.std.specs.Prelude.{◌≡◌, ◌≤◌, pos, [], vec_capacity};
-ghost use Rattle.lk_outside.specs.ListPace.{late_of};
-ghost use Rattle.lk_outside.specs.Pace.{IsPaced};
-ghost use Rattle.link_node.specs.Config.{config_value, IsConfig};
-ghost use Rattle.link_control.specs.ControlRun.{IsReady};
-ghost use Rattle.link_live.specs.NodeRun.{ArePartsOf};
+ghost use Rattle.std.specs.Prelude.{◌≡◌, ◌≤◌, [], vec_capacity};
 
 use super::node::{HERE, config};
 use super::session::{append, talk_of};
 use arrayvec::ArrayVec;
 use itoa::Buffer;
 use link_control::{ControlEnd, ControlRoom, ControlRun, SessionLog, control_run};
-use link_node::{Config, Event};
-use link_shared::{LinkName, Parts};
+use link_node::Event;
 use lk_outside::{BIND, HEAR, LISTEN, ListPace, ListPort, ListTalk, Pace, RECEIVE, SAY};
 use std::alloc::Global;
-use std::marker::Brand;
 use std::process::Abort;
 use std::sync::Wait;
 use std::thread::Threads;
-use triple_buffer::Triple;
 
 /// What is given to a run, and what comes of it.
 #[derive(Clone, Copy)]
@@ -237,32 +229,10 @@ fn run_on<R: Threads + Wait + Sync + Abort>(
     let mut pace = ListPace::new(1_000_000);
     let now = pace.until(0);
     let most = most.clamp(1, 524_288);
-    let parts = Parts::<Triple<11>>::new(rt, alloc, &(), &config, now, most);
-    let parts = parts.expect(rt, "memory for a link");
-    run_of::<Brand, R>(
-        rt, alloc, parts, &config, room, &mut port, talk, &mut pace, log,
-    )
-}
-
-fn run_of<N: LinkName + Send + Sync, R: Threads + Wait + Sync>(
-    rt: &R,
-    alloc: Global,
-    parts: Parts<Triple<11>>,
-    config: &Config,
-    room: ControlRoom,
-    port: &mut ListPort,
-    talk: &mut ListTalk,
-    pace: &mut ListPace,
-    log: &mut SessionLog,
-) -> ControlRun
-    requires link { ArePartsOf N.app_states N.audio_states N.audio_commits N.queue N.name N.parts N.whole parts }
-    requires config { (parts.config ≡ config_value config.now) × IsConfig parts.config }
-    requires opening { IsPaced (late_of pace.old) (pos 0) parts.opened_at }
-    requires ready { IsReady room log.old }
-{
-    control_run::<N, ListPort, ListTalk, ListPace, R>(
-        rt, alloc, parts, config, HERE, room, port, talk, pace, log,
-    )
+    let run = control_run(
+        rt, alloc, &config, now, most, HERE, room, &mut port, talk, &mut pace, log,
+    );
+    run.expect(rt, "memory for a run")
 }
 
 // ---- what is told

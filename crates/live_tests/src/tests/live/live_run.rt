@@ -3,13 +3,8 @@
 //! The link opens at 0 with 500,000 microseconds per beat from beat 0 there, and doesn't play. Nothing comes to the port, so no moment is
 //! heard after the opening. The blocks of the device are 20,000 microseconds long and begin at the opening, with a quantum of four beats.
 
-ghost use Rattle.std.specs.Prelude.{◌≡◌, ◌≤◌, pos, All, length};
-ghost use Rattle.lk_outside.specs.ListPace.{late_of};
-ghost use Rattle.lk_outside.specs.Pace.{IsPaced};
-ghost use Rattle.link_node.specs.Config.{config_value, IsConfig};
+ghost use Rattle.std.specs.Prelude.{◌≤◌, All, length};
 ghost use Rattle.link_script.specs.LiveScript.{IsCommand, app as app_command, block as block_command};
-ghost use Rattle.link_live.specs.LiveRun.{IsReady};
-ghost use Rattle.link_live.specs.NodeRun.{ArePartsOf};
 
 use super::devices::{Blocks, device_of};
 use super::events::kind_of;
@@ -18,17 +13,14 @@ use super::nodes::config_of;
 use super::scripts::script_of;
 use client_state::State;
 use link_live::{LiveEnd, LiveRun, Room, live_run};
-use link_node::{Config, Event};
+use link_node::Event;
 use link_script::LiveScript;
-use link_shared::{LinkName, Parts};
 use link_text::{LineBuf, write_state_line};
 use lk_outside::{BIND, ListAudio, ListPace, ListPort, NEXT, Pace, RECEIVE};
 use std::alloc::Global;
-use std::marker::Brand;
 use std::process::Abort;
 use std::sync::Wait;
 use std::thread::Threads;
-use triple_buffer::Triple;
 
 /// What is given to a run, and what is told of it.
 struct Row {
@@ -198,42 +190,20 @@ fn run_on<R: Threads + Wait + Sync + Abort>(
     let mut pace = ListPace::new(0);
     let now = pace.until(0);
     let most = row.most.clamp(1, 524_288);
-    let parts = Parts::<Triple<11>>::new(rt, alloc, &(), &config, now, most);
-    let parts = parts.expect(rt, "memory for a link");
-    run_of::<Brand, R>(
-        rt, alloc, parts, &config, script, row.blocks, room, port, device, &mut pace,
-    )
-}
-
-fn run_of<N: LinkName + Send + Sync, R: Threads + Wait + Sync>(
-    rt: &R,
-    alloc: Global,
-    parts: Parts<Triple<11>>,
-    config: &Config,
-    script: &LiveScript,
-    blocks: u16,
-    room: Room,
-    port: &mut ListPort,
-    device: &mut ListAudio,
-    pace: &mut ListPace,
-) -> LiveRun
-    requires link { ArePartsOf N.app_states N.audio_states N.audio_commits N.queue N.name N.parts N.whole parts }
-    requires config { (parts.config ≡ config_value config.now) × IsConfig parts.config }
-    requires opening { IsPaced (late_of pace.old) (pos 0) parts.opened_at }
-    requires ready { IsReady script.now blocks room }
-{
-    live_run::<N, ListPort, ListAudio, ListPace, R>(
+    let run = live_run(
         rt,
         alloc,
-        parts,
-        config,
+        &config,
+        now,
+        most,
         script,
-        u64::from(blocks),
+        u64::from(row.blocks),
         room,
         port,
         device,
-        pace,
-    )
+        &mut pace,
+    );
+    run.expect(rt, "memory for a run")
 }
 
 // ---- what is told, but for what depends on how the threads step

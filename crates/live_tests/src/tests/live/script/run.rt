@@ -69,7 +69,8 @@ fn told_of<C: StateCell<11>, N: LinkName, R: Wait + Abort>(
     );
     assert!(rt; all);
     let commits = room.script.commits.len();
-    drain(rt, way, link, hub, commits, &mut room.sends);
+    let mut sends = Sends::new(alloc).expect(rt, "memory for a turn");
+    drain(rt, way, link, hub, commits, &mut sends);
     check_taken(rt, hub.journal(), &room.script.commits);
     check_next(rt, link, app, commits);
     tell(&room.script, hub.journal())

@@ -6,7 +6,7 @@ use Rattle.link_live.specs.Network.{locals_of}
 use Rattle.link_live.proofs.AskLemmas.{moment_fits}
 use Rattle.link_live.proofs.NetworkLemmas.{all_fit, can_run, last_on_gates, still_bound}
 use Rattle.link_live.proofs.NodeRunLemmas.{node_run}
-use Rattle.link_live.proofs.node_run.run_node.Goals as goal
+use Rattle.link_live.proofs.node_run.run_parts.Goals as goal
 
 pub run_beside-ends-requires-clause-network : goal.run_beside-ends-requires-clause-network
 run_beside-ends-requires-clause-network g c κs within =
@@ -25,9 +25,9 @@ returns g c = record {
   run = (
     c.run_beside-ends.new.audio_pass,
     c.run_beside-ends.new.app_pass,
-    subst (λ (v : AudioView). g.A.Side.runs c.args.audio.now c.run_beside-ends.new.audio v c.run_beside-ends.new.audio_pass c.args.device.now c.run_beside-ends.new.device tt tt c.run_beside-ends.result.1.0)
+    subst (λ (v : AudioView). g.A.AudioSide.runs c.args.audio.now c.run_beside-ends.new.audio v c.run_beside-ends.new.audio_pass c.args.device.now c.run_beside-ends.new.device c.run_beside-ends.result.1.0)
         c.make-link.ensures.audio c.run_beside-ends.ensures.audio,
-    subst (λ (v : AppView). g.B.Side.runs c.args.app.now c.run_beside-ends.new.app v c.run_beside-ends.new.app_pass c.args.first.now c.run_beside-ends.new.first c.args.second.now c.run_beside-ends.new.second c.run_beside-ends.result.1.1)
+    subst (λ (v : AppView). g.B.AppSide.runs c.args.app.now c.run_beside-ends.new.app v c.run_beside-ends.new.app_pass c.args.first.now c.run_beside-ends.new.first c.args.second.now c.run_beside-ends.new.second c.run_beside-ends.result.1.1)
         c.make-link.ensures.app c.run_beside-ends.ensures.app,
     node_run c.run_laws.ensures
         (record {
