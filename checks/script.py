@@ -167,6 +167,8 @@ class Copy:
         return common.ended([script or self.script, *words], "", **{"env": self.environment, **streams})
 
     def begun(self, words):
+        # What ignores Ctrl-C, as a background job of a shell, hands that on; a terminal doesn't.
+        signal.signal(signal.SIGINT, signal.default_int_handler)
         return started([self.script, *words], "", stdout=subprocess.PIPE, stderr=subprocess.PIPE, text=True, env=self.environment, start_new_session=True)
 
     def at_a_terminal(self, words):
