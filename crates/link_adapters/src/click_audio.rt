@@ -1,6 +1,7 @@
 //! An audio device that writes its clicks as text.
 
-ghost use Rattle.std.specs.Prelude.{◌≡◌, ◌≤◌, ◌+◌, ◌*◌, ◌++◌, [], length, None, IfOk};
+ghost use Rattle.std.specs.Prelude.{◌≡◌, ◌≤◌, ◌+◌, ◌*◌, ◌^◌, ◌++◌, pos, ◌+ℤ◌, ◌≤ℤ◌, [], length, None, IfOk};
+ghost use Rattle.std.specs.Int.{int_min};
 ghost use Rattle.arrayvec.specs.ArrayVec.{array_vec_len};
 ghost use Rattle.lk_base.specs.Ranges.{IsMoment};
 ghost use Rattle.lk_outside.specs.Audio.{IsNext, GivesNext, HasNextCause, Plays, HasPlayCause};
@@ -22,8 +23,8 @@ const BLOCK_LENGTH: i64 = 20_000;
 /// The lines of the clicks of a block.
 type Lines = ArrayVec<u8, 1200>;
 
-/// An audio device whose blocks of 20 milliseconds follow on each other, from the moment at which it was made. It tells of each click in a
-/// line: `click`, its host time in microseconds, and `accent` or `plain`.
+/// An audio device whose blocks of 20 milliseconds follow on each other, from the moment at which it was made, or `later`. It tells of each
+/// click in a line: `click`, its host time in microseconds, and `accent` or `plain`.
 #[derive(Drop)]
 pub struct ClickAudio<W: Write + Drop, R: Clock + Wait + Drop> {
     inner: W,
@@ -50,6 +51,16 @@ impl<W: Write + Drop, R: Clock + Wait + Drop> ClickAudio<W, R> {
             start,
             faults: 0,
         })
+    }
+
+    /// The same device, which begins `wait` microseconds later, at most a second, and at the last moment at the latest.
+    pub fn later(mut self, wait: i64) -> Self
+        requires { (pos 0 ≤ℤ wait) × (wait ≤ℤ pos 1_000_000) }
+        ensures start { result.start ≡ int_min (self.start +ℤ wait) (pos (2 ^ 55)) }
+        ensures stays { (result.inner ≡ self.inner) × (result.faults ≡ self.faults) × (result.clock ≡ self.clock) }
+    {
+        self.start = (self.start + wait).min(MOMENT_MAX);
+        self
     }
 }
 
