@@ -35,6 +35,10 @@ use std::sync::Wait;
 use std::time::{Clock, SystemTime, UNIX_EPOCH};
 use step_sequencer::Pattern;
 
+// How long it listens before its first block, in microseconds, so that it begins in the session that is there: a peer tells of itself at
+// least every 250 milliseconds.
+const LISTENS: i64 = 500_000;
+
 // Without words it rehearses, and with words it joins the network. Either way the pattern comes on standard input.
 fn main(rt: HostRuntime) -> ExitCode {
     let status = match asked(&rt) {
@@ -118,7 +122,7 @@ fn outside_of<R: Net + Wait + Clock + Eprint + Copy + Drop, E: Write + Drop>(
         group: 0,
     };
     let port = port_of(rt, alloc, clock, about)?;
-    // The node comes first: where its first block begins, it is open.
+    // The node comes first: where its first block begins, it is open, and has listened.
     let (Ok(opened_at), Ok(audio)) = (clock.moment(&rt), ClickAudio::new(clicks, rt, clock)) else {
         return Err(Status::Audio);
     };
@@ -126,7 +130,7 @@ fn outside_of<R: Net + Wait + Clock + Eprint + Copy + Drop, E: Write + Drop>(
         seed,
         opened_at,
         port,
-        audio,
+        audio: audio.later(LISTENS),
     })
 }
 
