@@ -5,11 +5,16 @@ The reader here knows no more of MIDI files than what the tool writes, and refus
 notes, in their order, each with its own time to a tick, and in a steady tempo the ticks too: of examples/midi.script, by the program's own
 run and as examples/midi.clock has it, and of outputs made here: steady tempos, tempos that change, beats that jump, a stop before the first
 clock and behind the last one, pauses, numbers at the ends of the range. Input that is no output of `midi` has to end with status 2 and one
-sentence on standard error. The last line is 'N passed, N failed'.
+sentence on standard error. Of raw MIDI the events have to stand at the times at which the tool took them, and nothing may be lost where
+something is refused or Ctrl-C ends the input. The last line is 'N passed, N failed'.
 """
 import os
 import pty
+import select
+import signal
+import subprocess
 import sys
+import time
 from fractions import Fraction
 
 sys.dont_write_bytecode = True
@@ -20,6 +25,8 @@ from midi import steady  # noqa: E402
 TOOL = os.path.join(HERE, "tools", "midi_file.py")
 SCRIPT, EXPECTED = (os.path.join(EXAMPLES, "midi" + ending) for ending in (".script", ".clock"))
 HOUR = 3_600_000_000
+# How far an event of raw MIDI may stand from where it is wanted, in microseconds.
+FAR = 50_000
 
 
 # Reading a file.
@@ -164,7 +171,9 @@ def made():
     stops = [(0, "fa"), *clocks(500_000, 60), (1_234_567, "fc"), (1_250_001, "f20a00"), (1_250_001, "fb"), *clocks(500_000, 60, 1, 60)]
     yield "a stop and a continue", output(stops), None
     yield "a stop before the first clock", output([(-700_000, "fc"), (0, "fa"), *clocks(500_000, 60)]), [(0, 700_000), (480, 500_000)]
-    yield "one a microsecond before it", output([(-1, "fc"), (0, "fa"), *clocks(500_000, 60)]), None
+    # A tick has 1041 2/3 microseconds here.
+    for gap, tempos in ((1, [(0, 500_000)]), (1041, [(0, 500_000)]), (1042, [(0, 1042), (480, 500_000)])):
+        yield f"one {gap} microseconds before it", output([(-gap, "fc"), (0, "fa"), *clocks(500_000, 60)]), tempos
     yield "one an hour before it", output([(-HOUR, "fc"), (0, "fa"), *clocks(500_000, 60)]), None
     yield "a stop behind the last clock", output([(0, "fa"), *clocks(500_000, 60), (1_240_000, "fc")]), [(0, 500_000)]
     yield "one an hour behind it", output([(0, "fa"), *clocks(500_000, 60), (HOUR, "fc")]), None
@@ -267,8 +276,122 @@ def streams(program, folder):
     yield "a terminal", found, (2, b"midi_file: standard output is a terminal, which shows no MIDI file; `> FILE` keeps it\n")
 
 
+# Raw MIDI.
+
+
+def begun():
+    """The tool with --raw, and both ends of its input."""
+    ours, theirs = os.pipe()
+    streams = {"stdin": ours, "stdout": subprocess.PIPE, "stderr": subprocess.PIPE}
+    return common.started([sys.executable, TOOL, "--raw"], **streams), ours, theirs
+
+
+def hand(pieces, child, ours, theirs):
+    """Writes pieces, each so many seconds after the one before was taken; answers when that was, in microseconds from the first one on."""
+    taken = []
+    for wait, piece in pieces:
+        time.sleep(wait)
+        os.write(theirs, piece)
+        while select.select([ours], [], [], 0)[0] and child.poll() is None:
+            time.sleep(0.001)
+        taken.append(time.monotonic_ns() // 1000)
+    return [at - taken[0] for at in taken]
+
+
+def after(child, ours, theirs):
+    """Status, file and standard error of the tool, whose input is left open till it has ended."""
+    data, error = child.communicate(timeout=common.LONGEST)
+    os.close(ours)
+    os.close(theirs)
+    return child.returncode, data, error.decode()
+
+
+def raw_times(program, folder):
+    """Clocks stand at the times at which they come, and so do markers."""
+    run = begun()
+    pieces = [(0, b"\xf8"), (0.2, b"\xf8"), (0.1, b"\xfa"), (0.3, b"\xf8"), (0.4, b"\xf8"), (0.1, b"\xfc")]
+    pieces += [(0.1, b"\xf2"), (0.05, b"\1\0"), (0.1, b"\xfb"), (0.1, b"\xf8")]
+    taken = hand(pieces, *run)
+    run[0].send_signal(signal.SIGINT)
+    status, data, error = after(*run)
+    yield "raw MIDI", (status, error), (0, "")
+    file = File(data)
+    told = {what: tick for tick, what in file.told()}
+    yield "what is in it", list(told), ["start", "note 76", "stop", "continue at sixteenth 1"]
+    ticks = [0, 20, told["start"], 40, 60, told["stop"], told["continue at sixteenth 1"], 80]
+    wanted = [at for at, (_, piece) in zip(taken, pieces) if piece[0] not in (0xF2, 1)]
+    far = [f"tick {tick} at {float(file.time(tick)):.1f} in place of {at}" for tick, at in zip(ticks, wanted) if abs(file.time(tick) - at) > FAR]
+    yield "what is far from its time", far, []
+    yield "the note of the first clock from the start on", told["note 76"], 40
+
+
+def raw_messages(program, folder):
+    """What has to be told of bytes that come at once."""
+    cases = [
+        (b"\xf8" * 50, []),
+        (b"\xfa", ["start"]),
+        (b"\xfa\xf8\xfa\xf8", ["start", "note 76"] * 2),
+        (b"\xfa" + b"\xf8" * 24, ["start", "note 76"]),
+        (b"\xfa" + b"\xf8" * 25 + b"\xfc" + b"\xf8" * 50, ["start", "note 76", "note 77", "stop"]),
+        # The quarter behind sixteenth 61 is three sixteenths away, so 18 clocks.
+        (b"\xf2\x3d\0\xfb" + b"\xf8" * 18, ["continue at sixteenth 61"]),
+        (b"\xf2\x3d\0\xfb" + b"\xf8" * 19, ["continue at sixteenth 61", "note 77"]),
+        (b"\xf2\x7f\x7f\xfb", ["continue at sixteenth 16383"]),
+        (b"\xf2\xf8\1\xfc\2\xfb", ["stop", "continue at sixteenth 257"]),
+        (b"\xf2\1\0\xf2\2\0\xfc", ["stop"]),
+        # Without a position it goes on where it was, at clock 30 of the song.
+        (b"\xfa" + b"\xf8" * 30 + b"\xfc\xfb" + b"\xf8" * 18, ["start", "note 76", "note 77", "stop", "continue at sixteenth 5"]),
+        (b"\xfa" + b"\xf8" * 30 + b"\xfc\xfb" + b"\xf8" * 19, ["start", "note 76", "note 77", "stop", "continue at sixteenth 5", "note 77"]),
+    ]
+    for text, wanted in cases:
+        status, data, error = make(["--raw"], text)
+        yield f"{text!r}", (status, error, [what for _, what in File(data).told()]), (0, "", wanted)
+    yield "the tempo without a clock", File(make(["--raw"], b"\xfa\xfc")[1]).tempos, [(0, 500_000)]
+
+
+def raw_refused(program, folder):
+    """The sentence, and what stands in the file: nothing of the byte at fault, or behind it."""
+    between = "f8 (clock), fa (start), fb (continue), fc (stop) or f2 (song position)"
+    inside, end = "a byte from 00 to 7f of the song position", "the end of the input"
+    cases = [(b"", 1, between, end), (b"\xf2", 2, inside, end), (b"\xf2\1", 3, inside, end), (b"\xfa\xf8\xf2\1", 5, inside, end)]
+    cases += [(b"\xfa\xf2\1\xf8", 5, inside, end), (b"\xfe\xfa", 1, between, "fe"), (b"\xf2\x80", 2, inside, "80")]
+    for byte in (0x00, 0x7F, 0x80, 0x90, 0xEF, 0xF0, 0xF1, 0xF3, 0xF6, 0xF7, 0xF9, 0xFD, 0xFE, 0xFF):
+        cases.append((b"\xfa\xf8" + bytes([byte]) + b"\xfc", 3, between, f"{byte:02x}"))
+    for byte in (0x80, 0x90, 0xF0, 0xF2, 0xF7, 0xF9, 0xFE, 0xFF):
+        cases += [(b"\xfa\xf8\xf2" + known + bytes([byte]) + b"\xfc", 4 + len(known), inside, f"{byte:02x}") for known in (b"", b"\1")]
+    for text, place, expected, found in cases:
+        status, data, error = make(["--raw"], text)
+        told = ["start", "note 76"] if b"\xf8" in text else []
+        behind = "; the file has what came before" if told else ""
+        wanted = (2, f"midi_file: byte {place}: expected {expected}, found {found}{behind}\n", told)
+        yield f"{text!r}", (status, error, [what for _, what in File(data).told()] if data else []), wanted
+    run = begun()
+    hand([(0, b"\xfa\x90")], *run)
+    sentence = f"midi_file: byte 2: expected {between}, found 90; the file has what came before\n"
+    yield "a byte at fault, while more may come", after(*run)[::2], (2, sentence)
+    yield "a text of `midi` beside it", make(["--raw", EXPECTED]), (2, b"", "midi_file: argument OUTPUT: not allowed with argument --raw; --help tells all\n")
+    with open(os.path.join(folder, "written"), "wb") as written:
+        found = common.ended([sys.executable, TOOL, "--raw"], stdin=written)
+    yield "an input for writing alone", found, (2, b"", b"midi_file: standard input could not be read: Bad file descriptor\n")
+    found = common.ended(["/bin/sh", "-c", 'exec "$0" "$1" --raw <&-', sys.executable, TOOL])
+    yield "a closed input", found, (2, b"", b"midi_file: standard input could not be read: it is closed\n")
+
+
+def raw_interrupted(program, folder):
+    """Ctrl-C ends the input, and what came right before it is there."""
+    ended = "byte 4: expected a byte from 00 to 7f of the song position, found the end of the input; the file has what came before"
+    cases = [(b"\xf8", 0, "", ["start", "note 76"]), (b"\xfc", 0, "", ["start", "stop"]), (b"\xf2\1", 2, f"midi_file: {ended}\n", ["start"])]
+    for last, *wanted in cases * 5:
+        run = begun()
+        hand([(0, b"\xfa")], *run)
+        os.write(run[2], last)
+        run[0].send_signal(signal.SIGINT)
+        status, data, error = after(*run)
+        yield f"Ctrl-C behind {last!r}", [status, error, [what for _, what in File(data).told()]], wanted
+
+
 def main(program):
-    return common.compared((example, made_here, refused, streams), program)
+    return common.compared((example, made_here, refused, streams, raw_times, raw_messages, raw_refused, raw_interrupted), program)
 
 
 if __name__ == "__main__":

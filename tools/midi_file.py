@@ -1,27 +1,39 @@
 #!/usr/bin/env python3
-"""Makes a MIDI file of what `jorazhil midi` writes, so that a sequencer shows and plays it.
+"""Makes a MIDI file of what `jorazhil midi` writes, or of raw MIDI as it comes, so that a sequencer shows and plays it.
 
-The text is the output of `midi` (docs/FORMATS.md): MIDI events with their times, and how many there were. The file is written to standard
-output. It has one track of 480 ticks to a quarter note, so 20 to a clock. Its tempo is that of the clocks: a steady one is told once, and
-each clock of the file comes within a tick of its own time. While the clock runs, a note is played at each quarter note of the song, a
-higher one at a start. Markers tell starts, continues with their song position in sixteenths, and stops.
+The text is the output of `midi` (docs/FORMATS.md): MIDI events with their times, and how many there were. With --raw MIDI bytes come on
+standard input, and count as of when they come. The file is written to standard output. It has one track of 480 ticks to a quarter note, so
+20 to a clock. Its tempo is that of the clocks: a steady one is told once, and each clock of the file comes within a tick of its own time.
+While the clock runs, a note is played at each quarter note of the song, a higher one at a start. Markers tell starts, continues with their
+song position in sixteenths, and stops.
 """
+import os
 import re
+import select
+import signal
 import sys
 from bisect import bisect_right
 from collections import namedtuple
 from itertools import islice
+from time import monotonic_ns
 
 sys.dont_write_bytecode = True
-from shared import Refused, Words, end_of, fault, lines_of, quoted, read_file  # noqa: E402
+from shared import Refused, Words, end_of, fault, lines_of, put, quoted, read_file, standard_input  # noqa: E402
 
 OPTIONS = """\
 The first minute of a script, in blocks of 10 milliseconds:
 
   jorazhil midi 10000 6000 < run.script | jorazhil midi-file > run.mid
 
+What a MIDI device sends, until Ctrl-C; `amidi -l` names the devices:
+
+  jorazhil midi-file --raw < /dev/snd/midiC1D0 > run.mid
+
 The file begins with the first event. Where clocks are farther apart than the slowest tempo of a file, which has 16.8 seconds to a quarter
 note, whole quarter notes without clocks stand between them.
+
+Raw MIDI may have clocks, starts, continues, stops and song positions. Any other byte ends it, as the end of the input and Ctrl-C do, and what
+came before that byte is written. The tempo is 120 beats a minute where no clock came.
 
 Exit status: 0 where the file was written, or where nobody reads on; 2 with a sentence on standard error for anything else.
 """
@@ -30,6 +42,8 @@ NUMBER = "(0|-?[1-9][0-9]{0,19})"
 EVENT = re.compile(f"midi {NUMBER} (f8|fa|fb|fc|f2[0-7][0-9a-f][0-7][0-9a-f])")
 DONE = re.compile(f"done {NUMBER} {NUMBER}")
 CLOCK, START, CONTINUE, STOP, POSITION = 0xF8, 0xFA, 0xFB, 0xFC, 0xF2
+# How much is read at once, in bytes: all that a pipe holds.
+PIECE = 65_536
 # How long the blocks of one run may take, in microseconds.
 LONGEST = 524_288 * 1_000_000
 # In ticks.
@@ -42,6 +56,7 @@ SLACK = 10
 # Wood blocks of the drum kit: a status byte, a key and a velocity.
 ACCENT, PLAIN = bytes([0x99, 76, 120]), bytes([0x99, 77, 80])
 
+# `line` is where a text has it.
 Event = namedtuple("Event", "line time data")
 # A tick of the file whose time is known.
 Place = namedtuple("Place", "tick time")
@@ -88,6 +103,59 @@ def check_order(where, events, line):
         raise fault(where, new.line, "a song position before a continue", quoted(line))
 
 
+# Recording.
+
+
+def arrivals():
+    """Bytes of standard input and the microsecond at which they came, until it ends or Ctrl-C ends it."""
+    source, (woken, wake) = standard_input().fileno(), os.pipe()
+    # Ctrl-C ends the wait, and raises nothing: what has just been read would be lost.
+    signal.signal(signal.SIGINT, lambda *_: os.write(wake, b"-"))
+    try:
+        while source in select.select([source, woken], [], [])[0] and (piece := os.read(source, PIECE)):
+            yield monotonic_ns() // 1000, piece
+    except OSError as error:
+        raise Refused(f"standard input could not be read: {error.strerror}") from None
+
+
+def record(events):
+    """Appends each message that comes, by the time of its last byte."""
+    count, position = 0, b""
+    for now, piece in arrivals():
+        for byte in piece:
+            count += 1
+            if byte in (CLOCK, START, CONTINUE, STOP):
+                # These may come between the bytes of a song position too.
+                events.append(Event(None, now, bytes([byte])))
+            elif byte < 0x80 if position else byte == POSITION:
+                position += bytes([byte])
+            else:
+                raise byte_fault(count, position, f"{byte:02x}")
+            if len(position) == 3:
+                events.append(Event(None, now, position))
+                position = b""
+    if position or not events:
+        raise byte_fault(count + 1, position, "the end of the input")
+
+
+def byte_fault(place, position, found):
+    inside, between = "a byte from 00 to 7f of the song position", "f8 (clock), fa (start), fb (continue), fc (stop) or f2 (song position)"
+    return Refused(f"byte {place}: expected {inside if position else between}, found {found}")
+
+
+def recorded():
+    """The file of what comes. Before anything is refused, that of what came till then is written."""
+    events = []
+    try:
+        record(events)
+    except Refused as refusal:
+        if not events:
+            raise
+        put(file_of(events))
+        raise Refused(f"{refusal}; the file has what came before") from None
+    return file_of(events)
+
+
 # Ticks and tempos.
 
 
@@ -109,9 +177,12 @@ def places_of(events):
     """One for each clock; before them the first event and behind them the last one, where these are far from any clock."""
     times = [event.time for event in events if event.data[0] == CLOCK]
     first, last = events[0].time, events[-1].time
-    places = [Place(0, first)]
-    if first < times[0]:
-        places.append(Place(ticks_for(times[0] - first, QUARTER), times[0]))
+    if not times:
+        return [Place(0, first)]
+    places, apart = [Place(0, times[0])], times[1] - times[0] if len(times) > 1 else UNKNOWN // 24
+    # What comes less than a tick before the first clock stands with it, as raw MIDI has a start right before its clock.
+    if CLOCK_TICKS * (times[0] - first) > apart:
+        places = [Place(0, first), Place(ticks_for(times[0] - first, QUARTER), times[0])]
     if QUARTER * (last - times[-1]) > SLOWEST * CLOCK_TICKS:
         times.append(last)
     for before, time in zip(times, times[1:]):
@@ -148,6 +219,7 @@ class Ticks:
         self.places, self.times, self.last_tempo = places, [place.time for place in places], tempos[-1][1]
 
     def of(self, time):
+        time = max(time, self.times[0])
         at = bisect_right(self.times, time) - 1
         before, gone = self.places[at], time - self.times[at]
         if at + 1 == len(self.places):
@@ -223,8 +295,10 @@ def file_of(events):
 
 
 def parser_of_words():
-    parser = Words("jorazhil midi-file", "jorazhil midi-file [OUTPUT] > FILE", __doc__, OPTIONS)
-    parser.add_argument("output", metavar="OUTPUT", nargs="?", default="-", help="what `midi` wrote; `-`, or none: standard input")
+    parser = Words("jorazhil midi-file", "jorazhil midi-file [OUTPUT | --raw] > FILE", __doc__, OPTIONS)
+    source = parser.add_mutually_exclusive_group()
+    source.add_argument("output", metavar="OUTPUT", nargs="?", default="-", help="what `midi` wrote; `-`, or none: standard input")
+    source.add_argument("--raw", action="store_true", help="takes MIDI bytes from standard input, each at the time at which it comes")
     parser.add_argument("--help", action="store_true", help="this text")
     return parser
 
@@ -237,6 +311,8 @@ def tell(arguments):
         return [parser.format_help()]
     if sys.stdout is not None and sys.stdout.isatty():
         raise Refused("standard output is a terminal, which shows no MIDI file; `> FILE` keeps it")
+    if words.raw:
+        return recorded()
     return file_of(read_events(read_file(words.output), "" if words.output == "-" else f"{words.output}: "))
 
 

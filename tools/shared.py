@@ -30,13 +30,17 @@ def quoted(text):
 # Reading, and running the program.
 
 
+def standard_input():
+    if sys.stdin is None:
+        raise Refused("standard input could not be read: it is closed")
+    return sys.stdin.buffer
+
+
 def read_file(name):
     """The bytes of a file, or of standard input for `-`."""
     try:
-        if name == "-" and sys.stdin is None:
-            raise Refused("standard input could not be read: it is closed")
         if name == "-":
-            return sys.stdin.buffer.read()
+            return standard_input().read()
         with open(name, "rb") as file:
             return file.read()
     except OSError as error:
@@ -218,17 +222,21 @@ class Words(argparse.ArgumentParser):
         self.add_argument("--program", metavar="PROGRAM", default=program, help="the program (../jorazhil beside this tool)")
 
 
+def put(told):
+    """Writes lines, or the bytes of a file, to standard output."""
+    if sys.stdout is None:
+        raise Refused("standard output could not be written: it is closed")
+    if isinstance(told, bytes):
+        sys.stdout.buffer.write(told)
+    else:
+        sys.stdout.writelines(told)
+    sys.stdout.flush()
+
+
 def end_of(name, to_tell, arguments):
     """Writes the lines that a tool has to tell, or the bytes of a file, and answers its exit status."""
     try:
-        told = to_tell(arguments)
-        if sys.stdout is None:
-            raise Refused("standard output could not be written: it is closed")
-        if isinstance(told, bytes):
-            sys.stdout.buffer.write(told)
-        else:
-            sys.stdout.writelines(told)
-        sys.stdout.flush()
+        put(to_tell(arguments))
     except Refused as refusal:
         print(f"{name}: {refusal}", file=sys.stderr)
         return 2
