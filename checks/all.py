@@ -16,7 +16,7 @@ sys.dont_write_bytecode = True
 from common import HERE, ended  # noqa: E402
 
 TOP = Path(HERE)
-PROGRAM, DRUMS = (str(TOP / "crates" / name / "out" / name) for name in ("jorazhil", "drum_machine"))
+PROGRAM, DRUMS, CLOCK = (str(TOP / "crates" / name / "out" / name) for name in ("jorazhil", "drum_machine", "midi_clock"))
 SCRIPTS = ["jorazhil", ".ci/run", ".ci/program", ".ci/build", *sorted(str(path.relative_to(TOP)) for path in TOP.glob("bench/*.sh"))]
 
 
@@ -105,6 +105,7 @@ OF_PROGRAMS = {
     "clicking": (["checks/clicking.py", PROGRAM], "live runs do not click together as checks/clicking.py expects"),
     "sites": (["checks/sites.py", PROGRAM], "two networks are not one session as checks/sites.py expects"),
     "drums": (["checks/drums.py", PROGRAM, DRUMS], "the drum machine is not what checks/drums.py expects"),
+    "midi_clock": (["checks/midi_clock.py", PROGRAM, CLOCK], "the MIDI clock is not what checks/midi_clock.py expects"),
     "control": (["checks/control.py", PROGRAM], "a run under control is not what checks/control.py expects"),
     "session": (["checks/session.py", PROGRAM], "what tools/session.py tells of a recording is not what checks/session.py expects"),
     "filter_tool": (["checks/filter_tool.py", PROGRAM], "what tools/filter.py tells of pairs is not what checks/filter_tool.py expects"),

@@ -20,9 +20,9 @@ from common import HERE, read, started  # noqa: E402
 MOST = 60
 
 
-def blocks():
-    """The lines of each fenced block of README.md, with the number of its first line."""
-    lines, block, start = read(HERE, "README.md").split("\n"), None, 0
+def blocks(*page):
+    """The lines of each fenced block of a page, with the number of its first line."""
+    lines, block, start = read(HERE, *page).split("\n"), None, 0
     for number, line in enumerate(lines, 1):
         if not line.startswith("```"):
             if block is not None:
@@ -51,12 +51,12 @@ def pattern_of(line):
     return re.compile("".join(parts) + re.escape(line[at:]))
 
 
-def run(block):
+def run(block, cwd=HERE, env=None):
     """Runs the commands; answers what they printed, or what is wrong. Nothing that they started goes on behind them."""
     kept = [line for line in block if not line.startswith("rt ci")]
     script = "set -e -o pipefail\n" + "\n".join(kept) + "\nwait\n"
     pipe = subprocess.PIPE
-    child = started(["bash", "-c", script], "", cwd=HERE, stdout=pipe, stderr=pipe, text=True, start_new_session=True)
+    child = started(["bash", "-c", script], "", cwd=cwd, env=env, stdout=pipe, stderr=pipe, text=True, start_new_session=True)
     try:
         output, error = child.communicate(timeout=MOST)
     except subprocess.TimeoutExpired:
@@ -80,7 +80,7 @@ def lacking(wanted, text):
 
 
 def main():
-    found, ran, failed = list(blocks()), 0, 0
+    found, ran, failed = list(blocks("README.md")), 0, 0
     for k, (number, block) in enumerate(found):
         if not is_commands(block):
             continue
@@ -97,4 +97,5 @@ def main():
     return 1 if failed or ran < 2 else 0
 
 
-sys.exit(main())
+if __name__ == "__main__":
+    sys.exit(main())

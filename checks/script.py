@@ -4,8 +4,8 @@
 Help and words at fault have to be answered without rt: a stand-in for it is on the PATH, which notes each of its calls and fails. Each
 run's exit status is compared with what is written here, and both of its texts. Other stand-ins keep proofs, as `rt help` says, and let
 `rt ci` pass, fail or take a while. So it is seen what a first build is made of, by which calls, how far it is told to be, and that nothing
-is left of one that is ended. Then tries without proof, the drum machine, the tools, and a chain of links to the script. Where PROGRAM is
-given, the words that the script lists have to begin with those that the program tells.
+is left of one that is ended. Then tries without proof, the drum machine, the MIDI clock, the tools, and a chain of links to the script.
+Where PROGRAM is given, the words that the script lists have to begin with those that the program tells.
 The last line is 'N passed, N failed'.
 """
 import os
@@ -39,6 +39,11 @@ PROGRAMS = {
         "jorazhil client",
     ],
     "drums": ["Usage: jorazhil drums < PATTERN", "<BLOCKS>", "<TEMPO>", "<LOCAL>", "from 60060 to 3000000", "examples/drums/four.pattern"],
+    "midi-out": [
+        "Usage: jorazhil midi-out [OPTIONS] <SECONDS> <MPB> <LOCAL> [TO]..",
+        *("from 1 to 86400", "from 60060 to 3000000", "up to 32", "--quantum <N>", "--group <N>"),
+        "jorazhil midi-file --raw",
+    ],
 }
 TOOLS = {
     "site": ["usage: jorazhil site --here PLACE", "--there PLACE", "--hours HOURS"],
@@ -56,7 +61,7 @@ RUNS = [
     ([], 2, [], ["jorazhil: no command was given\n", *FORMS]),
     *(([word], 2, [], [f'jorazhil: "{word}" is no command\n', *FORMS]) for word in ("", "listen", "rep", "Replay", "decoed", "liev", "filters")),
     *(([word], 2, [], [f'jorazhil: "{word}" is no command\n', *FORMS]) for word in ("replay decode", "--bogus", "*", "$(id)", "x]", "help/live")),
-    *(([word], 2, [], [f'jorazhil: "{word}" is no command\n', *FORMS]) for word in ("session.py", "drum_machine", "usage", "beside")),
+    *(([word], 2, [], [f'jorazhil: "{word}" is no command\n', *FORMS]) for word in ("session.py", "drum_machine", "midi_out", "usage", "beside")),
     (["lod", "7", "5"], 2, [], ['jorazhil: "lod" is no command\n', *FORMS]),
     (["controls", "127.0.0.1:1"], 2, [], ['jorazhil: "controls" is no command\n', *FORMS]),
     (["MIDI", "1", "1"], 2, [], ['jorazhil: "MIDI" is no command\n', *FORMS]),
@@ -150,7 +155,7 @@ class Copy:
         self.top = os.path.join(folder, "copy")
         self.script = os.path.join(self.top, "jorazhil")
         # The programs' folders, in which the script would have them built.
-        for name in ("jorazhil/src", "jorazhil/must-fail", "daemon_tests/src", "drum_machine/src"):
+        for name in ("jorazhil/src", "jorazhil/must-fail", "daemon_tests/src", "drum_machine/src", "midi_clock/src"):
             os.makedirs(os.path.join(self.top, "crates", name))
         for name in ("jorazhil", ".ci", "crates.txt", "HANDLES", "help", "tools", "examples", "crates/jorazhil/args", "crates/jorazhil/stdin"):
             place, to = os.path.join(HERE, name), os.path.join(self.top, name)
@@ -214,6 +219,9 @@ def answers(folder):
             print("skipped: no terminal can be had")
             break
         yield f"jorazhil {' '.join(words)} at a terminal", None if f"{words[0]} reads its input from this terminal" in error else repr(error)
+    for words in (["load", "7", "5"], ["midi-out", "1", "500000", "127.0.0.1:1"]):
+        error = copy.at_a_terminal(words)
+        yield f"jorazhil {' '.join(words)} at a terminal", repr(error) if error and "terminal" in error else None
     links = [os.path.join(folder, name) for name in ("first", "second")]
     os.symlink("second", links[0])
     os.symlink(copy.script, links[1])
@@ -296,7 +304,7 @@ def ended_builds(folder):
 def tries(folder):
     copy = Copy(os.path.join(folder, "tries"), TRYING)
     env, says = {**copy.environment, "JORAZHIL_TRY": "1"}, "jorazhil: the program says so\n"
-    for words, told in ((["replay"], "tried try -- replay\n"), (["drums", "5"], "tried try -- 5\n")):
+    for words, told in ((["replay"], "tried try -- replay\n"), (["drums", "5"], "tried try -- 5\n"), (["midi-out", "5", "6"], "tried try -- 5 6\n")):
         write(*os.path.split(copy.notes), "run=ended status=3\n")
         status, out, error = copy.run(words, env=env)
         yield f"a try of {words}", None if (status, out, error.split("\n", 1)[1:]) == (3, told, [says]) else f"{status}, {out!r}, {error!r}"
