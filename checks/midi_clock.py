@@ -385,9 +385,9 @@ def main(program, clock):
         ("an output that takes nothing, or breaks", unwritten, clock),
         ("the script and the page's commands", by_script, clock),
     ]
-    # So that who reads waits for nobody who reckons.
+    # Few at once, and who reads waits for nobody who reckons.
     sys.setswitchinterval(0.0001)
-    with ThreadPoolExecutor(len(checks)) as pool:
+    with ThreadPoolExecutor(5) as pool:
         tallies = list(pool.map(lambda row: common.carried_out([row]), checks))
     tallies.append(common.carried_out([("a full journal", full_journal, clock)]))
     whole = common.Tally()
