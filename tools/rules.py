@@ -48,7 +48,7 @@ SUBJECTS = [
     ("Sessions", "session_choice", "which session wins, which timeline counts, join, forget, 64 other sessions"),
     ("Filter of host times", "link_hostfilter", "what the filter refuses, late, too far, 512 pairs, least squares"),
     ("States, edits and commits", "client_state", "`set_tempo`, `force_beat`, `request_beat`, play and stop, start, `OriginSpent`"),
-    ("MIDI clock", "link_midi", "when MIDI starts and stops, continue, song position, pulse"),
+    ("MIDI clock", "link_midi midi_clock", "when MIDI starts and stops, continue, song position, pulse"),
     ("Drum machine", "step_sequencer drum_machine", "step, pattern, voices, WAV, its words and statuses"),
     ("Cells between threads", "audio_handoff triple_buffer", "rows, how many steps an audio read or a publish takes, notes"),
     ("A node", "link_node", "when a broadcast is due, a bye of another group, ticks, joining, founding, sync, publishing"),
