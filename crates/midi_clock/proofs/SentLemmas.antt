@@ -3,11 +3,11 @@ use Rattle.std.proofs.Common.{◌≡◌, ℕ, suc, ◌+◌, ◌<◌, ◌≤◌, 
 use Rattle.std.proofs.Math.Seq.{split_at}
 use Rattle.std.proofs.lemmas.Grind.{flat_map-append}
 use Rattle.std.proofs.lemmas.List.{length-take-le, take_all, take_more}
-use Rattle.std.proofs.lemmas.List.Sums.{count_by-le-length, sum_by_push}
+use Rattle.std.proofs.lemmas.List.Sums.{sum_by_push}
 use Rattle.std.specs.Option.{option_map}
 use Rattle.lk_outside.specs.Sink.{Appends}
 use Rattle.lk_outside.specs.Transfer.{AppendsPrefix}
-use Rattle.link_midi.specs.Messages.{bytes_of, is_clock, is_clock_message}
+use Rattle.link_midi.specs.Messages.{bytes_of, is_clock_message}
 use Rattle.link_midi.specs.declared.message.MidiEvent.{MidiEvent}
 use Rattle.link_midi.specs.declared.message.MidiMessage.{MidiMessage}
 use Rattle.link_midi.specs.declared.message.MidiMessage.TheVariants.{Clock, Start, Continue, Stop, Position}
@@ -97,16 +97,6 @@ module _ (event : MidiEvent) (before : Counts) where
   pub position_counted : (sixteenths : ℕ) → event.message ≡ Position sixteenths → CountsMore (event ∷ []) before before
   unfolding is_clock_message is_start_message is_continue_message is_stop_message
   position_counted sixteenths is = counted event (Position sixteenths) before _ is (omega arith) (omega arith) (omega arith) (omega arith)
-
--- no count has more than there are messages
-pub few_of_each : (counts : Counts) → ((sent : List MidiEvent) × (counts ≡ counts_of sent) × (length sent < 2 ^ 63))
-    → (counts.clocks < 2 ^ 63) × (counts.starts < 2 ^ 63) × (counts.continues < 2 ^ 63) × (counts.stops < 2 ^ 63)
-few_of_each counts (sent, is, few) = (
-  omega (arith, ap (λ (c : Counts). c.clocks) is, count_by-le-length is_clock sent),
-  omega (arith, ap (λ (c : Counts). c.starts) is, count_by-le-length (λ (e : MidiEvent). is_start_message e.message) sent),
-  omega (arith, ap (λ (c : Counts). c.continues) is, count_by-le-length (λ (e : MidiEvent). is_continue_message e.message) sent),
-  omega (arith, ap (λ (c : Counts). c.stops) is, count_by-le-length (λ (e : MidiEvent). is_stop_message e.message) sent),
-)
 
 -- ---- the messages of a list, up to one
 
