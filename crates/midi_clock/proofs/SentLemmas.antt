@@ -103,15 +103,16 @@ module _ (event : MidiEvent) (before : Counts) where
 pub none_sent_yet : (before : Option (List ℕ)) → Appends before (midi_bytes_of []) before
 none_sent_yet before = subst (λ (l : List ℕ). Appends before l before) (sym none_sent) (none_appended before)
 
+pub still_few : (events : List MidiEvent) (k : ℕ) (before now : Counts) → k < length events
+    → ((sent : List MidiEvent) × (before ≡ counts_of sent) × (length sent + length events < 2 ^ 63)) → CountsMore (take k events) before now
+    → (sent : List MidiEvent) × (now ≡ counts_of sent) × (length sent < 2 ^ 63)
+still_few events k before now in_list (sent, is, few) so_far =
+    (sent ++ take k events, so_far sent is, omega (arith, length-append sent (take k events), length-take-le k events (omega arith)))
+
 module _ (events : List MidiEvent) (k : ℕ) (d : MidiEvent) (in_list : k < length events) where
   pub one_more_counted : (before now after : Counts) → CountsMore (take k events) before now → CountsMore (get_or events k d ∷ []) now after → CountsMore (take (k + 1) events) before after
   one_more_counted before now after so_far next =
       subst (λ (l : List MidiEvent). CountsMore l before after) (sym (take_more events k d in_list)) (counts_more (take k events) (get_or events k d ∷ []) before now after so_far next)
-
-  pub still_few : (before now : Counts) → ((sent : List MidiEvent) × (before ≡ counts_of sent) × (length sent + length events < 2 ^ 63)) → CountsMore (take k events) before now
-      → (sent : List MidiEvent) × (now ≡ counts_of sent) × (length sent < 2 ^ 63)
-  still_few before now (sent, is, few) so_far =
-      (sent ++ take k events, so_far sent is, omega (arith, length-append sent (take k events), length-take-le k events (omega arith)))
 
   module _ (bytes : List ℕ) (before now after : Option (List ℕ)) (spelled : bytes ≡ bytes_of (get_or events k d).message) (so_far : Appends before (midi_bytes_of (take k events)) now) where
     pub one_more_sent : Appends now bytes after → Appends before (midi_bytes_of (take (k + 1) events)) after
@@ -135,9 +136,5 @@ module _ (events : List MidiEvent) (k : ℕ) (d : MidiEvent) (in_list : k < leng
     }
 
 -- all of them
-module _ (events : List MidiEvent) (k : ℕ) (all : length events ≤ k) where
-  pub all_sent : (before after : Option (List ℕ)) → Appends before (midi_bytes_of (take k events)) after → Appends before (midi_bytes_of events) after
-  all_sent before after = subst (λ (l : List MidiEvent). Appends before (midi_bytes_of l) after) (take_all k events all)
-
-  pub all_counted : (before after : Counts) → CountsMore (take k events) before after → CountsMore events before after
-  all_counted before after = subst (λ (l : List MidiEvent). CountsMore l before after) (take_all k events all)
+pub all_counted : (events : List MidiEvent) (k : ℕ) (before after : Counts) → length events ≤ k → CountsMore (take k events) before after → CountsMore events before after
+all_counted events k before after all = subst (λ (l : List MidiEvent). CountsMore l before after) (take_all k events all)
