@@ -1,8 +1,8 @@
 -- Messages that are sent one after another: their bytes, and how many of each kind there are.
-use Rattle.std.proofs.Common.{◌≡◌, ℕ, suc, ◌+◌, ◌<◌, ◌≤◌, ◌^◌, Bool, cond, List, [], ◌∷◌, ◌++◌, length, take, drop, get_or, count_by, Option, Some, None, refl, ap, sym, subst, ◌∙◌, arith, add-zero, append_assoc, append-nil, length-append}
+use Rattle.std.proofs.Common.{◌≡◌, ℕ, suc, ◌+◌, ◌<◌, ◌≤◌, ◌^◌, Bool, cond, List, [], ◌∷◌, ◌++◌, length, take, drop, get_or, count_by, Option, Some, None, refl, ap, sym, subst, ◌∙◌, arith, append_assoc, append-nil, length-append}
 use Rattle.std.proofs.Math.Seq.{split_at}
 use Rattle.std.proofs.lemmas.Grind.{flat_map-append}
-use Rattle.std.proofs.lemmas.List.{length-take-le, take_all, take_more}
+use Rattle.std.proofs.lemmas.List.{length-take-le, take_more}
 use Rattle.std.proofs.lemmas.List.Sums.{sum_by_push}
 use Rattle.std.specs.Option.{option_map}
 use Rattle.lk_outside.specs.Sink.{Appends}
@@ -10,7 +10,6 @@ use Rattle.lk_outside.specs.Transfer.{AppendsPrefix}
 use Rattle.link_midi.specs.Messages.{bytes_of, is_clock_message}
 use Rattle.link_midi.specs.declared.message.MidiEvent.{MidiEvent}
 use Rattle.link_midi.specs.declared.message.MidiMessage.{MidiMessage}
-use Rattle.link_midi.specs.declared.message.MidiMessage.TheVariants.{Clock, Start, Continue, Stop, Position}
 use Rattle.midi_clock.specs.Player.{AreCutAt, CountsMore}
 use Rattle.midi_clock.specs.Sent.{counts_of, is_continue_message, is_start_message, is_stop_message, midi_bytes_of}
 use Rattle.midi_clock.specs.declared.counts.Counts.{Counts}
@@ -50,7 +49,7 @@ counts_more xs ys before mid after first second sent is = second (sent ++ xs) (f
 
 -- ---- one message
 
--- of one kind
+-- how many of one kind there are, with one message more
 one_more : (is_kind : MidiMessage → Bool) (event : MidiEvent) (message : MidiMessage) (sent : List MidiEvent) (n n_then : ℕ) → event.message ≡ message
     → n ≡ count_by (λ (e : MidiEvent). is_kind e.message) sent → n_then ≡ n + cond (is_kind message) 1 0
     → n_then ≡ count_by (λ (e : MidiEvent). is_kind e.message) (sent ++ event ∷ [])
@@ -67,7 +66,7 @@ same_counts a b clocks starts continues stops =
     ∙ ap (λ (n : ℕ). record b { continues = n; stops = a.stops }) continues
     ∙ ap (λ (n : ℕ). record b { stops = n }) stops
 
-counted : (event : MidiEvent) (message : MidiMessage) (before after : Counts) → event.message ≡ message
+pub counted : (event : MidiEvent) (message : MidiMessage) (before after : Counts) → event.message ≡ message
     → after.clocks ≡ before.clocks + cond (is_clock_message message) 1 0 → after.starts ≡ before.starts + cond (is_start_message message) 1 0
     → after.continues ≡ before.continues + cond (is_continue_message message) 1 0 → after.stops ≡ before.stops + cond (is_stop_message message) 1 0
     → CountsMore (event ∷ []) before after
@@ -76,27 +75,6 @@ counted event message before after is clocks starts continues stops sent stood =
     (one_more is_start_message event message sent before.starts after.starts is (ap (λ (c : Counts). c.starts) stood) starts)
     (one_more is_continue_message event message sent before.continues after.continues is (ap (λ (c : Counts). c.continues) stood) continues)
     (one_more is_stop_message event message sent before.stops after.stops is (ap (λ (c : Counts). c.stops) stood) stops)
-
-module _ (event : MidiEvent) (before : Counts) where
-  pub clock_counted : event.message ≡ Clock → CountsMore (event ∷ []) before (record before { clocks = before.clocks + 1 })
-  unfolding is_clock_message is_start_message is_continue_message is_stop_message
-  clock_counted is = counted event Clock before _ is refl (omega arith) (omega arith) (omega arith)
-
-  pub start_counted : event.message ≡ Start → CountsMore (event ∷ []) before (record before { starts = before.starts + 1 })
-  unfolding is_clock_message is_start_message is_continue_message is_stop_message
-  start_counted is = counted event Start before _ is (omega arith) refl (omega arith) (omega arith)
-
-  pub continue_counted : event.message ≡ Continue → CountsMore (event ∷ []) before (record before { continues = before.continues + 1 })
-  unfolding is_clock_message is_start_message is_continue_message is_stop_message
-  continue_counted is = counted event Continue before _ is (omega arith) (omega arith) refl (omega arith)
-
-  pub stop_counted : event.message ≡ Stop → CountsMore (event ∷ []) before (record before { stops = before.stops + 1 })
-  unfolding is_clock_message is_start_message is_continue_message is_stop_message
-  stop_counted is = counted event Stop before _ is (omega arith) (omega arith) (omega arith) refl
-
-  pub position_counted : (sixteenths : ℕ) → event.message ≡ Position sixteenths → CountsMore (event ∷ []) before before
-  unfolding is_clock_message is_start_message is_continue_message is_stop_message
-  position_counted sixteenths is = counted event (Position sixteenths) before _ is (omega arith) (omega arith) (omega arith) (omega arith)
 
 -- ---- the messages of a list, up to one
 
@@ -134,7 +112,3 @@ module _ (events : List MidiEvent) (k : ℕ) (d : MidiEvent) (in_list : k < leng
       sent = appends_more before now after (midi_bytes_of (take k events)) (take front (bytes_of (get_or events k d).message)) _ refl so_far
           (subst (λ (l : List ℕ). Appends now (take front l) after) spelled next);
     }
-
--- all of them
-pub all_counted : (events : List MidiEvent) (k : ℕ) (before after : Counts) → length events ≤ k → CountsMore (take k events) before after → CountsMore events before after
-all_counted events k before after all = subst (λ (l : List MidiEvent). CountsMore l before after) (take_all k events all)
