@@ -70,13 +70,14 @@ impl fmt::Display for Status {
 }
 
 /// What is told where the words are none that the program takes.
-const USAGE: &str = "Usage: midi_clock [OPTIONS] <SECONDS> <TEMPO> <LOCAL> [TO].. > DEVICE
+const USAGE: &str = "Usage: midi_clock [OPTIONS] <SECONDS> <MPB> <LOCAL> [TO].. > DEVICE
 
-  <SECONDS>  how many seconds it plays, from 1 to 86400
-  <TEMPO>    the tempo to begin with, in microseconds per beat, from 60060 to 3000000; 500000 is 120 beats a minute
+Arguments:
+  <SECONDS>  how many seconds it plays, from 1 to 86400, which is a day
+  <MPB>      the tempo to begin with, in microseconds per beat, from 60060 to 3000000; 500000 is 120 beats a minute
   <LOCAL>    where peers reach it: an address of this machine and a free port, as 127.0.0.1:18001
   [TO]..     up to 32 endpoints of peers, to which it tells of itself
 
 Options:
-      --quantum <N>  the length in microbeats that bars are counted in at first, from 0, which is none, to 1099511627776 [default: 4000000]
+      --quantum <N>  the length of a bar in microbeats, told and no part of the MIDI, from 0, which is none, to 1099511627776 [default: 4000000]
       --group <N>    the group of the nodes that hear each other, from 0, which all Link programs are in, to 65535 [default: 0]";
