@@ -1,1 +1,4 @@
 mod CountLemmas
+mod SentLemmas
+mod PlayedLemmas
+mod SessionLemmas

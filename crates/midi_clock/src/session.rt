@@ -48,7 +48,7 @@ pub fn play_session<
     };
     let config = config_of(devices.seed, setup);
     let Devices { port, outlet, .. } = devices;
-    let status = match run_node(
+    match run_node(
         rt,
         alloc,
         &config,
@@ -61,10 +61,12 @@ pub fn play_session<
         &mut (),
         &mut (),
     ) {
-        Ok(run) => status_of(run.audio, run.failed, run.full),
-        Err(_) => Status::Memory,
-    };
-    (status, clockwork.tally)
+        Ok(run) => (
+            status_of(run.audio, run.failed, run.full),
+            clockwork.tally,
+        ),
+        Err(_) => (Status::Memory, clockwork.tally),
+    }
 }
 
 // The config of the node. Memory: none.

@@ -1,0 +1,43 @@
+use Rattle.std.proofs.Common.{refl, subst, sym, ◌∙◌, arith}
+use Rattle.std.proofs.lemmas.Bool.{OnTrue_at, OnFalse_at}
+use Rattle.midi_clock.proofs.PlayedLemmas.{cut_block, has_begun, has_room, is_whole, one_more_block, read_none, read_on}
+use Rattle.midi_clock.proofs.player.play.Goals as goal
+
+pub loop-number-init : goal.loop-number-init
+loop-number-init g c = record {
+  read = read_none _;
+  within = omega arith;
+  playing = has_begun _ _ _ _ _ c.new-clock.ensures c.requires.none;
+  works = refl;
+}
+
+pub send-requires-clause-few : goal.send-requires-clause-few
+send-requires-clause-few g c = has_room _ c.args.blocks _ _ _ _ _ _ c.loop-number.invariant.playing _ c.loop-number-test.true c.requires.ready.few c.as_slice.ensures.fits
+
+pub returns-then-not-send : goal.returns-then-not-send
+returns-then-not-send g c =
+    let block = c.make_block-state.ensures in
+    let cut = OnFalse_at c.if-not-send.true c.send.ensures.cut in
+    record {
+      read = read_on _ _ _ _ _ _ c.loop-number.invariant.read block.read.2;
+      played = cut_block _ _ _ _ _ _ _ _ _ _ _ _ _ _ _ c.loop-number.invariant.playing block.read.2 ? (c.as_slice.ensures.value ∙ block.events) c.args.blocks _ c.loop-number-test.true cut.1 cut.2;
+      cause = ?;
+    }
+
+pub loop-number-preserved : goal.loop-number-preserved
+loop-number-preserved g c =
+    let block = c.make_block-state.ensures in
+    record {
+      read = read_on _ _ _ _ _ _ c.loop-number.invariant.read block.read.2;
+      within = omega (arith, c.loop-number-test.true);
+      playing = one_more_block _ _ _ _ _ _ _ _ _ _ _ _ _ _ _ c.loop-number.invariant.playing block.read.2 ? (c.as_slice.ensures.value ∙ block.events) _ block.clock c.as_slice.ensures.fits
+          (OnTrue_at c.if-not-send.false c.send.ensures.whole) (OnTrue_at c.if-not-send.false c.send.ensures.counted);
+      works = OnTrue_at c.if-not-send.false c.send.ensures.works ∙ c.loop-number.invariant.works;
+    }
+
+pub returns : goal.returns
+returns g c = record {
+  read = c.loop-number.invariant.read;
+  played = is_whole _ _ _ _ _ _ _ _ c.loop-number.invariant.playing c.loop-number.invariant.within (omega (arith, c.loop-number-test.false));
+  cause = c.loop-number.invariant.works;
+}
