@@ -1,5 +1,5 @@
 -- Blocks that are played one after another, and what is sent of them.
-use Rattle.std.proofs.Common.{◌≡◌, ℕ, ◌+◌, ◌*◌, ◌^◌, ◌<◌, ◌≤◌, ℤ, pos, ◌+ℤ◌, ◌-ℤ◌, ◌≤ℤ◌, FitsSigned, Bool, false, List, [], ◌∷◌, ◌++◌, length, map, take, All, Option, refl, ap, sym, subst, ◌∙◌, arith, append_assoc, append-nil, length-append, to_z, of_z, w64}
+use Rattle.std.proofs.Common.{◌≡◌, ℕ, ◌+◌, ◌*◌, ◌^◌, ◌<◌, ◌≤◌, ℤ, pos, ◌+ℤ◌, ◌-ℤ◌, ◌*ℤ◌, ◌≤ℤ◌, FitsSigned, Bool, false, List, [], ◌∷◌, ◌++◌, length, map, take, All, Option, refl, ap, sym, subst, ◌∙◌, arith, append_assoc, append-nil, length-append, to_z, of_z, w64}
 use Rattle.std.proofs.lemmas.Int.{ints, to_z-of_z}
 use Rattle.std.proofs.lemmas.List.{map-append, length-map}
 use Rattle.std.proofs.lemmas.List.Elements.{All-same}
@@ -8,20 +8,44 @@ use Rattle.client_state.specs.Words.{state_of_words}
 use Rattle.client_state.specs.declared.state.State.{State}
 use Rattle.lk_base.specs.Ranges.{IsWithinLimit}
 use Rattle.lk_base.specs.declared.block.Block.{Block}
+use Rattle.lk_outside.specs.Faults.{Rose}
 use Rattle.lk_outside.specs.Sink.{Appends}
 use Rattle.link_midi.specs.Events.{Part, all_events_of, events_from, events_of, running_after, span}
 use Rattle.link_midi.specs.Messages.{IsMessage, bytes_of}
 use Rattle.link_midi.specs.declared.message.MidiEvent.{MidiEvent}
 use Rattle.link_shared.specs.Audio.{AudioView, HasReadAudio}
-use Rattle.midi_clock.specs.Player.{AreCutAt, CountsMore, HasOnlyRead, IsCutOff, IsPlayedWhole}
+use Rattle.midi_clock.specs.Player.{AreCutAt, CanPlay, CountsMore, HasOnlyRead, IsCutOff, IsPlayedWhole}
 use Rattle.midi_clock.specs.Sent.{block_at, counts_of, messages_of, midi_bytes_of, parts_from}
 use Rattle.midi_clock.specs.declared.counts.Counts.{Counts}
-use Rattle.midi_clock.proofs.SentLemmas.{appends_more, bytes-append, none_appended, none_sent}
+use Rattle.midi_clock.proofs.SentLemmas.{appends_more, bytes-append, none_sent_yet}
 
 -- ---- one block
 
-block_fits : (start : ℤ) → (pos 0 ≤ℤ start) × (start ≤ℤ pos (2 ^ 57)) → FitsSigned w64 start
-block_fits start range = grind (arith, ints)
+abbrev stored : ℤ → ℤ
+stored z = to_z w64 (of_z w64 z)
+
+fits : (z : ℤ) → pos 0 ≤ℤ z → z ≤ℤ pos (2 ^ 57) → FitsSigned w64 z
+fits z first last = grind (arith, ints)
+
+is_stored : (z value : ℤ) → z ≡ value → pos 0 ≤ℤ value → value ≤ℤ pos (2 ^ 57) → stored z ≡ value
+is_stored z value is first last = ap stored is ∙ to_z-of_z w64 value (fits value first last)
+
+pub origin_stored : (origin : ℤ) (blocks : ℕ) → CanPlay origin blocks → stored origin ≡ origin
+origin_stored origin blocks ready = is_stored origin origin refl ready.first (omega (arith, ints, ready.last))
+
+-- its beginning, as it is computed and stored
+pub begins_at : (origin : ℤ) (number blocks : ℕ) (n : ℤ) → CanPlay origin blocks → number ≤ blocks → n ≡ pos number
+    → stored (stored origin +ℤ stored (pos 2_000 *ℤ stored n)) ≡ stored origin +ℤ pos (number * 2_000)
+begins_at origin number blocks n ready within is =
+    let few : number ≤ 43_200_000 = omega (arith, within, ready.few) in
+    let first : stored origin ≡ origin = origin_stored origin blocks ready in
+    let count : stored n ≡ pos number = is_stored n (pos number) is (omega (arith, ints)) (omega (arith, ints, few)) in
+    let product : pos 2_000 *ℤ pos number ≡ pos (number * 2_000) = omega (arith, ints) in
+    let behind : stored (pos 2_000 *ℤ stored n) ≡ pos (number * 2_000) =
+    is_stored (pos 2_000 *ℤ stored n) (pos (number * 2_000)) (ap (λ (m : ℤ). pos 2_000 *ℤ m) count ∙ product) (omega (arith, ints)) (omega (arith, ints, few)) in
+    is_stored _ (origin +ℤ pos (number * 2_000)) (ap (λ (t : ℤ). t +ℤ stored (pos 2_000 *ℤ stored n)) first ∙ ap (λ (t : ℤ). origin +ℤ t) behind)
+    (omega (arith, ints, ready.first)) (omega (arith, ints, ready.last, few))
+    ∙ ap (λ (t : ℤ). t +ℤ pos (number * 2_000)) (sym first)
 
 before_range : (start : ℤ) → (pos 0 ≤ℤ start) × (start ≤ℤ pos (2 ^ 57)) → IsWithinLimit (start -ℤ pos 1)
 before_range start range = omega (arith, ints, range.0, range.1)
@@ -31,10 +55,10 @@ end_range start range = omega (arith, ints, range.0, range.1)
 
 -- its times lie within the limit, as its beginning is stored
 pub before_within : (start : ℤ) → (pos 0 ≤ℤ start) × (start ≤ℤ pos (2 ^ 57)) → IsWithinLimit (to_z w64 (of_z w64 start) -ℤ pos 1)
-before_within start range = subst (λ (t : ℤ). IsWithinLimit (t -ℤ pos 1)) (sym (to_z-of_z w64 start (block_fits start range))) (before_range start range)
+before_within start range = subst (λ (t : ℤ). IsWithinLimit (t -ℤ pos 1)) (sym (is_stored start start refl range.0 range.1)) (before_range start range)
 
 pub end_within : (start : ℤ) → (pos 0 ≤ℤ start) × (start ≤ℤ pos (2 ^ 57)) → IsWithinLimit (to_z w64 (of_z w64 start) +ℤ pos 2_000)
-end_within start range = subst (λ (t : ℤ). IsWithinLimit (t +ℤ pos 2_000)) (sym (to_z-of_z w64 start (block_fits start range))) (end_range start range)
+end_within start range = subst (λ (t : ℤ). IsWithinLimit (t +ℤ pos 2_000)) (sym (is_stored start start refl range.0 range.1)) (end_range start range)
 
 -- what the law says of all parts holds of a block
 pub block_messages : ((running : Bool) (parts : List Part) → All (λ event. IsMessage event.message) (all_events_of running parts))
@@ -107,6 +131,9 @@ running_of-append part running (p ∷ parts) = running_of-append part (running_a
 
 -- ---- the loop
 
+pub rose_from : (a b c : ℕ) → b ≡ a → Rose b c → Rose a c
+rose_from a b c same rose = subst (λ (n : ℕ). Rose n c) same rose
+
 -- so many of the blocks were played: the last reads of the pass, whether the MIDI clock runs now, what was appended, and what was counted
 pub record IsPlaying (number : ℕ) (origin : ℤ) (running : Bool) (pass : AudioView) (midi midi_then : Option (List ℕ)) (counts : Counts) : Type 0 where
   earlier : List Pair
@@ -128,7 +155,7 @@ has_begun origin running pass midi counts stopped none = record {
   each = refl;
   clock = stopped;
   few = omega arith;
-  sent = subst (λ (bytes : List ℕ). Appends midi bytes midi) (sym none_sent) (none_appended midi);
+  sent = none_sent_yet midi;
   counted = none;
 }
 
@@ -181,11 +208,11 @@ module _ (number : ℕ) (origin start : ℤ) (running : Bool) (before after : Au
   }
 
   -- a message of the next block can't be written
-  pub cut_block : (blocks : ℕ) (here : List MidiEvent) → number < blocks → AreCutAt events midi_now midi_then here → CountsMore here counts counts_then
-      → IsCutOff blocks origin after midi midi_then counts_then
-  cut_block blocks here within cut counted =
+  pub cut_block : (first : ℤ) (blocks : ℕ) (here : List MidiEvent) → origin ≡ first → number < blocks → AreCutAt events midi_now midi_then here → CountsMore here counts counts_then
+      → IsCutOff blocks first after midi midi_then counts_then
+  cut_block first blocks here is within cut counted =
       let front : List ℕ = take cut.front (bytes_of cut.failed.message) in
-      record {
+      subst (λ (o : ℤ). IsCutOff blocks o after midi midi_then counts_then) is record {
         earlier = playing.earlier;
         reads = playing.reads;
         last = pair;
@@ -210,14 +237,14 @@ module _ (number blocks : ℕ) (origin : ℤ) (running : Bool) (pass : AudioView
       → (sent : List MidiEvent) × (counts ≡ counts_of sent) × (length sent + length events < 2 ^ 63)
   has_room events within some short = (messages_of origin playing.reads, playing.counted, omega (arith, playing.few, within, some, short))
 
-  pub is_whole : number ≤ blocks → blocks ≤ number → IsPlayedWhole blocks origin pass midi midi_then counts
-  is_whole within past =
-      let is : number ≡ blocks = omega (arith, within, past) in
-      record {
+  pub is_whole : (first : ℤ) → origin ≡ first → number ≤ blocks → blocks ≤ number → IsPlayedWhole blocks first pass midi midi_then counts
+  is_whole first is within past =
+      let all : number ≡ blocks = omega (arith, within, past) in
+      subst (λ (o : ℤ). IsPlayedWhole blocks o pass midi midi_then counts) is record {
         earlier = playing.earlier;
         reads = playing.reads;
         seen = playing.seen;
-        each = playing.each ∙ is;
+        each = playing.each ∙ all;
         sent = playing.sent;
         counted = playing.counted;
       }

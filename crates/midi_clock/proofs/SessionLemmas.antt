@@ -1,9 +1,10 @@
 -- How a session ends: by what its loop did, and by what its node recorded.
-use Rattle.std.proofs.Common.{◌≡◌, ℕ, ◌*◌, ℤ, pos, ◌+ℤ◌, Bool, true, List, [], ◌∷◌, ◌++◌, length, None, refl, ap, sym, subst, ◌∙◌, arith, length-append}
+use Rattle.std.proofs.Common.{◌≡◌, ℕ, ◌*◌, ℤ, pos, ◌+ℤ◌, Bool, true, List, [], ◌∷◌, ◌++◌, length, None, refl, ap, sym, subst, ◌∙◌, arith, length-append, to_z, of_z, w64}
 use mathlib.Core.Option.{some-ne-none}
 use Rattle.audio_handoff.specs.Cell.{NumbersNeverFall}
 use Rattle.client_state.specs.declared.commit.Commit.{Commit}
 use Rattle.client_state.specs.declared.state.State.{State}
+use Rattle.lk_outside.specs.Stream.{Stream}
 use Rattle.link_node.specs.Config.{ConfigValue}
 use Rattle.link_node.specs.Event.{EventValue}
 use Rattle.link_shared.specs.Audio.{AudioView}
@@ -11,10 +12,11 @@ use Rattle.link_shared.specs.Journal.{AreCarried, app_commits_in}
 use Rattle.link_shared.specs.Passes.{AppView}
 use Rattle.link_live.specs.Headline.{IsRecorded, new_audio}
 use Rattle.link_live.specs.NodeRun.{FitsJournal, IsNodeRun, new_app, recorded_of}
-use Rattle.midi_clock.specs.Player.{HasClocked, IsPlayed}
+use Rattle.midi_clock.specs.Player.{CanPlay, HasClocked, HasOnlyRead, HasPlayCause, IsPlayed}
 use Rattle.midi_clock.specs.Session.{DevicesSeen, HasSession}
 use Rattle.midi_clock.specs.declared.counts.Counts.{Counts}
 use Rattle.midi_clock.specs.declared.player.PlayEnd.{PlayEnd}
+use Rattle.midi_clock.proofs.PlayedLemmas.{origin_stored}
 
 none_read : NumbersNeverFall []
 none_read = λ j k first second le e f. absurd (some-ne-none first (sym e))
@@ -30,6 +32,23 @@ no_app_commit full audio app events published idle fits =
     let sole : app.sole ≡ true = ap (λ (view : AppView). view.sole) idle in
     let made : app.made ≡ 0 = ap (λ (view : AppView). view.made) idle in
     no_front (app_commits_in events) fits.app_begin.0 fits.pushed fits.app_begin.1 (sym (fits.heard.sole sole) ∙ made)
+
+-- ---- the origin, as it is stored
+
+module _ (origin : ℤ) (blocks : ℕ) (ready : CanPlay origin blocks) where
+  pub can_play : CanPlay (to_z w64 (of_z w64 origin)) blocks
+  can_play = subst (λ (z : ℤ). CanPlay z blocks) (sym (origin_stored origin blocks ready)) ready
+
+  pub has_clocked : (pass pass_then : AudioView) (midi midi_then : Stream) (counts : Counts) (end : PlayEnd) → HasOnlyRead pass pass_then
+      → IsPlayed blocks (to_z w64 (of_z w64 origin)) pass_then midi.told midi_then.told counts end → HasPlayCause midi.faults midi_then.faults end
+      → HasClocked blocks origin pass pass_then midi midi_then counts end
+  has_clocked pass pass_then midi midi_then counts end read played cause = record {
+    read = read;
+    played = subst (λ (z : ℤ). IsPlayed blocks z pass_then midi.told midi_then.told counts end) (origin_stored origin blocks ready) played;
+    cause = cause;
+  }
+
+-- ---- the whole
 
 pub has_session : (given config : ConfigValue) (at now origin : ℤ) (before after : DevicesSeen) (events : List EventValue) (published : List State)
     (app : AppView) (pass : AudioView) (blocks seconds : ℕ) (ended : PlayEnd) (failed full : Bool) (counts : Counts)
