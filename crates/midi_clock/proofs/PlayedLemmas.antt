@@ -21,13 +21,14 @@ use Rattle.midi_clock.proofs.SentLemmas.{appends_more, bytes-append, none_sent_y
 
 -- ---- one block
 
-abbrev stored : ℤ → ℤ
+-- a number, as it is stored
+abbrev pub stored : ℤ → ℤ
 stored z = to_z w64 (of_z w64 z)
 
 fits : (z : ℤ) → pos 0 ≤ℤ z → z ≤ℤ pos (2 ^ 57) → FitsSigned w64 z
 fits z first last = grind (arith, ints)
 
-is_stored : (z value : ℤ) → z ≡ value → pos 0 ≤ℤ value → value ≤ℤ pos (2 ^ 57) → stored z ≡ value
+pub is_stored : (z value : ℤ) → z ≡ value → pos 0 ≤ℤ value → value ≤ℤ pos (2 ^ 57) → stored z ≡ value
 is_stored z value is first last = ap stored is ∙ to_z-of_z w64 value (fits value first last)
 
 pub origin_stored : (origin : ℤ) (blocks : ℕ) → CanPlay origin blocks → stored origin ≡ origin

@@ -1,6 +1,4 @@
-use Rattle.std.proofs.Common.{inr, w64}
-use Rattle.std.proofs.lemmas.Int.{to_z-of_z}
-use Rattle.link_live.proofs.AskLemmas.{moment_fits}
+use Rattle.std.proofs.Common.{inr}
 use Rattle.midi_clock.proofs.SessionLemmas.{has_session}
 use Rattle.midi_clock.proofs.session.play_session.Goals as goal
 
@@ -14,6 +12,6 @@ returns-in-Ok g c =
         left.failed,
         left.full,
         c.status_of.ensures,
-        has_session _ _ _ _ _ _ _ _ _ _ _ _ _ _ _ _ _ c.config_of-config.ensures.value (to_z-of_z w64 _ (moment_fits _ c.args.devices.now.moment)) ? ? run.3 run.4 run.2,
+        has_session _ _ _ _ _ _ _ _ _ _ _ _ _ _ c.args.devices.now.moment c.config_of-config.ensures.value run.3 run.4 run.2,
       );
     }
