@@ -1,16 +1,15 @@
 -- Messages that are sent one after another: their bytes, and how many of each kind there are.
-use Rattle.std.proofs.Common.{◌≡◌, ℕ, suc, ◌+◌, ◌<◌, ◌≤◌, ◌^◌, Bool, cond, List, [], ◌∷◌, ◌++◌, length, take, drop, get_or, count_by, Option, Some, None, refl, ap, sym, subst, ◌∙◌, arith, add-zero, append_assoc, append-nil, length-append}
+use Rattle.std.proofs.Common.{◌≡◌, ℕ, suc, ◌+◌, ◌<◌, ◌≤◌, ◌^◌, Bool, cond, List, [], ◌∷◌, ◌++◌, length, take, drop, get_or, count_by, Option, Some, None, refl, ap, sym, subst, ◌∙◌, arith, append_assoc, append-nil, length-append}
 use Rattle.std.proofs.Math.Seq.{split_at}
 use Rattle.std.proofs.lemmas.Grind.{flat_map-append}
-use Rattle.std.proofs.lemmas.List.{length-take-le, take_all, take_more}
-use Rattle.std.proofs.lemmas.List.Sums.{count_by-le-length, sum_by_push}
+use Rattle.std.proofs.lemmas.List.{length-take-le, take_more}
+use Rattle.std.proofs.lemmas.List.Sums.{sum_by_push}
 use Rattle.std.specs.Option.{option_map}
 use Rattle.lk_outside.specs.Sink.{Appends}
 use Rattle.lk_outside.specs.Transfer.{AppendsPrefix}
-use Rattle.link_midi.specs.Messages.{bytes_of, is_clock, is_clock_message}
+use Rattle.link_midi.specs.Messages.{bytes_of, is_clock_message}
 use Rattle.link_midi.specs.declared.message.MidiEvent.{MidiEvent}
 use Rattle.link_midi.specs.declared.message.MidiMessage.{MidiMessage}
-use Rattle.link_midi.specs.declared.message.MidiMessage.TheVariants.{Clock, Start, Continue, Stop, Position}
 use Rattle.midi_clock.specs.Player.{AreCutAt, CountsMore}
 use Rattle.midi_clock.specs.Sent.{counts_of, is_continue_message, is_start_message, is_stop_message, midi_bytes_of}
 use Rattle.midi_clock.specs.declared.counts.Counts.{Counts}
@@ -50,7 +49,7 @@ counts_more xs ys before mid after first second sent is = second (sent ++ xs) (f
 
 -- ---- one message
 
--- of one kind
+-- how many of one kind there are, with one message more
 one_more : (is_kind : MidiMessage → Bool) (event : MidiEvent) (message : MidiMessage) (sent : List MidiEvent) (n n_then : ℕ) → event.message ≡ message
     → n ≡ count_by (λ (e : MidiEvent). is_kind e.message) sent → n_then ≡ n + cond (is_kind message) 1 0
     → n_then ≡ count_by (λ (e : MidiEvent). is_kind e.message) (sent ++ event ∷ [])
@@ -67,7 +66,7 @@ same_counts a b clocks starts continues stops =
     ∙ ap (λ (n : ℕ). record b { continues = n; stops = a.stops }) continues
     ∙ ap (λ (n : ℕ). record b { stops = n }) stops
 
-counted : (event : MidiEvent) (message : MidiMessage) (before after : Counts) → event.message ≡ message
+pub counted : (event : MidiEvent) (message : MidiMessage) (before after : Counts) → event.message ≡ message
     → after.clocks ≡ before.clocks + cond (is_clock_message message) 1 0 → after.starts ≡ before.starts + cond (is_start_message message) 1 0
     → after.continues ≡ before.continues + cond (is_continue_message message) 1 0 → after.stops ≡ before.stops + cond (is_stop_message message) 1 0
     → CountsMore (event ∷ []) before after
@@ -77,51 +76,21 @@ counted event message before after is clocks starts continues stops sent stood =
     (one_more is_continue_message event message sent before.continues after.continues is (ap (λ (c : Counts). c.continues) stood) continues)
     (one_more is_stop_message event message sent before.stops after.stops is (ap (λ (c : Counts). c.stops) stood) stops)
 
-module _ (event : MidiEvent) (before : Counts) where
-  pub clock_counted : event.message ≡ Clock → CountsMore (event ∷ []) before (record before { clocks = before.clocks + 1 })
-  unfolding is_clock_message is_start_message is_continue_message is_stop_message
-  clock_counted is = counted event Clock before _ is refl (omega arith) (omega arith) (omega arith)
-
-  pub start_counted : event.message ≡ Start → CountsMore (event ∷ []) before (record before { starts = before.starts + 1 })
-  unfolding is_clock_message is_start_message is_continue_message is_stop_message
-  start_counted is = counted event Start before _ is (omega arith) refl (omega arith) (omega arith)
-
-  pub continue_counted : event.message ≡ Continue → CountsMore (event ∷ []) before (record before { continues = before.continues + 1 })
-  unfolding is_clock_message is_start_message is_continue_message is_stop_message
-  continue_counted is = counted event Continue before _ is (omega arith) (omega arith) refl (omega arith)
-
-  pub stop_counted : event.message ≡ Stop → CountsMore (event ∷ []) before (record before { stops = before.stops + 1 })
-  unfolding is_clock_message is_start_message is_continue_message is_stop_message
-  stop_counted is = counted event Stop before _ is (omega arith) (omega arith) (omega arith) refl
-
-  pub position_counted : (sixteenths : ℕ) → event.message ≡ Position sixteenths → CountsMore (event ∷ []) before before
-  unfolding is_clock_message is_start_message is_continue_message is_stop_message
-  position_counted sixteenths is = counted event (Position sixteenths) before _ is (omega arith) (omega arith) (omega arith) (omega arith)
-
--- no count has more than there are messages
-pub few_of_each : (counts : Counts) → ((sent : List MidiEvent) × (counts ≡ counts_of sent) × (length sent < 2 ^ 63))
-    → (counts.clocks < 2 ^ 63) × (counts.starts < 2 ^ 63) × (counts.continues < 2 ^ 63) × (counts.stops < 2 ^ 63)
-few_of_each counts (sent, is, few) = (
-  omega (arith, ap (λ (c : Counts). c.clocks) is, count_by-le-length is_clock sent),
-  omega (arith, ap (λ (c : Counts). c.starts) is, count_by-le-length (λ (e : MidiEvent). is_start_message e.message) sent),
-  omega (arith, ap (λ (c : Counts). c.continues) is, count_by-le-length (λ (e : MidiEvent). is_continue_message e.message) sent),
-  omega (arith, ap (λ (c : Counts). c.stops) is, count_by-le-length (λ (e : MidiEvent). is_stop_message e.message) sent),
-)
-
 -- ---- the messages of a list, up to one
 
 pub none_sent_yet : (before : Option (List ℕ)) → Appends before (midi_bytes_of []) before
 none_sent_yet before = subst (λ (l : List ℕ). Appends before l before) (sym none_sent) (none_appended before)
 
+pub still_few : (events : List MidiEvent) (k : ℕ) (before now : Counts) → k < length events
+    → ((sent : List MidiEvent) × (before ≡ counts_of sent) × (length sent + length events < 2 ^ 63)) → CountsMore (take k events) before now
+    → (sent : List MidiEvent) × (now ≡ counts_of sent) × (length sent < 2 ^ 63)
+still_few events k before now in_list (sent, is, few) so_far =
+    (sent ++ take k events, so_far sent is, omega (arith, length-append sent (take k events), length-take-le k events (omega arith)))
+
 module _ (events : List MidiEvent) (k : ℕ) (d : MidiEvent) (in_list : k < length events) where
   pub one_more_counted : (before now after : Counts) → CountsMore (take k events) before now → CountsMore (get_or events k d ∷ []) now after → CountsMore (take (k + 1) events) before after
   one_more_counted before now after so_far next =
       subst (λ (l : List MidiEvent). CountsMore l before after) (sym (take_more events k d in_list)) (counts_more (take k events) (get_or events k d ∷ []) before now after so_far next)
-
-  pub still_few : (before now : Counts) → ((sent : List MidiEvent) × (before ≡ counts_of sent) × (length sent + length events < 2 ^ 63)) → CountsMore (take k events) before now
-      → (sent : List MidiEvent) × (now ≡ counts_of sent) × (length sent < 2 ^ 63)
-  still_few before now (sent, is, few) so_far =
-      (sent ++ take k events, so_far sent is, omega (arith, length-append sent (take k events), length-take-le k events (omega arith)))
 
   module _ (bytes : List ℕ) (before now after : Option (List ℕ)) (spelled : bytes ≡ bytes_of (get_or events k d).message) (so_far : Appends before (midi_bytes_of (take k events)) now) where
     pub one_more_sent : Appends now bytes after → Appends before (midi_bytes_of (take (k + 1) events)) after
@@ -143,11 +112,3 @@ module _ (events : List MidiEvent) (k : ℕ) (d : MidiEvent) (in_list : k < leng
       sent = appends_more before now after (midi_bytes_of (take k events)) (take front (bytes_of (get_or events k d).message)) _ refl so_far
           (subst (λ (l : List ℕ). Appends now (take front l) after) spelled next);
     }
-
--- all of them
-module _ (events : List MidiEvent) (k : ℕ) (all : length events ≤ k) where
-  pub all_sent : (before after : Option (List ℕ)) → Appends before (midi_bytes_of (take k events)) after → Appends before (midi_bytes_of events) after
-  all_sent before after = subst (λ (l : List MidiEvent). Appends before (midi_bytes_of l) after) (take_all k events all)
-
-  pub all_counted : (before after : Counts) → CountsMore (take k events) before after → CountsMore events before after
-  all_counted before after = subst (λ (l : List MidiEvent). CountsMore l before after) (take_all k events all)

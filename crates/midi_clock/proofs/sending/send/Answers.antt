@@ -1,13 +1,16 @@
-use Rattle.std.proofs.Common.{refl, ◌∙◌, arith, take}
+use Rattle.std.proofs.Common.{List, refl, subst, ◌∙◌, take}
 use Rattle.std.proofs.lemmas.Bool.{OnTrue_at, OnFalse_at}
-use Rattle.midi_clock.proofs.SentLemmas.{all_counted, all_sent, is_cut, none_counted, none_sent_yet, one_more_counted, one_more_sent, still_few}
+use Rattle.std.proofs.lemmas.List.{take_all}
+use Rattle.link_midi.specs.declared.message.MidiEvent.{MidiEvent}
+use Rattle.midi_clock.specs.Player.{CountsMore}
+use Rattle.midi_clock.proofs.SentLemmas.{is_cut, none_counted, none_sent_yet, one_more_counted, one_more_sent, still_few}
 use Rattle.midi_clock.proofs.sending.send.Goals as goal
 
 pub loop-event-init : goal.loop-event-init
 loop-event-init g c = record { sent = none_sent_yet _; counted = none_counted _; faults = refl }
 
 pub add-requires : goal.add-requires
-add-requires g c = still_few c.args.events.now c.loop-event.event-index _ c.loop-event-test.true _ _ c.requires.few c.loop-event.invariant.counted
+add-requires g c = record { few = still_few c.args.events.now c.loop-event.event-index _ _ c.loop-event-test.true c.requires.few c.loop-event.invariant.counted }
 
 pub returns-then-not-write_whole-clause-cut : goal.returns-then-not-write_whole-clause-cut
 returns-then-not-write_whole-clause-cut g c = (
@@ -26,4 +29,6 @@ loop-event-preserved g c = record {
 }
 
 pub returns-clause-counted : goal.returns-clause-counted
-returns-clause-counted g c = all_counted c.args.events.now c.loop-event.event-index c.loop-event-test.false _ _ c.loop-event.invariant.counted
+returns-clause-counted g c =
+    subst (λ (l : List MidiEvent). CountsMore l c.args.tally.now.counts c.loop-event.tally.counts)
+    (take_all c.loop-event.event-index c.args.events.now c.loop-event-test.false) c.loop-event.invariant.counted
