@@ -17,21 +17,24 @@ send-requires-clause-few g c = has_room _ c.args.blocks _ _ _ _ _ _ c.loop-numbe
 pub returns-then-not-send : goal.returns-then-not-send
 returns-then-not-send g c =
     let block = c.make_block-state.ensures in
+    let begins = begins_at c.args.origin c.loop-number.number c.args.blocks _ c.requires.ready (omega (arith, c.loop-number-test.true)) c.from.ensures in
     let cut = OnFalse_at c.if-not-send.true c.send.ensures.cut in
     record {
       read = read_on _ _ _ _ _ _ c.loop-number.invariant.read block.read.2;
-      played = cut_block _ _ _ _ _ _ _ _ _ _ _ _ _ _ _ c.loop-number.invariant.playing block.read.2 (begins_at c.args.origin c.loop-number.number c.args.blocks _ c.requires.ready (omega (arith, c.loop-number-test.true)) c.from.ensures) (c.as_slice.ensures.value ∙ block.events) _ c.args.blocks _ (origin_stored _ _ c.requires.ready) c.loop-number-test.true cut.1 cut.2;
+      played = cut_block _ _ _ _ _ _ _ _ _ _ _ _ _ _ _ c.loop-number.invariant.playing block.read.2 begins (c.as_slice.ensures.value ∙ block.events)
+          _ c.args.blocks _ (origin_stored _ _ c.requires.ready) c.loop-number-test.true cut.1 cut.2;
       cause = rose_from _ _ _ c.loop-number.invariant.works (OnFalse_at c.if-not-send.true c.send.ensures.fails);
     }
 
 pub loop-number-preserved : goal.loop-number-preserved
 loop-number-preserved g c =
     let block = c.make_block-state.ensures in
+    let begins = begins_at c.args.origin c.loop-number.number c.args.blocks _ c.requires.ready (omega (arith, c.loop-number-test.true)) c.from.ensures in
     record {
       read = read_on _ _ _ _ _ _ c.loop-number.invariant.read block.read.2;
       within = omega (arith, c.loop-number-test.true);
-      playing = one_more_block _ _ _ _ _ _ _ _ _ _ _ _ _ _ _ c.loop-number.invariant.playing block.read.2 (begins_at c.args.origin c.loop-number.number c.args.blocks _ c.requires.ready (omega (arith, c.loop-number-test.true)) c.from.ensures) (c.as_slice.ensures.value ∙ block.events) _ block.clock c.as_slice.ensures.fits
-          (OnTrue_at c.if-not-send.false c.send.ensures.whole) (OnTrue_at c.if-not-send.false c.send.ensures.counted);
+      playing = one_more_block _ _ _ _ _ _ _ _ _ _ _ _ _ _ _ c.loop-number.invariant.playing block.read.2 begins (c.as_slice.ensures.value ∙ block.events)
+          _ block.clock c.as_slice.ensures.fits (OnTrue_at c.if-not-send.false c.send.ensures.whole) (OnTrue_at c.if-not-send.false c.send.ensures.counted);
       works = OnTrue_at c.if-not-send.false c.send.ensures.works ∙ c.loop-number.invariant.works;
     }
 
