@@ -1,1 +1,3 @@
 mod SentLemmas
+mod PlayedLemmas
+mod SessionLemmas

@@ -1,6 +1,6 @@
 //! The loop of the audio thread: for each block one capture, and the messages of what it shows.
 
-ghost use Rattle.std.specs.Prelude.{◌≡◌, ◌^◌, ℕ, pos, ◌≤ℤ◌, All};
+ghost use Rattle.std.specs.Prelude.{◌≡◌, ◌^◌, ℕ, pos, ◌≤ℤ◌, [], All};
 ghost use Rattle.client_state.specs.declared.state.State.{State as AnyState};
 ghost use Rattle.link_midi.specs.Events.{events_of, running_after, span};
 ghost use Rattle.link_midi.specs.Messages.{IsMessage};

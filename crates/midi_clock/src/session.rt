@@ -29,12 +29,7 @@ pub fn play_session<
     T: Pace + Send,
     M: Sink + Send,
     R: Threads + Wait + Eprint + Sync,
->(
-    rt: &R,
-    alloc: Global,
-    setup: Setup,
-    devices: &mut Devices<P, T, M>,
-) -> (Status, Tally)
+>(rt: &R, alloc: Global, setup: Setup, devices: &mut Devices<P, T, M>) -> (Status, Tally)
     ensures ends { EndsSession setup.seconds
         (following_from devices.old.seed setup.mpb (gate_value setup.gate) setup.quantum setup.group) devices.old.opened_at
         (devices_seen (P.seen devices.old.port) (M.seen devices.old.outlet.midi))
@@ -48,7 +43,7 @@ pub fn play_session<
     };
     let config = config_of(devices.seed, setup);
     let Devices { port, outlet, .. } = devices;
-    let status = match run_node(
+    match run_node(
         rt,
         alloc,
         &config,
@@ -61,10 +56,9 @@ pub fn play_session<
         &mut (),
         &mut (),
     ) {
-        Ok(run) => status_of(run.audio, run.failed, run.full),
-        Err(_) => Status::Memory,
-    };
-    (status, clockwork.tally)
+        Ok(run) => (status_of(run.audio, run.failed, run.full), clockwork.tally),
+        Err(_) => (Status::Memory, clockwork.tally),
+    }
 }
 
 // The config of the node. Memory: none.
