@@ -1,0 +1,15 @@
+use Rattle.std.proofs.Common.{map, sym, ◌∙◌, arith}
+use Rattle.std.specs.String.{string_bytes}
+use Rattle.std.proofs.lemmas.List.Elements.{All-push, All-same}
+use Rattle.std.proofs.lemmas.Option.{slice_get_within}
+use Rattle.lk_base.specs.Endpoint.{IsEndpoint}
+use Rattle.midi_clock.specs.Words.{places_of}
+use Rattle.midi_clock.proofs.WordLemmas.{all_peers, one_more_peer}
+use Rattle.midi_clock.proofs.words.peers_of.Goals as goal
+
+pub loop-peers-preserved : goal.loop-peers-preserved
+loop-peers-preserved c =
+    let read = c.in-Some-endpoint_of.ensures.some in (
+      one_more_peer _ _ _ _ _ _ c.in-Some.ensures.some (sym c.as_bytes.ensures.value ∙ read.1) c.push.ensures.items c.loop-peers.invariant.0,
+      All-same IsEndpoint _ _ c.push.ensures.items (All-push IsEndpoint _ _ c.loop-peers.invariant.1 read.0),
+    )
