@@ -1,5 +1,5 @@
 -- What the words in the places say, and which values are given to options.
-use Rattle.std.proofs.Common.{◌≡◌, ℕ, suc, ◌+◌, ◌<◌, ◌≤◌, ◌⊎◌, inl, inr, Bool, true, false, List, [], ◌∷◌, ◌++◌, length, map, take, drop, get_or, Option, Some, None, IfSome, IfNone, MatchOption, All, sym, refl, ap, subst, ◌∙◌, arith}
+use Rattle.std.proofs.Common.{◌≡◌, ℕ, suc, ◌+◌, ◌<◌, ◌≤◌, ◌⊎◌, inl, inr, Bool, true, false, List, [], ◌∷◌, ◌++◌, length, map, take, drop, get_or, Option, Some, None, IfSome, MatchOption, All, codes, unsigned_abs, to_z, w64, lit≤, ◌^◌, sym, refl, ap, subst, ◌∙◌, arith}
 use denote.Ref.{Bor}
 use Rattle.std.specs.List.{slice_get}
 use Rattle.std.specs.Slice.{IsItemAt}
@@ -7,12 +7,13 @@ use Rattle.std.specs.Str.{bytes_eq}
 use Rattle.std.specs.String.{string_bytes}
 use Rattle.std.specs.declared.alloc.Global.{Global}
 use Rattle.std.specs.declared.string.String.{String}
-use Rattle.std.proofs.lemmas.List.{drop-drop, drop-map, drop_all, drop_more, get_or-drop, length-drop, length-map, map_push, nil_from_length, take_all, take_more}
+use Rattle.std.proofs.lemmas.Int.{to_z_pos}
+use Rattle.std.proofs.lemmas.List.{drop-drop, drop-map, drop_all, drop_more, get_or-drop, length-drop, length-map, map_push, take_all, take_more}
 use Rattle.std.proofs.lemmas.Option.{get_or_from_slice_get, none-some, slice_get_within}
 use Rattle.std.proofs.lemmas.Slice.Eq.{bytes_eq-Decides}
 use Rattle.lk_base.specs.declared.endpoint.Endpoint.{Endpoint}
 use Rattle.link_lines.specs.Words.{endpoint_text_of}
-use Rattle.midi_clock.specs.Words.{SaysNumber, SaysOption, is_option, places_of, values_of}
+use Rattle.midi_clock.specs.Words.{SaysNumber, SaysOption, SaysQuantum, SaysTempo, is_option, places_of, values_of}
 
 -- ---- what is left of words
 
@@ -116,34 +117,26 @@ is_once [] text is few = absurd (none-some text is)
 is_once (value ∷ []) text is few = cc
 is_once (value ∷ next ∷ values) text is few = absurd (omega (arith, few))
 
--- one that is given twice says none
-pub twice_says : (words : List (List ℕ)) (name : List ℕ) (most default n : ℕ) → 1 < length (values_of name words) → SaysOption words name most default n → ⊥
-twice_says words name most default n twice (inl absent) = omega (arith, twice, ap length absent.0)
-twice_says words name most default n twice (inr given) = omega (arith, twice, ap length given.1)
-
-once_says : (words : List (List ℕ)) (name text : List ℕ) (most default n : ℕ) → values_of name words ≡ text ∷ []
-    → ((k : ℕ) → SaysNumber text 0 most k → ⊥) → SaysOption words name most default n → ⊥
-once_says words name text most default n once none (inl absent) = absurd (omega (arith, ap length once, ap length absent.0))
-once_says words name text most default n once none (inr given) =
-    let same : given.0 ≡ text = cc (given.1, once) in
-    none n (subst (λ (t : List ℕ). SaysNumber t 0 most n) same given.2)
-
-pub number_says : (words : List (List ℕ)) (name text : List ℕ) (most default : ℕ) (number : Option ℕ) → values_of name words ≡ text ∷ []
+-- a number that its one value says, it says
+pub once_says : (words : List (List ℕ)) (name text : List ℕ) (most default : ℕ) (number : Option ℕ) → values_of name words ≡ text ∷ []
     → IfSome number (SaysNumber text 0 most) → IfSome number (SaysOption words name most default)
-number_says words name text most default None once says = tt
-number_says words name text most default (Some n) once says = inr (text, once, says)
+once_says words name text most default None once says = tt
+once_says words name text most default (Some n) once says = inr (text, once, says)
 
-pub no_number_says : (words : List (List ℕ)) (name text : List ℕ) (most default : ℕ) (number : Option ℕ) → values_of name words ≡ text ∷ []
-    → IfNone number ((n : ℕ) → SaysNumber text 0 most n → ⊥) → IfNone number ((n : ℕ) → SaysOption words name most default n → ⊥)
-no_number_says words name text most default None once none = λ n says. once_says words name text most default n once none says
-no_number_says words name text most default (Some n) once none = tt
-
-pub absent_says : (words : List (List ℕ)) (name : List ℕ) (most default : ℕ) → length (values_of name words) ≤ 0 → SaysOption words name most default default
-absent_says words name most default none = inl (nil_from_length (values_of name words) (omega (arith, none)), refl)
-
-pub option_most : (words : List (List ℕ)) (name : List ℕ) (most default n : ℕ) → default ≤ most → SaysOption words name most default n → n ≤ most
+option_most : (words : List (List ℕ)) (name : List ℕ) (most default n : ℕ) → default ≤ most → SaysOption words name most default n → n ≤ most
 option_most words name most default n fits (inl absent) = omega (arith, fits, absent.1)
 option_most words name most default n fits (inr given) = given.2.to
+
+-- a signed number is the same, where it is small
+signed_back : (n : ℕ) → n < 2 ^ 63 → unsigned_abs (to_z w64 n) ≡ n
+signed_back n small = ap unsigned_abs (to_z_pos w64 n small)
+
+pub tempo_signed : (text : List ℕ) (n : ℕ) → SaysTempo text n → SaysTempo text (unsigned_abs (to_z w64 n))
+tempo_signed text n says = subst (SaysTempo text) (sym (signed_back n (omega (arith, says.to)))) says
+
+pub quantum_signed : (words : List (List ℕ)) (n : ℕ) → SaysQuantum words n → SaysQuantum words (unsigned_abs (to_z w64 n))
+quantum_signed words n says =
+    subst (SaysQuantum words) (sym (signed_back n (omega (arith, option_most words (codes "--quantum") (2 ^ 40) 4_000_000 n (lit≤ tt) says)))) says
 
 -- ---- peers
 
