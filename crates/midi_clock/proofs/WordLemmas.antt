@@ -1,5 +1,5 @@
 -- What the words in the places say, and which values are given to options.
-use Rattle.std.proofs.Common.{◌≡◌, ℕ, suc, ◌+◌, ◌<◌, ◌≤◌, ◌⊎◌, inl, inr, Bool, true, false, List, [], ◌∷◌, ◌++◌, length, map, take, drop, get_or, Option, Some, None, IfSome, MatchOption, All, codes, unsigned_abs, to_z, w64, lit≤, ◌^◌, sym, refl, ap, subst, ◌∙◌, arith}
+use Rattle.std.proofs.Common.{◌≡◌, ℕ, suc, ◌+◌, ◌<◌, ◌≤◌, inl, inr, true, false, List, [], ◌∷◌, ◌++◌, length, map, take, drop, get_or, Option, Some, None, IfSome, MatchOption, codes, unsigned_abs, to_z, w64, lit≤, ◌^◌, sym, refl, ap, subst, ◌∙◌, arith}
 use denote.Ref.{Bor}
 use Rattle.std.specs.List.{slice_get}
 use Rattle.std.specs.Slice.{IsItemAt}
@@ -8,7 +8,7 @@ use Rattle.std.specs.String.{string_bytes}
 use Rattle.std.specs.declared.alloc.Global.{Global}
 use Rattle.std.specs.declared.string.String.{String}
 use Rattle.std.proofs.lemmas.Int.{to_z_pos}
-use Rattle.std.proofs.lemmas.List.{drop-drop, drop-map, drop_all, drop_more, get_or-drop, length-drop, length-map, map_push, take_all, take_more}
+use Rattle.std.proofs.lemmas.List.{drop-drop, drop-map, drop_all, drop_more, get_or-drop, length-drop, length-map, map_push, take_more}
 use Rattle.std.proofs.lemmas.Option.{get_or_from_slice_get, none-some, slice_get_within}
 use Rattle.std.proofs.lemmas.Slice.Eq.{bytes_eq-Decides}
 use Rattle.lk_base.specs.declared.endpoint.Endpoint.{Endpoint}
@@ -43,9 +43,6 @@ word_behind words at (Some found) value item is =
 pub record Counts (all rest : List (List ℕ)) (number left : ℕ) : Type 0 where
   pub entry : slice_get all number ≡ slice_get rest left
   pub past : length all + left ≡ length rest + number
-
-pub counts_none : (all : List (List ℕ)) (number : ℕ) → Counts all all number number
-counts_none all number = record { entry = refl; past = refl }
 
 pub counts_same : (all rest later : List (List ℕ)) (number left : ℕ) → Counts all rest number left → rest ≡ later → Counts all later number left
 counts_same all rest later number left counts is = subst (λ (l : List (List ℕ)). Counts all l number left) is counts
@@ -151,10 +148,6 @@ one_more_peer places word peers peers_then peer k here spelled pushed so_far =
     ∙ ap (λ (l : List (List ℕ)). l ++ endpoint_text_of peer ∷ []) so_far
     ∙ ap (λ (text : List ℕ). take k (drop 3 places) ++ text ∷ []) (sym (read ∙ spelled))
     ∙ sym (take_more (drop 3 places) k word within)
-
-pub all_peers : (places : List (List ℕ)) (peers : List Endpoint) (k : ℕ) → length places ≤ 3 + k → map endpoint_text_of peers ≡ take k (drop 3 places)
-    → drop 3 places ≡ map endpoint_text_of peers
-all_peers places peers k few so_far = sym (so_far ∙ take_all k (drop 3 places) (omega (arith, length-drop 3 places, few)))
 
 -- ---- the words together
 

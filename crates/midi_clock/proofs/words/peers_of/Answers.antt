@@ -1,10 +1,7 @@
-use Rattle.std.proofs.Common.{map, sym, ◌∙◌, arith}
-use Rattle.std.specs.String.{string_bytes}
+use Rattle.std.proofs.Common.{sym, ◌∙◌}
 use Rattle.std.proofs.lemmas.List.Elements.{All-push, All-same}
-use Rattle.std.proofs.lemmas.Option.{slice_get_within}
 use Rattle.lk_base.specs.Endpoint.{IsEndpoint}
-use Rattle.midi_clock.specs.Words.{places_of}
-use Rattle.midi_clock.proofs.WordLemmas.{all_peers, one_more_peer}
+use Rattle.midi_clock.proofs.WordLemmas.{one_more_peer}
 use Rattle.midi_clock.proofs.words.peers_of.Goals as goal
 
 pub loop-peers-preserved : goal.loop-peers-preserved

@@ -1,17 +1,14 @@
-use Rattle.std.proofs.Common.{◌≡◌, ◌∷◌, ◌+◌, ℕ, List, map, drop, ap, sym, ◌∙◌, arith}
+use Rattle.std.proofs.Common.{◌≡◌, ◌∷◌, ◌+◌, map, drop, ap, sym, ◌∙◌, arith}
 use Rattle.std.specs.String.{string_bytes}
 use Rattle.std.proofs.lemmas.List.{drop-drop}
 use Rattle.midi_clock.specs.Words.{places_of}
-use Rattle.midi_clock.proofs.WordLemmas.{Counts, counts_all, counts_here, counts_more, counts_none, counts_same, from_word, no_word, places_behind, places_more}
+use Rattle.midi_clock.proofs.WordLemmas.{Counts, counts_all, counts_here, counts_more, counts_same, from_word, no_word, places_behind, places_more}
 use Rattle.midi_clock.proofs.words.place.Goals as goal
 use Rattle.midi_clock.proofs.words.place.Goals.{then-is_option, else-is_option+else-left-eq0, After-as_str-word}
 
 -- what is left begins with the word
 next : (c : After-as_str-word) → drop c.loop-at.at (map string_bytes c.args.words.now) ≡ c.as_str-word.result.now ∷ drop (c.loop-at.at + 1) (map string_bytes c.args.words.now)
 next c = from_word c.args.words.now c.loop-at.at c.index-words-at.result c.as_str-word.result.now c.loop-at-test.true c.index-words-at.is c.as_str-word.ensures.value
-
-pub loop-at-init : goal.loop-at-init
-loop-at-init c = counts_none _ _
 
 pub loop-at-preserved : goal.loop-at-preserved
 loop-at-preserved c =

@@ -2,16 +2,13 @@ use Rattle.std.proofs.Common.{◌≡◌, ◌∷◌, [], ◌+◌, map, drop, get_
 use Rattle.std.specs.String.{string_bytes}
 use Rattle.std.proofs.lemmas.List.{drop-drop}
 use Rattle.midi_clock.specs.Words.{values_of}
-use Rattle.midi_clock.proofs.WordLemmas.{Counts, counts_all, counts_here, counts_more, counts_none, counts_same, from_word, no_word, values_behind, values_past, values_with, word_behind}
+use Rattle.midi_clock.proofs.WordLemmas.{Counts, counts_all, counts_here, counts_more, counts_same, from_word, no_word, values_behind, values_past, values_with, word_behind}
 use Rattle.midi_clock.proofs.words.value.Goals as goal
 use Rattle.midi_clock.proofs.words.value.Goals.{then-eq+else-left-eq0, else-eq+then-is_option, else-eq+else-is_option, After-as_str-word}
 
 -- what is left begins with the word
 next : (c : After-as_str-word) → drop c.loop-at.at (map string_bytes c.args.words.now) ≡ c.as_str-word.result.now ∷ drop (c.loop-at.at + 1) (map string_bytes c.args.words.now)
 next c = from_word c.args.words.now c.loop-at.at c.index-words-at.result c.as_str-word.result.now c.loop-at-test.true c.index-words-at.is c.as_str-word.ensures.value
-
-pub loop-at-init : goal.loop-at-init
-loop-at-init c = counts_none _ _
 
 pub loop-at-preserved : goal.loop-at-preserved
 loop-at-preserved c =
