@@ -90,7 +90,9 @@ fn tell_sent<R: Eprint>(rt: &R, tally: &Tally) {
     let continues = Counted(tally.counts.continues, "continue");
     let stops = Counted(tally.counts.stops, "stop");
     let latest = Counted(tally.latest.unsigned_abs(), "microsecond");
-    let _printed = eprintln!(rt; "midi_clock: sent {clocks}, {starts}, {continues}, {stops}; the latest message was {latest} late");
+    let _printed = eprintln!(rt;
+        "midi_clock: sent {clocks}, {starts}, {continues}, {stops}; the latest message was {latest} late"
+    );
 }
 
 /// What the system may refuse a session: a clock, and sockets. The seed is the nanoseconds since 1970.

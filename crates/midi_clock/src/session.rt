@@ -29,12 +29,7 @@ pub fn play_session<
     T: Pace + Send,
     M: Sink + Send,
     R: Threads + Wait + Eprint + Sync,
->(
-    rt: &R,
-    alloc: Global,
-    setup: Setup,
-    devices: &mut Devices<P, T, M>,
-) -> (Status, Tally)
+>(rt: &R, alloc: Global, setup: Setup, devices: &mut Devices<P, T, M>) -> (Status, Tally)
     ensures ends { EndsSession setup.seconds
         (following_from devices.old.seed setup.mpb (gate_value setup.gate) setup.quantum setup.group) devices.old.opened_at
         (devices_seen (P.seen devices.old.port) (M.seen devices.old.outlet.midi))

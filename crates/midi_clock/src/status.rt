@@ -57,10 +57,13 @@ impl fmt::Display for Status {
         f.write_str(match self {
             Status::Done => "done",
             Status::Words => USAGE,
-            Status::Network => "the network failed: the address has to be this machine's and its port free; what was left was played without peers",
+            Status::Network =>
+                "the network failed: the address has to be this machine's and its port free; what was left was played without peers",
             Status::Time => "the system tells no time",
-            Status::Events => "the journal was full before the run ended, and what the network brought then was not taken; a run with fewer seconds has room",
-            Status::Output => "standard output could not be written; the MIDI that was written ends there",
+            Status::Events =>
+                "the journal was full before the run ended, and what the network brought then was not taken; a run with fewer seconds has room",
+            Status::Output =>
+                "standard output could not be written; the MIDI that was written ends there",
             Status::Memory => "no memory was left",
         })
     }
