@@ -1,3 +1,4 @@
 mod SentLemmas
 mod PlayedLemmas
 mod SessionLemmas
+mod WordLemmas

@@ -230,8 +230,8 @@ fn value<'a>(words: &'a [String], name: &str, number: usize) -> Option<&'a str>
                 return Some(words.get(at + 1).map_or("", |value| value.as_str()));
             }
             left -= 1;
-        }
-        if is_option(word) {
+            at += 1;
+        } else if is_option(word) {
             at += 1;
         }
         at += 1;
