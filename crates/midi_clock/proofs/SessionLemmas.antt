@@ -38,7 +38,7 @@ no_app_commit full audio app events published idle fits =
 pub has_session : (given config : ConfigValue) (now : ℤ) (before after : DevicesSeen) (events : List EventValue) (published : List State)
     (app : AppView) (pass : AudioView) (seconds : ℕ) (ended : PlayEnd) (failed full : Bool) (counts : Counts)
     → IsMoment now → given ≡ config → app ≡ new_app
-    → IsNodeRun given (stored now) 262_144 failed full before.port after.port pass app events published
+    → IsNodeRun given (stored now) 524_288 failed full before.port after.port pass app events published
     → HasClocked (seconds * 500) (stored (stored now +ℤ pos 500_000)) new_audio pass before.midi after.midi counts ended
     → HasSession seconds config now before after ended failed full counts
 has_session given config now before after events published app pass seconds ended failed full counts moment config_is idle run clocked =
@@ -47,7 +47,7 @@ has_session given config now before after events published app pass seconds ende
     is_stored _ (now +ℤ pos 500_000) (ap (λ (t : ℤ). t +ℤ pos 500_000) now_is) (omega (arith, ints, moment.0)) (omega (arith, ints, moment.1)) in
     let Played : ℤ → PlayEnd → Type 0 = λ origin end. IsPlayed (seconds * 500) origin pass before.midi.told after.midi.told counts end in
     let Recorded : ConfigValue → ℤ → Type 0 = λ c n.
-    IsRecorded c 262_144 None failed full before.port.told after.port.told after.port.gates (recorded_of c n events published) in
+    IsRecorded c 524_288 None failed full before.port.told after.port.told after.port.gates (recorded_of c n events published) in
     let played : Played (now +ℤ pos 500_000) ended = subst (λ (origin : ℤ). Played origin ended) origin_is clocked.played in
     record {
       pass = pass;

@@ -53,6 +53,7 @@ is_stop_message Continue = false
 is_stop_message Stop = true
 is_stop_message (Position sixteenths) = false
 
+-- Rule: The MIDI clock tells how many clocks, starts, continues and stops it sent.
 -- how many messages of each kind these are; a song position is told with its continue
 abbrev pub counts_of : List MidiEvent → Counts
 counts_of events = record {

@@ -40,14 +40,14 @@ devices_seen port midi = record { port = port; midi = midi }
 pub record IsSessionRecorded (config : ConfigValue) (opened_at : ℤ) (failed full : Bool) (port port_then : Option PortContents) (gates : List Endpoint) (pass : AudioView) : Type 0 where
   pub events : List EventValue
   pub published : List State
-  pub recorded : IsRecorded config 262_144 None failed full port port_then gates (recorded_of config opened_at events published)
+  pub recorded : IsRecorded config 524_288 None failed full port port_then gates (recorded_of config opened_at events published)
   pub reads : WerePublished published pass.seen
   pub never_falls : NumbersNeverFall pass.seen
   pub no_audio_commit : AreCarried [] events
   pub no_app_commit : app_commits_in events ≡ []
 
--- What a session met: how its loop ended, whether the port failed, whether an event found no room; and what is promised of it then. Its
--- first block begins half a second after the opening, and 500 are a second.
+-- Rule: The first block of the MIDI clock begins half a second after its node opened, and 500 blocks are a second.
+-- What a session met: how its loop ended, whether the port failed, whether an event found no room; and what is promised of it then.
 pub record HasSession (seconds : ℕ) (config : ConfigValue) (opened_at : ℤ) (before after : DevicesSeen) (end : PlayEnd) (failed full : Bool) (counts : Counts) : Type 0 where
   pub pass : AudioView
   pub recorded : IsSessionRecorded config opened_at failed full before.port.told after.port.told after.port.gates pass

@@ -81,7 +81,8 @@ IsNoEndpoint words place =
     (text : List ℕ) × (slice_get (places_of words) place ≡ Some text)
     × ((e : Endpoint) → IsEndpoint e → text ≡ endpoint_text_of e → ⊥)
 
--- what each fault says of words, so that they ask for nothing: a place that has no word, or one that doesn't say what it has to
+-- Rule: Of words that ask for no MIDI clock one is told that is missing, or that is wrong, or that they are too many.
+-- what each fault says of words, so that they ask for nothing
 abbrev pub IsFaultIn : List (List ℕ) → WordsFault → Type 0
 IsFaultIn words fault.NoSeconds = IsMissing words 0
 IsFaultIn words fault.Seconds = (text : List ℕ) × (slice_get (places_of words) 0 ≡ Some text) × ((n : ℕ) → SaysSeconds text n → ⊥)

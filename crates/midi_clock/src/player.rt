@@ -68,10 +68,11 @@ pub fn play<C: StateCell<11, Way = ()>, N: LinkName, P: Pace, M: Sink, R: Eprint
     PlayEnd::Played
 }
 
-// Captures once, and puts the messages of the block that begins at `start`, by the state captured, in place of what `events` held.
-// As nothing is committed, the state published is the one that is shown.
-// Waits: no. Memory: none.
-fn make_block<C: StateCell<11, Way = ()>, N: LinkName>(
+/// Captures once, and puts the messages of the block that begins at `start`, by the state captured, in place of what `events` held. As
+/// nothing is committed, the state published is the one that is shown.
+///
+/// Waits: no. Memory: none.
+pub fn make_block<C: StateCell<11, Way = ()>, N: LinkName>(
     link: &Link<C, N>,
     pass: &mut AudioPass<C, N>,
     start: i64,

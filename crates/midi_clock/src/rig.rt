@@ -2,8 +2,8 @@
 
 ghost use Rattle.lk_base.specs.Ranges.{IsMoment};
 
-/// How many events find room in the journal: those of more than an hour beside ten peers.
-pub const EVENTS: u64 = 262_144;
+/// How many events find room in the journal, the most that a node takes: those of two hours and 20 minutes beside ten peers.
+pub const EVENTS: u64 = 524_288;
 
 /// The outside of a session.
 #[derive(Drop)]
