@@ -1,0 +1,4 @@
+mod SentLemmas
+mod PlayedLemmas
+mod SessionLemmas
+mod WordLemmas

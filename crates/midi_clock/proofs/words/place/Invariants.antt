@@ -1,0 +1,12 @@
+use Rattle.std.proofs.Common.{◌-◌, length, map, drop}
+use Rattle.std.specs.String.{string_bytes}
+use Rattle.midi_clock.specs.Words.{places_of}
+use Rattle.midi_clock.proofs.WordLemmas.{Counts}
+use Rattle.midi_clock.proofs.words.place.Given as goal
+
+abbrev pub invariant-loop-at : goal.invariant-loop-at
+invariant-loop-at l =
+    Counts (places_of (map string_bytes l.words)) (places_of (drop l.at (map string_bytes l.words))) l.number l.left
+
+abbrev pub decreases-loop-at : goal.decreases-loop-at
+decreases-loop-at l = length l.words - l.at
