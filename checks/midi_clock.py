@@ -42,6 +42,7 @@ LISTENS, SLACK = 500_000, 100_000
 MEDIAN, MOST, SOON, MARGIN = 3_000, 100_000, 6_000, 150_000
 # The live run: its beat is put at -2.2, and at -0.2 it plays, so beat 0 is the next sixteenth. At about 9.03 it goes on. Its bars are so
 # long that a beat can be put anywhere. What both tell of it once they have met: tempos, and whether it plays.
+ROOM, EVENTS = "room for 524288 events", 524_288
 COMMANDS = ["at 300000 tempo 800000", "at 2000000 force -2200000", "at 3600000 play", "at 5000000 tempo 400000", "at 6200000 stop"]
 COMMANDS += ["at 7200000 tempo 500000", "at 8190000 play", "at 10200000 look"]
 OPENING, STOPPED, QUANTUM = 500_000, 6_200_000, 2**40
@@ -61,7 +62,7 @@ def counted(number, word):
 
 
 def head_told(seconds, port, more="bars of 4 beats"):
-    return f"listens for half a second, then plays for {counted(seconds, 'second')}", f"session at {at_port(port)}; {live.ROOM}, {more}"
+    return f"listens for half a second, then plays for {counted(seconds, 'second')}", f"session at {at_port(port)}; {ROOM}, {more}"
 
 
 def state_told(mpb, peers=0, plays=False):
@@ -274,7 +275,7 @@ def options(clock):
 
 def unbound(clock):
     gate = "the gate 203.0.113.1:9 could not be bound: Cannot assign requested address (os error 99); the run goes on without the network"
-    without = f"session without the network; {live.ROOM}, bars of 4 beats"
+    without = f"session without the network; {ROOM}, bars of 4 beats"
     short(clock, ["1", "500000", "203.0.113.1:9"], head_told(1, 9)[0], gate, without, state_told(500_000), None, NETWORK, status=3)
 
 
@@ -331,17 +332,17 @@ def full_journal(clock):
     """What comes then isn't taken, and the clocks go on: all of them come."""
     with listener() as asker:
         (port,) = free_ports(1)
-        run, took = Run(clock, 10, 400_000, at_port(port), at_port(asker.getsockname()[1])), 0
+        run, took = Run(clock, 20, 400_000, at_port(port), at_port(asker.getsockname()[1])), 0
         asker.recv(513)
         asker.connect(("127.0.0.1", port))
         asker.settimeout(0.5)
         while drums.is_answered(asker, run.child):
             took += drums.FLOOD
-    if run.child.wait(timeout=common.LONGEST) == 0 and took < drums.ROOM - 1_000:
+    if run.child.wait(timeout=common.LONGEST) == 0 and took < EVENTS - 1_000:
         print(f"note: {took} datagrams are too few here to fill a journal, so no full one is looked at")
         return
-    run.end(6).want_told(*head_told(10, port), state_told(400_000), sent_told(600), FULL)
-    want("how many clocks come", len(run.clocks), 600)
+    run.end(6).want_told(*head_told(20, port), state_told(400_000), sent_told(1_200), FULL)
+    want("how many clocks come", len(run.clocks), 1_200)
 
 
 def built(*programs):
