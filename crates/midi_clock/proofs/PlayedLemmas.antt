@@ -135,11 +135,10 @@ running_of-append part running (p ∷ parts) = running_of-append part (running_a
 pub rose_from : (a b c : ℕ) → b ≡ a → Rose b c → Rose a c
 rose_from a b c same rose = subst (λ (n : ℕ). Rose n c) same rose
 
--- so many of the blocks were played: the last reads of the pass, whether the MIDI clock runs now, what was appended, and what was counted
-pub record IsPlaying (number : ℕ) (origin : ℤ) (running : Bool) (pass : AudioView) (midi midi_then : Option (List ℕ)) (counts : Counts) : Type 0 where
-  earlier : List Pair
+-- so many of the blocks were played: what the pass read of them, whether the MIDI clock runs now, what was appended, and what was counted
+pub record IsPlaying (number : ℕ) (origin : ℤ) (running : Bool) (first pass : AudioView) (midi midi_then : Option (List ℕ)) (counts : Counts) : Type 0 where
   reads : List Pair
-  seen : pass.seen ≡ earlier ++ reads
+  seen : pass.seen ≡ first.seen ++ reads
   each : length reads ≡ number
   clock : running ≡ running_of false (parts_of origin reads)
   few : length (messages_of origin reads) ≤ 404 * number
@@ -147,10 +146,9 @@ pub record IsPlaying (number : ℕ) (origin : ℤ) (running : Bool) (pass : Audi
   counted : counts ≡ counts_of (messages_of origin reads)
 
 pub has_begun : (origin : ℤ) (running : Bool) (pass : AudioView) (midi : Option (List ℕ)) (counts : Counts)
-    → running ≡ false → counts ≡ counts_of [] → IsPlaying 0 origin running pass midi midi counts
+    → running ≡ false → counts ≡ counts_of [] → IsPlaying 0 origin running pass pass midi midi counts
 unfolding all_events_of parts_from
 has_begun origin running pass midi counts stopped none = record {
-  earlier = pass.seen;
   reads = [];
   seen = sym (append-nil pass.seen);
   each = refl;
@@ -160,9 +158,9 @@ has_begun origin running pass midi counts stopped none = record {
   counted = none;
 }
 
-module _ (number : ℕ) (origin start : ℤ) (running : Bool) (before after : AudioView) (midi midi_now midi_then : Option (List ℕ)) (counts counts_then : Counts)
+module _ (number : ℕ) (origin start : ℤ) (running : Bool) (first before after : AudioView) (midi midi_now midi_then : Option (List ℕ)) (counts counts_then : Counts)
     (events : List MidiEvent) (place : ℕ) (state shown : State)
-    (playing : IsPlaying number origin running before midi midi_now counts) (read : HasReadAudio before after place state shown)
+    (playing : IsPlaying number origin running first before midi midi_now counts) (read : HasReadAudio before after place state shown)
     (begins : start ≡ origin +ℤ pos (number * 2_000)) (events_are : events ≡ events_of state running (span start 2_000)) where
   abbrev pair : Pair
   pair = (place, read.row)
@@ -170,8 +168,8 @@ module _ (number : ℕ) (origin start : ℤ) (running : Bool) (before after : Au
   abbrev messages : List MidiEvent
   messages = messages_of origin playing.reads
 
-  next_seen : after.seen ≡ playing.earlier ++ (playing.reads ++ pair ∷ [])
-  next_seen = read.seen ∙ ap (λ (l : List Pair). l ++ pair ∷ []) playing.seen ∙ append_assoc playing.earlier playing.reads (pair ∷ [])
+  next_seen : after.seen ≡ first.seen ++ (playing.reads ++ pair ∷ [])
+  next_seen = read.seen ∙ ap (λ (l : List Pair). l ++ pair ∷ []) playing.seen ∙ append_assoc first.seen playing.reads (pair ∷ [])
 
   -- the block of the read is the next one
   same_block : block_at origin (length playing.reads) ≡ span start 2_000
@@ -196,9 +194,8 @@ module _ (number : ℕ) (origin start : ℤ) (running : Bool) (before after : Au
 
   pub one_more_block : (running_then : Bool) → running_then ≡ running_after state running (span start 2_000) → length events ≤ 404
       → Appends midi_now (midi_bytes_of events) midi_then → CountsMore events counts counts_then
-      → IsPlaying (number + 1) origin running_then after midi midi_then counts_then
+      → IsPlaying (number + 1) origin running_then first after midi midi_then counts_then
   one_more_block running_then runs short sent counted = record {
-    earlier = playing.earlier;
     reads = playing.reads ++ pair ∷ [];
     seen = next_seen;
     each = length-append playing.reads (pair ∷ []) ∙ ap (λ (n : ℕ). n + 1) playing.each;
@@ -209,12 +206,11 @@ module _ (number : ℕ) (origin start : ℤ) (running : Bool) (before after : Au
   }
 
   -- a message of the next block can't be written
-  pub cut_block : (first : ℤ) (blocks : ℕ) (here : List MidiEvent) → origin ≡ first → number < blocks → AreCutAt events midi_now midi_then here → CountsMore here counts counts_then
-      → IsCutOff blocks first after midi midi_then counts_then
-  cut_block first blocks here is within cut counted =
+  pub cut_block : (from : ℤ) (blocks : ℕ) (here : List MidiEvent) → origin ≡ from → number < blocks → AreCutAt events midi_now midi_then here → CountsMore here counts counts_then
+      → IsCutOff blocks from first after midi midi_then counts_then
+  cut_block from blocks here is within cut counted =
       let front : List ℕ = take cut.front (bytes_of cut.failed.message) in
-      subst (λ (o : ℤ). IsCutOff blocks o after midi midi_then counts_then) is record {
-        earlier = playing.earlier;
+      subst (λ (o : ℤ). IsCutOff blocks o first after midi midi_then counts_then) is record {
         reads = playing.reads;
         last = pair;
         seen = next_seen;
@@ -231,18 +227,17 @@ module _ (number : ℕ) (origin start : ℤ) (running : Bool) (before after : Au
         counted = counted messages playing.counted;
       }
 
-module _ (number blocks : ℕ) (origin : ℤ) (running : Bool) (pass : AudioView) (midi midi_then : Option (List ℕ)) (counts : Counts)
-    (playing : IsPlaying number origin running pass midi midi_then counts) where
+module _ (number blocks : ℕ) (origin : ℤ) (running : Bool) (first pass : AudioView) (midi midi_then : Option (List ℕ)) (counts : Counts)
+    (playing : IsPlaying number origin running first pass midi midi_then counts) where
   -- messages can be counted
   pub has_room : (events : List MidiEvent) → number < blocks → blocks ≤ 43_200_000 → length events ≤ 404
       → (sent : List MidiEvent) × (counts ≡ counts_of sent) × (length sent + length events < 2 ^ 63)
   has_room events within some short = (messages_of origin playing.reads, playing.counted, omega (arith, playing.few, within, some, short))
 
-  pub is_whole : (first : ℤ) → origin ≡ first → number ≤ blocks → blocks ≤ number → IsPlayedWhole blocks first pass midi midi_then counts
-  is_whole first is within past =
+  pub is_whole : (from : ℤ) → origin ≡ from → number ≤ blocks → blocks ≤ number → IsPlayedWhole blocks from first pass midi midi_then counts
+  is_whole from is within past =
       let all : number ≡ blocks = omega (arith, within, past) in
-      subst (λ (o : ℤ). IsPlayedWhole blocks o pass midi midi_then counts) is record {
-        earlier = playing.earlier;
+      subst (λ (o : ℤ). IsPlayedWhole blocks o first pass midi midi_then counts) is record {
         reads = playing.reads;
         seen = playing.seen;
         each = playing.each ∙ all;

@@ -45,7 +45,7 @@ has_session given config now before after events published app pass seconds ende
     let now_is : stored now ≡ now = is_stored now now refl moment.0 (omega (arith, ints, moment.1)) in
     let origin_is : stored (stored now +ℤ pos 500_000) ≡ now +ℤ pos 500_000 =
     is_stored _ (now +ℤ pos 500_000) (ap (λ (t : ℤ). t +ℤ pos 500_000) now_is) (omega (arith, ints, moment.0)) (omega (arith, ints, moment.1)) in
-    let Played : ℤ → PlayEnd → Type 0 = λ origin end. IsPlayed (seconds * 500) origin pass before.midi.told after.midi.told counts end in
+    let Played : ℤ → PlayEnd → Type 0 = λ origin end. IsPlayed (seconds * 500) origin new_audio pass before.midi.told after.midi.told counts end in
     let Recorded : ConfigValue → ℤ → Type 0 = λ c n.
     IsRecorded c 524_288 None failed full before.port.told after.port.told after.port.gates (recorded_of c n events published) in
     let played : Played (now +ℤ pos 500_000) ended = subst (λ (origin : ℤ). Played origin ended) origin_is clocked.played in

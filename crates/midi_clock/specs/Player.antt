@@ -42,23 +42,20 @@ CountsMore events counts counts_then = (sent : List MidiEvent) → counts ≡ co
 
 -- ---- the ends of the loop
 
--- Rule: A MIDI clock that plays to its end sends all messages of its blocks whole, in order.
--- each block had one read of the pass, and these are its last
-pub record IsPlayedWhole (blocks : ℕ) (origin : ℤ) (pass : AudioView) (midi midi_then : Option (List ℕ)) (counts : Counts) : Type 0 where
-  pub earlier : List Pair
+-- Rule: A MIDI clock that plays to its end reads once for each block, and sends all messages of its blocks whole, in order.
+pub record IsPlayedWhole (blocks : ℕ) (origin : ℤ) (pass pass_then : AudioView) (midi midi_then : Option (List ℕ)) (counts : Counts) : Type 0 where
   pub reads : List Pair
-  pub seen : pass.seen ≡ earlier ++ reads
+  pub seen : pass_then.seen ≡ pass.seen ++ reads
   pub each : length reads ≡ blocks
   pub sent : Appends midi (midi_bytes_of (messages_of origin reads)) midi_then
   pub counted : counts ≡ counts_of (messages_of origin reads)
 
 -- Rule: Where a message of the MIDI clock can't be written, all messages before it are sent whole, and of it a front at most.
 -- the blocks before the last one that began, and that one, of whose messages one could not be written
-pub record IsCutOff (blocks : ℕ) (origin : ℤ) (pass : AudioView) (midi midi_then : Option (List ℕ)) (counts : Counts) : Type 0 where
-  pub earlier : List Pair
+pub record IsCutOff (blocks : ℕ) (origin : ℤ) (pass pass_then : AudioView) (midi midi_then : Option (List ℕ)) (counts : Counts) : Type 0 where
   pub reads : List Pair
   pub last : Pair
-  pub seen : pass.seen ≡ earlier ++ (reads ++ last ∷ [])
+  pub seen : pass_then.seen ≡ pass.seen ++ (reads ++ last ∷ [])
   pub few : length reads < blocks
   pub here : List MidiEvent
   pub failed : MidiEvent
@@ -70,9 +67,9 @@ pub record IsCutOff (blocks : ℕ) (origin : ℤ) (pass : AudioView) (midi midi_
   pub counted : counts ≡ counts_of (messages_of origin reads ++ here)
 
 -- what was sent, by how the loop ended
-abbrev pub IsPlayed : ℕ → ℤ → AudioView → Option (List ℕ) → Option (List ℕ) → Counts → PlayEnd → Type 0
-IsPlayed blocks origin pass midi midi_then counts play_end.Played = IsPlayedWhole blocks origin pass midi midi_then counts
-IsPlayed blocks origin pass midi midi_then counts play_end.Output = IsCutOff blocks origin pass midi midi_then counts
+abbrev pub IsPlayed : ℕ → ℤ → AudioView → AudioView → Option (List ℕ) → Option (List ℕ) → Counts → PlayEnd → Type 0
+IsPlayed blocks origin pass pass_then midi midi_then counts play_end.Played = IsPlayedWhole blocks origin pass pass_then midi midi_then counts
+IsPlayed blocks origin pass pass_then midi midi_then counts play_end.Output = IsCutOff blocks origin pass pass_then midi midi_then counts
 
 -- an end by what the sink counted: it failed exactly where the end says so
 abbrev pub HasPlayCause : ℕ → ℕ → PlayEnd → Type 0
@@ -82,5 +79,5 @@ HasPlayCause faults faults_then play_end.Output = Rose faults faults_then
 -- Only for proofs: all that the loop promises, as threads that are joined have one clause.
 pub record HasClocked (blocks : ℕ) (origin : ℤ) (pass pass_then : AudioView) (midi midi_then : Stream) (counts : Counts) (end : PlayEnd) : Type 0 where
   pub read : HasOnlyRead pass pass_then
-  pub played : IsPlayed blocks origin pass_then midi.told midi_then.told counts end
+  pub played : IsPlayed blocks origin pass pass_then midi.told midi_then.told counts end
   pub cause : HasPlayCause midi.faults midi_then.faults end

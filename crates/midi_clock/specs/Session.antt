@@ -11,7 +11,7 @@ use Rattle.link_node.specs.Event.{EventValue}
 use Rattle.link_shared.specs.Audio.{AudioView}
 use Rattle.link_shared.specs.Ending.{WerePublished}
 use Rattle.link_shared.specs.Journal.{AreCarried, app_commits_in}
-use Rattle.link_live.specs.Headline.{IsRecorded}
+use Rattle.link_live.specs.Headline.{IsRecorded, new_audio}
 use Rattle.link_live.specs.NodeRun.{recorded_of}
 use Rattle.link_live.specs.OneGate.{one_gate_from}
 use Rattle.midi_clock.specs.Player.{HasPlayCause, IsCutOff, IsPlayedWhole}
@@ -51,8 +51,8 @@ pub record IsSessionRecorded (config : ConfigValue) (opened_at : ℤ) (failed fu
 pub record HasSession (seconds : ℕ) (config : ConfigValue) (opened_at : ℤ) (before after : DevicesSeen) (end : PlayEnd) (failed full : Bool) (counts : Counts) : Type 0 where
   pub pass : AudioView
   pub recorded : IsSessionRecorded config opened_at failed full before.port.told after.port.told after.port.gates pass
-  pub whole : end ≡ play_end.Played → IsPlayedWhole (seconds * 500) (opened_at +ℤ pos 500_000) pass before.midi.told after.midi.told counts
-  pub cut : end ≡ play_end.Output → IsCutOff (seconds * 500) (opened_at +ℤ pos 500_000) pass before.midi.told after.midi.told counts
+  pub whole : end ≡ play_end.Played → IsPlayedWhole (seconds * 500) (opened_at +ℤ pos 500_000) new_audio pass before.midi.told after.midi.told counts
+  pub cut : end ≡ play_end.Output → IsCutOff (seconds * 500) (opened_at +ℤ pos 500_000) new_audio pass before.midi.told after.midi.told counts
   pub cause : HasPlayCause before.midi.faults after.midi.faults end
   pub port_works : failed ≡ false → after.port.faults ≡ before.port.faults
   pub port_fails : failed ≡ true → Rose before.port.faults after.port.faults

@@ -47,7 +47,7 @@ pub fn play<C: StateCell<11, Way = ()>, N: LinkName, P: Pace, M: Sink, R: Eprint
     requires ready { CanPlay origin blocks }
     requires none { tally.old.counts ≡ counts_of [] }
     ensures read { HasOnlyRead pass.old pass.new }
-    ensures played { IsPlayed blocks origin pass.new (M.seen midi.old).told (M.seen midi.new).told tally.new.counts result }
+    ensures played { IsPlayed blocks origin pass.old pass.new (M.seen midi.old).told (M.seen midi.new).told tally.new.counts result }
     ensures cause { HasPlayCause (M.seen midi.old).faults (M.seen midi.new).faults result }
 {
     let mut clock = MidiClock::new();

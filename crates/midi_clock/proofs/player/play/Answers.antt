@@ -12,7 +12,7 @@ loop-number-init g c = record {
 }
 
 pub send-requires-clause-few : goal.send-requires-clause-few
-send-requires-clause-few g c = has_room _ c.args.blocks _ _ _ _ _ _ c.loop-number.invariant.playing _ c.loop-number-test.true c.requires.ready.few c.as_slice.ensures.fits
+send-requires-clause-few g c = has_room _ c.args.blocks _ _ _ _ _ _ _ c.loop-number.invariant.playing _ c.loop-number-test.true c.requires.ready.few c.as_slice.ensures.fits
 
 pub returns-then-not-send : goal.returns-then-not-send
 returns-then-not-send g c =
@@ -21,7 +21,7 @@ returns-then-not-send g c =
     let cut = OnFalse_at c.if-not-send.true c.send.ensures.cut in
     record {
       read = read_on _ _ _ _ _ _ c.loop-number.invariant.read block.read.2;
-      played = cut_block _ _ _ _ _ _ _ _ _ _ _ _ _ _ _ c.loop-number.invariant.playing block.read.2 begins (c.as_slice.ensures.value ∙ block.events)
+      played = cut_block _ _ _ _ _ _ _ _ _ _ _ _ _ _ _ _ c.loop-number.invariant.playing block.read.2 begins (c.as_slice.ensures.value ∙ block.events)
           _ c.args.blocks _ (origin_stored _ _ c.requires.ready) c.loop-number-test.true cut.1 cut.2;
       cause = rose_from _ _ _ c.loop-number.invariant.works (OnFalse_at c.if-not-send.true c.send.ensures.fails);
     }
@@ -33,7 +33,7 @@ loop-number-preserved g c =
     record {
       read = read_on _ _ _ _ _ _ c.loop-number.invariant.read block.read.2;
       within = omega (arith, c.loop-number-test.true);
-      playing = one_more_block _ _ _ _ _ _ _ _ _ _ _ _ _ _ _ c.loop-number.invariant.playing block.read.2 begins (c.as_slice.ensures.value ∙ block.events)
+      playing = one_more_block _ _ _ _ _ _ _ _ _ _ _ _ _ _ _ _ c.loop-number.invariant.playing block.read.2 begins (c.as_slice.ensures.value ∙ block.events)
           _ block.clock c.as_slice.ensures.fits (OnTrue_at c.if-not-send.false c.send.ensures.whole) (OnTrue_at c.if-not-send.false c.send.ensures.counted);
       works = OnTrue_at c.if-not-send.false c.send.ensures.works ∙ c.loop-number.invariant.works;
     }
@@ -41,6 +41,6 @@ loop-number-preserved g c =
 pub returns : goal.returns
 returns g c = record {
   read = c.loop-number.invariant.read;
-  played = is_whole _ _ _ _ _ _ _ _ c.loop-number.invariant.playing _ (origin_stored _ _ c.requires.ready) c.loop-number.invariant.within (omega (arith, c.loop-number-test.false));
+  played = is_whole _ _ _ _ _ _ _ _ _ c.loop-number.invariant.playing _ (origin_stored _ _ c.requires.ready) c.loop-number.invariant.within (omega (arith, c.loop-number-test.false));
   cause = c.loop-number.invariant.works;
 }

@@ -7,7 +7,7 @@ abbrev pub invariant-loop-number : goal.invariant-loop-number
 invariant-loop-number g l = record {
   read : HasOnlyRead l.fn.pass l.pass;
   within : l.number ≤ l.blocks;
-  playing : IsPlaying l.number l.origin l.clock l.pass (g.M.Sink.seen l.fn.midi).told (g.M.Sink.seen l.midi).told l.tally.counts;
+  playing : IsPlaying l.number l.origin l.clock l.fn.pass l.pass (g.M.Sink.seen l.fn.midi).told (g.M.Sink.seen l.midi).told l.tally.counts;
   works : (g.M.Sink.seen l.midi).faults ≡ (g.M.Sink.seen l.fn.midi).faults;
 }
 
