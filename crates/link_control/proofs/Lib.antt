@@ -1,9 +1,9 @@
-mod CutLemmas
+pub mod CutLemmas
 mod TextLemmas
 mod EntryLemmas
 mod PaceLemmas
-mod AmongLemmas
-mod UsedLemmas
+pub mod AmongLemmas
+pub mod UsedLemmas
 mod ServingLemmas
 mod HeardLemmas
 pub mod ClientLemmas

@@ -1,0 +1,5 @@
+pub mod TextLemmas
+pub mod CommandLemmas
+pub mod TempoLemmas
+pub mod AskLemmas
+pub mod LawLemmas

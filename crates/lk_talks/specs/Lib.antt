@@ -1,0 +1,5 @@
+pub mod Talks
+pub mod Failures
+pub mod Steps
+pub mod Sought
+pub mod ListTalks
