@@ -1,0 +1,14 @@
+mod DeedLemmas
+mod SeatLemmas
+mod LookLemmas
+mod PieceLemmas
+mod ComingLemmas
+mod HeresLemmas
+mod HostLemmas
+mod RunLemmas
+mod KeptLemmas
+mod TakenLemmas
+mod HearingLemmas
+mod PassedLemmas
+mod AnsweredLemmas
+mod VisitLemmas

@@ -1,0 +1,10 @@
+pub mod Edits
+pub mod Deeds
+pub mod Seats
+pub mod Lawful
+pub mod Hosting
+pub mod Visits
+pub mod ServeRun
+pub mod Unused
+pub mod Standing
+pub use Rattle.lk_talks.specs.Talks

@@ -1,0 +1,6 @@
+//! What lines ask for, what is wrong with others, and the texts of the answers.
+
+mod answers;
+mod lines;
+mod misses;
+mod tempos;
