@@ -16,7 +16,9 @@ sys.dont_write_bytecode = True
 from common import HERE, ended  # noqa: E402
 
 TOP = Path(HERE)
-PROGRAM, DRUMS, CLOCK = (str(TOP / "crates" / name / "out" / name) for name in ("jorazhil", "drum_machine", "midi_clock"))
+PROGRAM, DRUMS, CLOCK, SERVER = (
+    str(TOP / "crates" / name / "out" / name) for name in ("jorazhil", "drum_machine", "midi_clock", "session_server")
+)
 SCRIPTS = ["jorazhil", ".ci/run", ".ci/program", ".ci/build", *sorted(str(path.relative_to(TOP)) for path in TOP.glob("bench/*.sh"))]
 
 
@@ -107,6 +109,7 @@ OF_PROGRAMS = {
     "drums": (["checks/drums.py", PROGRAM, DRUMS], "the drum machine is not what checks/drums.py expects"),
     "midi_clock": (["checks/midi_clock.py", PROGRAM, CLOCK], "the MIDI clock is not what checks/midi_clock.py expects"),
     "control": (["checks/control.py", PROGRAM], "a run under control is not what checks/control.py expects"),
+    "serve": (["checks/serve.py", SERVER], "the session server is not what checks/serve.py expects"),
     "session": (["checks/session.py", PROGRAM], "what tools/session.py tells of a recording is not what checks/session.py expects"),
     "filter_tool": (["checks/filter_tool.py", PROGRAM], "what tools/filter.py tells of pairs is not what checks/filter_tool.py expects"),
     "midi_file": (["checks/midi_file.py", PROGRAM], "what tools/midi_file.py makes of MIDI events is not what checks/midi_file.py expects"),

@@ -739,8 +739,9 @@ def tool_in_a_pipe(program):
     want("its beats and its time", [millionths(one[1]) for one in found[7:10]], beats)
     now, off = millionths(found[10][1]), 1000 * float(found[10][2])
     want(f"whether it is {now} now, to {off}", begun - run.behind - off <= now <= came - run.before + off, True)
-    # The status is asked for before and behind both tempos, since the first doesn't differ enough to tell the time.
-    run.end(0, 15, 4)
+    # It asks `now` first, which is `bad` here, and for the status before and behind both tempos, since the first doesn't differ enough to
+    # tell the time.
+    run.end(0, 16, 4)
 
 
 def tool_at_its_end(program):
@@ -748,7 +749,7 @@ def tool_at_its_end(program):
     run = Run(program)
     at = "{}:{}".format(*run.listens())
     found = tell([at], "beat 1\n" * (MOST_LINES + 4))
-    want("how many lines it tells", found[1].count("\n"), MOST_LINES)
+    want("how many lines it tells", found[1].count("\n"), MOST_LINES - 1)
     want("its status and standard error", found[::2], (4, "control: the run has answered 4,096 lines, and one run answers no more\n"))
     run.end(0, MOST_LINES, 0)
 
@@ -762,9 +763,9 @@ def tool_and_bars(_):
             for _ in cases:
                 client, _ = server.accept()
                 with client:
-                    client.recv(100)
-                    client.sendall(b"status 3000000 1234567 3000000 0 0\n")
-                    client.recv(100)
+                    for answer in (b"bad\n", b"status 3000000 1234567 3000000 0 0\n", b""):
+                        client.recv(100)
+                        client.sendall(answer)
 
         # Beats behind the origin, each with a tenth of one, for bars of four beats, of three and of none.
         cases = [(0, "4", "bar 1.1"), (7, "4", "bar 2.4"), (7, "3", "bar 3.2"), (7, "0", "beat 8"), (-1, "4", "bar 0.4")]
@@ -781,7 +782,7 @@ def tool_without_a_run(_):
     """Nobody, another program, one that goes away at once or behind an answer, and words at fault."""
     with socket.create_server(("127.0.0.1", 0)) as server:
         port = server.getsockname()[1]
-        at, answers = f"127.0.0.1:{port}", (b"hello\n", b"", b"status 500000 0 0 0 0\n")
+        at, answers = f"127.0.0.1:{port}", (b"hello\n", b"", b"bad\n", b"full\n", b"bad secret\n")
 
         def serve():
             for answer in answers:
@@ -797,15 +798,17 @@ def tool_without_a_run(_):
         thread.start()
         found = [tell([at], "status\nstatus\n") for _ in answers]
         thread.join(PATIENCE)
-    want("of another program", found[0], (4, "", f'control: `status` was answered "hello". Is it `jorazhil control` that listens at {at}?\n'))
+    want("of another program", found[0], (4, "", f'control: `now` was answered "hello". Is it `jorazhil serve` or `control` that listens at {at}?\n'))
     gone = f"control: the run at {at} did not answer (it was closed there). It serves another client, or has ended\n"
     want("of one that goes away at once", found[1], (3, "", gone))
     gone = "control: the connection ended behind 1 answers (it was closed there). The run's exit status tells why\n"
-    want("of one that goes away behind an answer", (found[2][0], found[2][2]), (4, gone))
-    nobody = f"control: nobody listens at {at}. Is `jorazhil control {at}` running? A run takes one client: it refuses all others, and ends with that one\n"
-    want("of nobody", tell([at], "status\n"), (3, "", nobody))
+    want("of one that goes away behind an answer", found[2], (4, "", gone))
+    want("of a server that has no seat", found[3], (3, "", f"control: the run at {at} has 15 clients already\n"))
+    want("of a server that has a secret", found[4], (3, "", f"control: the run at {at} wants a word first: --secret tells it\n"))
+    one = "A run of `control` takes one client: it refuses all others, and ends with that one"
+    want("of nobody", tell([at], "status\n"), (3, "", f"control: nobody listens at {at}. Is `jorazhil serve {at}` running? {one}\n"))
     for words, sentence in (
-        ([], "an endpoint is missing: the one at which `jorazhil control` listens, as in 127.0.0.1:20900; --help tells all"),
+        ([], "an endpoint is missing: the one at which `jorazhil serve` or `control` listens, as in 127.0.0.1:20900; --help tells all"),
         (["here"], 'an endpoint is an IPv4 address and a port, as in 127.0.0.1:20900, found "here"'),
         (["127.0.0.256:1"], 'an endpoint is an IPv4 address and a port, as in 127.0.0.1:20900, found "127.0.0.256:1"'),
         (["--every", "0.05", at], '--every is a number of seconds, 0.1 at the least, found "0.05"'),

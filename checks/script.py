@@ -4,7 +4,7 @@
 Help and words at fault have to be answered without rt: a stand-in for it is on the PATH, which notes each of its calls and fails. Each
 run's exit status is compared with what is written here, and both of its texts. Other stand-ins keep proofs, as `rt help` says, and let
 `rt ci` pass, fail or take a while. So it is seen what a first build is made of, by which calls, how far it is told to be, and that nothing
-is left of one that is ended. Then tries without proof, the drum machine, the MIDI clock, the tools, and a chain of links to the script.
+is left of one that is ended. Then tries without proof, the other programs, the tools, and a chain of links to the script.
 Where PROGRAM is given, the words that the script lists have to begin with those that the program tells.
 The last line is 'N passed, N failed'.
 """
@@ -43,6 +43,11 @@ PROGRAMS = {
         "Usage: jorazhil midi-out [OPTIONS] <SECONDS> <MPB> <LOCAL> [TO]..",
         *("from 1 to 86400", "from 60060 to 3000000", "up to 32", "--quantum <N>", "--group <N>"),
         "jorazhil midi-file --raw",
+    ],
+    "serve": [
+        "Usage: jorazhil serve [OPTIONS] <ENDPOINT>",
+        *("--gate <ENDPOINT>", "--to <ENDPOINT>", "--script <FILE>", "--bpm <X>", "from 60060 to 3000000", "--secret <FILE>"),
+        *("--hours <H>", "--end-allowed", "--until-input-ends", "docs/SERVER.md"),
     ],
 }
 TOOLS = {
@@ -155,7 +160,7 @@ class Copy:
         self.top = os.path.join(folder, "copy")
         self.script = os.path.join(self.top, "jorazhil")
         # The programs' folders, in which the script would have them built.
-        for name in ("jorazhil/src", "jorazhil/must-fail", "daemon_tests/src", "drum_machine/src", "midi_clock/src"):
+        for name in ("jorazhil/src", "jorazhil/must-fail", "daemon_tests/src", "drum_machine/src", "midi_clock/src", "session_server/src"):
             os.makedirs(os.path.join(self.top, "crates", name))
         for name in ("jorazhil", ".ci", "crates.txt", "HANDLES", "help", "tools", "examples", "crates/jorazhil/args", "crates/jorazhil/stdin"):
             place, to = os.path.join(HERE, name), os.path.join(self.top, name)
@@ -213,13 +218,14 @@ def answers(folder):
     copy.was_asked()
     status, asked = copy.run(["replay"])[0], copy.was_asked()
     yield "jorazhil replay, which has to be built", None if status == 125 and asked else f"status {status}, rt {asked!r}"
-    for words in (["replay"], ["decode"], ["midi", "1", "1"], ["live", "--blocks", "0"], ["control", "127.0.0.1:1"], ["drums"]):
+    serve = ["serve", "127.0.0.1:1"]
+    for words in (["replay"], ["decode"], ["midi", "1", "1"], ["live", "--blocks", "0"], ["control", "127.0.0.1:1"], ["drums"], [*serve, "--until-input-ends"]):
         error = copy.at_a_terminal(words)
         if error is None:
             print("skipped: no terminal can be had")
             break
         yield f"jorazhil {' '.join(words)} at a terminal", None if f"{words[0]} reads its input from this terminal" in error else repr(error)
-    for words in (["load", "7", "5"], ["midi-out", "1", "500000", "127.0.0.1:1"]):
+    for words in (["load", "7", "5"], ["midi-out", "1", "500000", "127.0.0.1:1"], serve):
         error = copy.at_a_terminal(words)
         yield f"jorazhil {' '.join(words)} at a terminal", repr(error) if error and "terminal" in error else None
     links = [os.path.join(folder, name) for name in ("first", "second")]
@@ -304,7 +310,8 @@ def ended_builds(folder):
 def tries(folder):
     copy = Copy(os.path.join(folder, "tries"), TRYING)
     env, says = {**copy.environment, "JORAZHIL_TRY": "1"}, "jorazhil: the program says so\n"
-    for words, told in ((["replay"], "tried try -- replay\n"), (["drums", "5"], "tried try -- 5\n"), (["midi-out", "5", "6"], "tried try -- 5 6\n")):
+    for words in (["replay"], ["drums", "5"], ["midi-out", "5", "6"], ["serve", "5"]):
+        told = f"tried try -- {' '.join(words[words[0] != 'replay' :])}\n"
         write(*os.path.split(copy.notes), "run=ended status=3\n")
         status, out, error = copy.run(words, env=env)
         yield f"a try of {words}", None if (status, out, error.split("\n", 1)[1:]) == (3, told, [says]) else f"{status}, {out!r}, {error!r}"

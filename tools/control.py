@@ -1,9 +1,11 @@
 #!/usr/bin/env python3
-"""Drives a node that runs under `jorazhil control`, from a prompt or a pipe, one command a line, and tells the answers as a person would.
+"""Drives a node that runs under `jorazhil serve` or `jorazhil control`, from a prompt or a pipe, one command a line, and tells the answers
+as a person would.
 
-The run has to be there first. This is then its one client: while it is served the run takes no other, and it ends when this one ends.
+The run has to be there first. A run of `serve` has up to 15 clients, which come and go. A run of `control` has one: while this is served it
+takes no other, and it ends when this one ends.
 
-  jorazhil control 127.0.0.1:20900 < examples/control/node.script
+  jorazhil serve 127.0.0.1:20900
   (elsewhere) jorazhil client 127.0.0.1:20900
 """
 import difflib
@@ -29,9 +31,9 @@ Commands:
   play, stop        starts or stops, now
   beat TIME         which beat it is at a time of the node's clock, in seconds or as in `beat 1:30.25`; without TIME, which it is now
   time BEAT         at which time of that clock a beat is, as in `time 16` or `time 16.25`
-  watch [SECONDS]   shows one line and keeps it up to date, for so long or until Enter
+  watch [SECONDS]   for so long or until Enter: of `serve` tells each change, of `control` shows one line and keeps it up to date
   help              this list
-  quit              ends the talk, and with it the run, as the end of the input and Ctrl-C do
+  quit              ends the talk, and with it a run of `control`, as the end of the input and Ctrl-C do
 """
 
 OPTIONS = f"""\
@@ -39,18 +41,21 @@ OPTIONS = f"""\
 From a pipe a command is a line of its own; an empty line and one that begins with `#` are passed over. A command at fault is told on
 standard error, and those behind it are carried out all the same.
 
-Bar and beat. The node counts its times from its own start, and no answer tells which time it is. So bar and beat are known where --began
-tells when the run was started, as well as it tells that; and else from the first `tempo` on that changes the tempo by one in a hundred: the
-timelines before it and behind it meet at the moment of the change. For that this tool asks for the status before it and behind it, which
-are two lines more. Bars are counted from the timeline's origin, wherever that beat is, as the node counts its accents and Link programs
-their phase. No answer tells how long they are, so --bar does. The beats of `beat` and `time` are the node's own count, from its start on.
+Which of the two it is this tool asks first, by the line `now`: `serve` answers it.
 
-No answer tells whether the node has a network either. Where a gate couldn't be bound the run says so on its standard error, serves its
-client without peers, and ends with status 3.
+Bar and beat are counted from the timeline's origin, wherever that beat is, as the node counts its accents and Link programs their phase.
+`serve` tells its time and the length of a bar. Its `beat` and `time` count from the origin too. Whoever says nothing for ten minutes
+without `watch` is let go there.
 
-4,096 lines are what a run answers. Each command is one, and `help`, `quit` and a command at fault are none. `watch` asks for the status as
-often as --every says, and counts the beats by itself meanwhile. Each time that half of the lines that were left are used it asks half as
-often, so that it can watch for some four and a half hours by default. It ends when 16 are left.
+Of `control` no answer tells which time it is. So bar and beat are known where --began tells when the run was started, as well as it tells
+that; and else from the first `tempo` on that changes the tempo by one in a hundred: the timelines before it and behind it meet at the
+moment of the change. For that this tool asks for the status before it and behind it, which are two lines more. The beats of `beat` and
+`time` are the node's own count, from its start on. No answer tells how long a bar is, so --bar does, nor whether the node has a network.
+Where a gate couldn't be bound the run says so on its standard error, serves its client without peers, and ends with status 3.
+
+4,096 lines are what a run of `control` answers. The first `now` is one, each command is one, and `help`, `quit` and a command at fault are
+none. `watch` asks for the status as often as --every says, and counts the beats by itself meanwhile. Each time that half of the lines that
+were left are used it asks half as often, so that it can watch for some four and a half hours by default. It ends when 16 are left.
 
 Exit status: 0 where all was carried out, or where nobody reads on. With a sentence on standard error: 2 where the words or a command of a
 pipe are at fault, 3 where no run could be reached, 4 where the run or the connection ended before the commands did, or no line was left.
@@ -61,11 +66,17 @@ LIMIT, MILLION = 2**60, 1_000_000
 LEAST_MPB, MOST_MPB = 60_060, 3_000_000
 # Seconds: to connect, until an answer, and between two drawings of the line that is watched.
 CONNECTS, ANSWERS, DRAWS = 5, 30, 0.1
+# For how many microseconds the time that `serve` told last counts.
+FRESH = 10_000_000
 NUMBER = "(0|-?[1-9][0-9]{0,18})"
 OK, STATUS = "ok ([1-9][0-9]{0,18})", f"status {NUMBER} {NUMBER} {NUMBER} ([01]) (0|[1-9][0-9]{{0,9}})"
+# Those of `serve`.
+NOW, CHANGED = f"now {NUMBER} {NUMBER} {NUMBER}", "changed "
+VIEW = f"{NUMBER} {NUMBER} {NUMBER} ([01]) {NUMBER} (0|[1-9][0-9]{{0,9}}) {NUMBER} ([0-9a-f]{{16}}) {NUMBER}"
 WORDS = ("status", "tempo", "play", "stop", "beat", "time", "watch", "help", "quit")
 
-Status = namedtuple("Status", "mpb beat time playing peers")
+# The bar is how long the node's own is; `control` doesn't tell it.
+Status = namedtuple("Status", "mpb beat time playing peers bar")
 
 
 class Lost(Exception):
@@ -84,19 +95,32 @@ class Talk:
 
     def __init__(self, endpoint):
         self.endpoint, self.lines, self.answers, self.rest = endpoint, 0, 0, b""
+        # Whether it is `serve`, and what that told besides answers.
+        self.is_server, self.changes = False, []
         host, port = endpoint.split(":")
         try:
             self.socket = socket.create_connection((host, int(port)), CONNECTS)
         except ConnectionRefusedError:
-            one = "A run takes one client: it refuses all others, and ends with that one"
-            raise Lost(3, f"nobody listens at {endpoint}. Is `jorazhil control {endpoint}` running? {one}") from None
+            one = "A run of `control` takes one client: it refuses all others, and ends with that one"
+            raise Lost(3, f"nobody listens at {endpoint}. Is `jorazhil serve {endpoint}` running? {one}") from None
         except OSError as error:
             raise Lost(3, f"{endpoint} could not be reached: {error.strerror or error}") from None
         self.socket.setsockopt(socket.IPPROTO_TCP, socket.TCP_NODELAY, 1)
         self.socket.settimeout(ANSWERS)
 
+    def greet(self, secret):
+        """Finds out what listens there; it may want a word first."""
+        if secret is not None and self.ask(f"hello {secret}", "(ok|bad.*)") != ("ok",):
+            raise Lost(3, f"the run at {self.endpoint} was told the secret, and did not take it")
+        told = re.fullmatch(NOW, answer := self.ask("now", f"({NOW}|bad|bad secret|full)")[0])
+        if answer == "full":
+            raise Lost(3, f"the run at {self.endpoint} has 15 clients already")
+        if answer == "bad secret":
+            raise Lost(3, f"the run at {self.endpoint} wants a word first: --secret tells it")
+        self.is_server = told is not None
+
     def left(self):
-        return MOST_LINES - self.lines
+        return math.inf if self.is_server else MOST_LINES - self.lines
 
     def ask(self, line, form):
         """The groups of the answer, which has to be of this form. Where no line is left nothing is sent, and so the run goes on."""
@@ -107,15 +131,34 @@ class Talk:
             self.socket.sendall(line.encode() + b"\n")
         except OSError as error:
             raise self.ended(error) from None
-        while b"\n" not in self.rest:
-            self.take()
-        answer, self.rest = self.rest.split(b"\n", 1)
-        self.answers += 1
-        answer = answer.decode("latin-1")
+        # Ctrl-C may have left an answer unread.
+        while self.answers < self.lines:
+            answer = self.next()
+            if answer.startswith(CHANGED):
+                self.changes.append(answer)
+            else:
+                self.answers += 1
         parts = re.fullmatch(form, answer)
         if not parts:
-            raise Lost(4, f"`{line}` was answered {quoted(answer)}. Is it `jorazhil control` that listens at {self.endpoint}?")
+            raise Lost(4, f"`{line.split(' ')[0]}` was answered {quoted(answer)}. Is it `jorazhil serve` or `control` that listens at {self.endpoint}?")
         return parts.groups()
+
+    def next(self):
+        """The next line that comes."""
+        while b"\n" not in self.rest:
+            self.take()
+        line, self.rest = self.rest.split(b"\n", 1)
+        return line.decode("latin-1")
+
+    def next_change(self, most, keys):
+        """The next change that `serve` tells within so many seconds; None where none is, or somebody pressed Enter."""
+        end = time.monotonic() + most
+        while not self.changes and b"\n" not in self.rest:
+            there = select.select([self.socket, *keys], [], [], max(0, end - time.monotonic()))[0]
+            if not there or there[-1] in keys:
+                return None
+            self.take()
+        return self.changes.pop(0) if self.changes else self.next()
 
     def take(self):
         try:
@@ -132,7 +175,8 @@ class Talk:
         reason = error.strerror if error else "it was closed there"
         if not self.answers:
             return Lost(3, f"the run at {self.endpoint} did not answer ({reason}). It serves another client, or has ended")
-        return Lost(4, f"the connection ended behind {self.answers:,} answers ({reason}). The run's exit status tells why")
+        why = "standard error" if self.is_server else "exit status"
+        return Lost(4, f"the connection ended behind {self.answers:,} answers ({reason}). The run's {why} tells why")
 
     def look(self):
         """Finds out whether the connection is there still. The run says nothing by itself."""
@@ -207,6 +251,10 @@ class NodeClock:
     def is_learnt(self):
         return self.off is not None
 
+    def set(self, moment, asked, answered):
+        """By a moment that the node told between two of this machine."""
+        self.ahead, self.off = moment - (asked + answered) // 2, (answered - asked) // 2 + 1
+
     def now(self):
         return None if self.ahead is None else own_time() + self.ahead
 
@@ -227,9 +275,9 @@ class NodeClock:
         return f"to {decimals(-(-self.off // 10), 100)} milliseconds" if self.is_learnt() else "as well as --began tells it"
 
 
-def bar_words(status, moment, bar):
+def bar_words(status, moment):
     """Which bar and beat it is at a moment, counted from the origin."""
-    since = near((moment - status.time) * MILLION, status.mpb)
+    since, bar = near((moment - status.time) * MILLION, status.mpb), status.bar
     return f"bar {since // bar + 1}.{since % bar // MILLION + 1}" if bar else f"beat {since // MILLION + 1}"
 
 
@@ -244,7 +292,7 @@ class Client:
     """The commands, over a talk. Each answers what is to be printed, or None."""
 
     def __init__(self, talk, bar, every, began):
-        self.talk, self.bar, self.every, self.clock = talk, bar, every, NodeClock(began)
+        self.talk, self.bar, self.every, self.clock, self.asked = talk, bar, every, NodeClock(began), None
 
     def carry_out(self, line):
         word, *words = line.split()
@@ -257,13 +305,28 @@ class Client:
         return getattr(self, word)(*([words] if most else []))
 
     def ask_status(self):
-        return Status(*map(int, self.talk.ask("status", STATUS)))
+        if self.talk.is_server:
+            self.ask_now()
+            return self.shown(self.talk.ask("status", f"status {VIEW}"))
+        return Status(*map(int, self.talk.ask("status", STATUS)), 4 * MILLION if self.bar is None else self.bar)
+
+    def shown(self, words):
+        """The state that `serve` tells in the words behind `status` or `changed`."""
+        mpb, beat, time, playing, _, peers, quantum = map(int, words[:7])
+        return Status(mpb, beat, time, playing, peers, quantum if self.bar is None else self.bar)
+
+    def ask_now(self):
+        """Which time it is, and the beat then, as `serve` tells it."""
+        self.asked = own_time()
+        moment, beat, _ = map(int, self.talk.ask("now", NOW))
+        self.clock.set(moment, self.asked, own_time())
+        return moment, beat
 
     def status(self):
         status = self.ask_status()
         origin = f"beat {beat_words(status.beat)} is at {clock(status.time, 6)}"
         now = self.clock.now()
-        place = "bar and beat aren't known" if now is None else bar_words(status, now, self.bar)
+        place = "bar and beat aren't known" if now is None else bar_words(status, now)
         return f"{tempo_words(status.mpb)}, {origin}, {playing_words(status)}, {peers_words(status.peers)}, {place}"
 
     def tempo(self, words):
@@ -284,6 +347,9 @@ class Client:
         return "commit {}: not playing".format(*self.talk.ask("stop", OK))
 
     def beat(self, words):
+        if self.talk.is_server and not words:
+            moment, beat = self.ask_now()
+            return f"beat {beat_words(beat)} is at {clock(moment, 6)}, which is now"
         moment = moment_of(words[0]) if words else self.clock.now()
         if moment is None:
             raise Refused("which time it is isn't known: --began tells it, or a `tempo` that changes the tempo; `beat 90.25` needs neither")
@@ -304,7 +370,7 @@ class Client:
             seconds = millionths(words[0], BEATS, right) / MILLION
             if seconds <= 0:
                 raise Refused(f"{right}, found {quoted(words[0])}")
-        return Watch(self, seconds).run()
+        return (Changes if self.talk.is_server else Watch)(self, seconds).run()
 
     def help(self):
         return COMMANDS.rstrip("\n")
@@ -357,9 +423,45 @@ class Watch:
             print(self.line(), flush=True)
 
     def line(self):
-        status, now = self.status, self.client.clock.now()
-        place = "bar -.-" if now is None else bar_words(status, now, self.client.bar)
-        return f"{tempo_words(status.mpb).split(' ')[0]} beats per minute  {place}  {playing_words(status)}  {peers_words(status.peers)}"
+        return watched_line(self.status, self.client.clock.now())
+
+
+def watched_line(status, now):
+    place = "bar -.-" if now is None else bar_words(status, now)
+    return f"{tempo_words(status.mpb).split(' ')[0]} beats per minute  {place}  {playing_words(status)}  {peers_words(status.peers)}"
+
+
+class Changes:
+    """What is shown, and then a line for each change that `serve` tells."""
+
+    def __init__(self, client, seconds):
+        self.client, self.talk = client, client.talk
+        self.end = math.inf if seconds is None else time.monotonic() + seconds
+        self.keys = [sys.stdin] if sys.stdin.isatty() else []
+
+    def run(self):
+        try:
+            self.talk.ask("watch", "ok")
+            print(watched_line(self.client.ask_status(), self.client.clock.now()), flush=True)
+            self.rounds()
+        except KeyboardInterrupt:
+            pass
+        self.talk.ask("unwatch", "ok")
+        self.talk.changes.clear()
+
+    def rounds(self):
+        while (now := time.monotonic()) < self.end:
+            change = self.talk.next_change(min(FRESH / MILLION, self.end - now), self.keys)
+            if change is not None:
+                parts = re.fullmatch(CHANGED + VIEW, change)
+                if not parts:
+                    raise Lost(4, f"{quoted(change)} tells no change")
+                print(watched_line(self.client.shown(parts.groups()), self.client.clock.now()), flush=True)
+            elif select.select(self.keys, [], [], 0)[0]:
+                sys.stdin.readline()
+                return
+            if own_time() > self.client.asked + FRESH:
+                self.client.ask_now()
 
 
 # The command.
@@ -386,13 +488,23 @@ def bar_of(word):
     return bar
 
 
+def first_line_of(path):
+    try:
+        with open(path, encoding="latin-1") as file:
+            return file.readline().rstrip("\n")
+    except OSError as error:
+        raise Refused(f"--secret {path} could not be read: {error.strerror}") from None
+
+
 def parser_of_words():
-    parser = Words("jorazhil client", "jorazhil client [--watch] [--every SECONDS] [--bar BEATS] [--began SECONDS] ENDPOINT", __doc__, OPTIONS)
+    usage = "jorazhil client [--watch] [--secret FILE] [--every SECONDS] [--bar BEATS] [--began SECONDS] ENDPOINT"
+    parser = Words("jorazhil client", usage, __doc__, OPTIONS)
     parser.add_argument("endpoint", metavar="ENDPOINT", nargs="?", help="where the run listens, as in 127.0.0.1:20900")
     parser.add_argument("--watch", action="store_true", help="begins with the command `watch`")
-    parser.add_argument("--every", metavar="SECONDS", default="1", help="how often `watch` asks at first: from 0.1, ten times a second (1)")
-    parser.add_argument("--bar", metavar="BEATS", default="4", help="how long a bar is, as the run's --quantum says; 0 for none (4)")
-    parser.add_argument("--began", metavar="SECONDS", help="when the run was started, in seconds since 1970, as `date +%%s.%%N` tells them")
+    parser.add_argument("--secret", metavar="FILE", help="of `serve`: a file whose first line is the word that it wants first")
+    parser.add_argument("--every", metavar="SECONDS", default="1", help="of `control`: how often `watch` asks at first: from 0.1, ten times a second (1)")
+    parser.add_argument("--bar", metavar="BEATS", help="how long a bar is; 0 for none (4; of `serve` what it tells)")
+    parser.add_argument("--began", metavar="SECONDS", help="of `control`: when the run was started, in seconds since 1970, as `date +%%s.%%N` tells them")
     parser.add_argument("--help", action="store_true", help="this text")
     return parser
 
@@ -460,18 +572,22 @@ def serve(arguments):
         print(parser.format_help(), end="", flush=True)
         return 0
     if words.endpoint is None:
-        raise Refused("an endpoint is missing: the one at which `jorazhil control` listens, as in 127.0.0.1:20900; --help tells all")
+        raise Refused("an endpoint is missing: the one at which `jorazhil serve` or `control` listens, as in 127.0.0.1:20900; --help tells all")
     began = None if words.began is None else seconds_of("--began", words.began, 0)
     if began is not None and began > time.time():
         raise Refused("--began is later than it is now")
-    given = endpoint_of(words.endpoint), bar_of(words.bar), seconds_of("--every", words.every, 0.1)
+    bar = None if words.bar is None else bar_of(words.bar)
+    given = endpoint_of(words.endpoint), bar, seconds_of("--every", words.every, 0.1)
+    secret = None if words.secret is None else first_line_of(words.secret)
     if sys.stdin is None:
         raise Refused("standard input could not be read: it is closed")
     talk = Talk(given[0])
+    talk.greet(secret)
     client = Client(talk, *given[1:], began)
     is_person = sys.stdin.isatty() and sys.stdout.isatty()
     if is_person:
-        print(f"The run at {talk.endpoint} answers {MOST_LINES:,} lines, and ends when you quit. `help` tells the commands.", flush=True)
+        length = "goes on" if talk.is_server else f"answers {MOST_LINES:,} lines, and ends"
+        print(f"The run at {talk.endpoint} {length} when you quit. `help` tells the commands.", flush=True)
     if words.watch:
         carry_out(client, ["watch"], is_person)
     return carry_out(client, prompted() if is_person else piped(), is_person)

@@ -56,7 +56,7 @@ SUBJECTS = [
     ("Captures, commits and the journal", "link_shared", "hub, queue, overtaken audio commit, full journal"),
     ("A live run", "link_live", "what a run promises, blocks, commands, how it ends"),
     ("Control", "link_control", "answers to a client's lines, `bad`, a line of 65 bytes, 4,096 lines"),
-    ("A session server", "lk_talks link_asks link_clients serve_adapters", "many clients, watching, `bpm`, `hello`, seats"),
+    ("A session server", "lk_talks link_asks link_clients serve_adapters session_server", "many clients, watching, `bpm`, `hello`, seats, its words and statuses"),
     ("Words and options", "link_words", "`--events`, `--blocks`, `--quantum`, `--group`, `--record`"),
     ("Commands and statuses", "link_commands link_live_command link_daemon daemon_laws", "what status 6 means, report, limits of inputs"),
 ]

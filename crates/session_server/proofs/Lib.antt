@@ -1,0 +1,4 @@
+mod WordLemmas
+mod GateLemmas
+mod HourLemmas
+mod SessionLemmas
