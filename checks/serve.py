@@ -184,7 +184,7 @@ def gates_of(answer):
 
 def want_bad(line, answer):
     """A few words behind it."""
-    want(f"whether {answer!r} to {line[:60]!r} is `bad` and a reason", bool(re.fullmatch(r"bad [ -~]{3,100}", answer)), True)
+    want(f"whether {answer!r} to {line[:60]!r} is `bad` and a reason", bool(re.fullmatch(r"bad [ -~]{3,150}", answer)), True)
 
 
 def want_form(line, answer, clients=None):
